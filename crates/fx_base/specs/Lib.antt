@@ -1,0 +1,4 @@
+pub mod Fix
+pub mod Pattern
+pub mod Bounds
+pub mod Rect
