@@ -7,6 +7,8 @@ mod memory;
 mod name;
 mod pattern;
 mod rect;
+#[cfg(test)]
+mod tests;
 
 pub use fix::Fix;
 pub use memory::Memory;

@@ -1,0 +1,3 @@
+pub mod JsonLemmas
+pub mod PamLemmas
+pub mod RunLemmas

@@ -1,0 +1,4 @@
+pub mod Outside
+pub mod Tally
+pub mod Memory
+pub mod Objects

@@ -1,0 +1,17 @@
+//! The outside: where bytes come from and go to. Contracts see an object of the outside by what it
+//! tells, its files or the bytes written, and by its count of faults. The adapters over real files and
+//! streams tell nothing but their counts: they are the edge that is trusted.
+#![tactic(auto)]
+
+mod faults;
+mod memory;
+mod real;
+mod tally;
+#[cfg(test)]
+mod tests;
+mod traits;
+
+pub use faults::{FetchFault, PutFault};
+pub use memory::{MemoryDepot, MemoryLibrary, MemorySink};
+pub use real::{FileDepot, FileLibrary, StdSink};
+pub use traits::{Depot, FreePace, Library, Pace, Sink};

@@ -1,0 +1,8 @@
+//! Tests that cross crates: runs of the top call over objects in memory, with the bytes of their files
+//! worked by hand.
+#![tactic(auto)]
+
+#[cfg(test)]
+mod first_frame;
+#[cfg(test)]
+mod outcome;

@@ -1,0 +1,28 @@
+-- The value of a node, by the values of the nodes.
+use Rattle.std.proofs.Common.{◌≡◌, ℕ, ◌<◌, ℤ, refl, ap, sym, ◌∙◌, List, [], ◌∷◌, map, Option, Some, None}
+use Rattle.fx_pixel.specs.declared.Pixel.{Pixel}
+use Rattle.fx_scene.specs.Plan.{Tap, Op, Kind, Effect, Plan, IsPlan, IsKind, clip_node}
+use Rattle.fx_scene.specs.Table.{below, at_place}
+use Rattle.fx_scene.specs.Value.{Field, no_field, clip_value, tap_value, node_value, value, ValueIsMix}
+use Rattle.fx_scene.proofs.TableLemmas.{below_is}
+
+map_same : {A B : Type 0} (f g : A → B) (xs : List A) → ((x : A) → f x ≡ g x) → map f xs ≡ map g xs
+map_same f g [] h = refl
+map_same f g (x ∷ xs) h = ap (λ y. y ∷ map f xs) (h x) ∙ ap (λ ys. g x ∷ ys) (map_same f g xs h)
+
+clip_same : (f g : ℕ → Field) (n : ℕ) (clip : Option ℕ) → ((m : ℕ) → clip ≡ Some m → m < n) → ((m : ℕ) → m < n → f m ≡ g m) → clip_value f clip ≡ clip_value g clip
+clip_same f g n None earlier same = refl
+clip_same f g n (Some m) earlier same = same m (earlier m refl)
+
+-- a node reads nothing but the values of earlier nodes
+node_same : (f g : ℕ → Field) (n : ℕ) (kind : Kind) → IsKind n kind → ((m : ℕ) → m < n → f m ≡ g m) → (t x y : ℤ) → node_value f kind t x y ≡ node_value g kind t x y
+node_same f g n (Effect o) is same t x y =
+    ap (o.mix t x y)
+    (map_same (tap_value f o) (tap_value g o) (o.taps t x y)
+    (λ p. ap (λ (field : Field). field p.frame p.x p.y) (clip_same f g n (clip_node o p.clip) (is p.clip) same)))
+
+pub value_is_node_value : (plan : Plan) → IsPlan plan → ValueIsMix plan
+unfolding value
+value_is_node_value plan ok n t x y =
+    node_same (below no_field (λ before k. node_value before (plan k)) n) (at_place no_field (λ before k. node_value before (plan k))) n (plan n) (ok n)
+    (λ m h. below_is no_field (λ before k. node_value before (plan k)) n m h) t x y

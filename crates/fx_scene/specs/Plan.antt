@@ -1,0 +1,34 @@
+-- What stands in a list of nodes, with no type of effect in it: a pixel of an effect node is made from the pixels that it reads on its input clips.
+use Rattle.std.specs.Prelude.{◌≡◌, ℕ, ◌<◌, ℤ, List, Option, Some, None, slice_index_or}
+use Rattle.fx_pixel.specs.declared.Pixel.{Pixel}
+
+-- a pixel that an effect reads: on which input clip, of which frame, at which place
+pub record Tap : Type 0 where
+  pub clip : ℕ
+  pub frame : ℤ
+  pub x : ℤ
+  pub y : ℤ
+
+-- An effect in its place: the taps of each pixel (of a frame, a column and a row), the pixel that it makes of theirs, and which node each input clip is, if any.
+pub record Op : Type 0 where
+  pub taps : ℤ → ℤ → ℤ → List Tap
+  pub mix : ℤ → ℤ → ℤ → List Pixel → Pixel
+  pub clips : List (Option ℕ)
+
+pub data Kind : Type 0 where
+  Effect : Op → Kind
+
+-- what stands at each place of the list
+abbrev pub Plan : Type 0
+Plan = ℕ → Kind
+
+-- the node that a clip is
+abbrev pub clip_node : Op → ℕ → Option ℕ
+clip_node o clip = slice_index_or o.clips clip None
+
+-- each clip is an earlier node or nothing
+abbrev pub IsKind : ℕ → Kind → Type 0
+IsKind k (Effect o) = (clip m : ℕ) → clip_node o clip ≡ Some m → m < k
+
+abbrev pub IsPlan : Plan → Type 0
+IsPlan plan = (k : ℕ) → IsKind k (plan k)

@@ -1,0 +1,36 @@
+-- The value of a node: its pixel at each frame and place, on the unbounded plane, one pixel at a time.
+use Rattle.std.specs.Prelude.{◌≡◌, ℕ, ℤ, List, map, Option, Some, None}
+use Rattle.fx_pixel.specs.declared.Pixel.{Pixel}
+use Rattle.fx_pixel.specs.declared.Components.TheVariants as components
+use Rattle.fx_pixel.specs.Pixel.{zero}
+use Rattle.fx_scene.specs.Plan.{Tap, Op, Kind, Effect, Plan, IsPlan, clip_node}
+use Rattle.fx_scene.specs.Table.{at_place}
+
+-- a pixel at each frame, column and row
+abbrev pub Field : Type 0
+Field = ℤ → ℤ → ℤ → Pixel
+
+-- nothing there
+abbrev pub no_field : Field
+no_field t x y = zero components.Rgba
+
+-- what a clip shows: the value of the node that it is, and zero where it is unconnected
+abbrev pub clip_value : (ℕ → Field) → Option ℕ → Field
+clip_value values None = no_field
+clip_value values (Some m) = values m
+
+-- the pixel that a tap reads
+abbrev pub tap_value : (ℕ → Field) → Op → Tap → Pixel
+tap_value values o p = clip_value values (clip_node o p.clip) p.frame p.x p.y
+
+-- a node's value, by the values of the nodes: the mix of its taps
+abbrev pub node_value : (ℕ → Field) → Kind → Field
+node_value values (Effect o) t x y = o.mix t x y (map (tap_value values o) (o.taps t x y))
+
+-- the value of each node, by the place in the list
+unfoldable pub value : Plan → ℕ → Field
+value plan = at_place no_field (λ before k. node_value before (plan k))
+
+-- the value of a node is the mix of its taps' values at the nodes that its clips are
+abbrev pub ValueIsMix : Plan → Type 0
+ValueIsMix plan = (n : ℕ) (t x y : ℤ) → value plan n t x y ≡ node_value (value plan) (plan n) t x y
