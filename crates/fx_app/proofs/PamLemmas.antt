@@ -1,5 +1,5 @@
 -- One pixel more of a row, and one row more of a raster.
-use Rattle.std.proofs.Common.{◌≡◌, refl, ap, sym, ◌∙◌, ℕ, suc, ◌+◌, ◌-◌, ◌<◌, ℤ, pos, ◌+ℤ◌, ◌-ℤ◌, List, ◌++◌, append_assoc, add-one, arith}
+use Rattle.std.proofs.Common.{◌≡◌, ap, sym, ◌∙◌, ℕ, ◌+◌, ◌-◌, ◌<◌, ℤ, pos, ◌+ℤ◌, ◌-ℤ◌, List, ◌++◌, append_assoc, add-one, arith}
 use Rattle.std.proofs.lemmas.Int.{ints}
 use Rattle.fx_pixel.specs.declared.Pixel.{Pixel}
 use Rattle.fx_scene.specs.Image.{Image, pixel_at}

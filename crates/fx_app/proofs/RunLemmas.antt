@@ -1,5 +1,5 @@
 -- What a put of a frame's file leaves.
-use Rattle.std.proofs.Common.{◌≡◌, refl, sym, ap, ◌∙◌, ℕ, pos, List, Option, Some, None, Bool, true, false}
+use Rattle.std.proofs.Common.{◌≡◌, refl, sym, ap, ◌∙◌, pos, Bool, true, false}
 use Rattle.std.specs.Str.{bytes_eq}
 use Rattle.std.proofs.lemmas.Slice.Eq.{bytes_eq-Decides}
 use Rattle.fx_outside.specs.Outside.{Files, Sets, SameFiles}

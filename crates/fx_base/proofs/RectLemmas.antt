@@ -1,8 +1,8 @@
 -- A rectangle that isn't empty holds its bottom left place.
-use Rattle.std.proofs.Common.{◌≡◌, ℤ, ◌≤ℤ◌, ◌<ℤ◌, ◌⊎◌, inl, inr, ap, arith}
+use Rattle.std.proofs.Common.{ℤ, ◌≤ℤ◌, ◌<ℤ◌, inl, inr, ap, arith}
 use Rattle.std.proofs.lemmas.Int.{ints}
-use Rattle.fx_base.specs.Bounds.{Bounds, IsRect, none}
-use Rattle.fx_base.specs.Rect.{Holds, within}
+use Rattle.fx_base.specs.Bounds.{Bounds, IsRect}
+use Rattle.fx_base.specs.Rect.{Holds}
 
 pub holds_corner : (r : Bounds) → r.x1 <ℤ r.x2 → r.y1 <ℤ r.y2 → Holds r r.x1 r.y1
 holds_corner r wide high = grind (arith, ints)

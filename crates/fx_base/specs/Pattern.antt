@@ -1,5 +1,5 @@
 -- Patterns of file names: texts with at most one run of `#`, where a frame's number goes.
-use Rattle.std.specs.Prelude.{◌≡◌, ◌≤◌, ◌<◌, ℕ, ◌+◌, ◌-◌, ◌==◌, ◌&&◌, List, [], ◌∷◌, ◌++◌, length, replicate, Bool, false, not, Option, Some, None, if◌then◌else◌, decimal, nat_lt, nat_le}
+use Rattle.std.specs.Prelude.{ℕ, ◌+◌, ◌-◌, ◌==◌, ◌&&◌, List, [], ◌∷◌, ◌++◌, length, replicate, Bool, false, not, Option, Some, None, if◌then◌else◌, decimal, nat_lt, nat_le}
 use Rattle.std.specs.List.{list_any, before_first, after_first, position_or_len}
 
 -- a `#`

@@ -1,5 +1,5 @@
 -- Rectangles as sets of places: half open, the y axis upwards (OpenFX 1.4, "Coordinate Systems").
-use Rattle.std.specs.Prelude.{ℤ, int_lt, Bool, not, ◌&&◌, IsTrue, if◌then◌else◌}
+use Rattle.std.specs.Prelude.{ℤ, Bool, ◌&&◌, IsTrue, if◌then◌else◌}
 use Rattle.std.specs.Int.Signed.{le_z, lt_z}
 use Rattle.fx_base.specs.Bounds.{Bounds, none}
 

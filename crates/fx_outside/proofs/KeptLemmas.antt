@@ -1,5 +1,5 @@
 -- What a put leaves in a depot in memory.
-use Rattle.std.proofs.Common.{◌≡◌, ◌≢◌, refl, sym, ℕ, List, Option, Some, Vec, String, true, rules}
+use Rattle.std.proofs.Common.{◌≡◌, refl, sym, ℕ, List, Some, Vec, String, true}
 use Rattle.std.specs.declared.alloc.Global.{Global}
 use Rattle.std.specs.Str.{bytes_eq}
 use Rattle.std.specs.BTreeMap.{BTreeMap, get_by_text}

@@ -1,6 +1,6 @@
 //! The outside for real: files by their paths from the working folder, and the standard streams. They
 //! tell nothing of what they hold, and count their faults. This is the edge that is trusted.
-ghost use Rattle.std.specs.Prelude.{None, []};
+ghost use Rattle.std.specs.Prelude.{◌≡◌, None, []};
 
 use crate::{Depot, FetchFault, Library, PutFault, Sink};
 use fx_base::Name;
@@ -104,7 +104,9 @@ pub struct FileLibrary<'r, R: Files> {
 
 impl<'r, R: Files> FileLibrary<'r, R> {
     /// No fault yet.
-    pub fn new(rt: &'r R, alloc: Global) -> FileLibrary<'r, R> {
+    pub fn new(rt: &'r R, alloc: Global) -> FileLibrary<'r, R>
+        ensures { ⟦<FileLibrary<'r, R> as Library>⟧.faults result ≡ 0 }
+    {
         FileLibrary {
             rt,
             faults: 0,
@@ -146,7 +148,9 @@ pub struct FileDepot<'r, R: Files> {
 
 impl<'r, R: Files> FileDepot<'r, R> {
     /// No fault yet.
-    pub fn new(rt: &'r R, alloc: Global) -> FileDepot<'r, R> {
+    pub fn new(rt: &'r R, alloc: Global) -> FileDepot<'r, R>
+        ensures { ⟦<FileDepot<'r, R> as Depot>⟧.faults result ≡ 0 }
+    {
         FileDepot {
             rt,
             faults: 0,
@@ -187,7 +191,9 @@ pub struct StdSink<W: Write + Drop> {
 
 impl<W: Write + Drop> StdSink<W> {
     /// The stream that this writer writes to. No fault yet.
-    pub fn new(writer: W) -> StdSink<W> {
+    pub fn new(writer: W) -> StdSink<W>
+        ensures { ⟦<StdSink<W> as Sink>⟧.faults result ≡ 0 }
+    {
         StdSink { writer, faults: 0 }
     }
 }

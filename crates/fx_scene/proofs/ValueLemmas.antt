@@ -1,7 +1,6 @@
 -- The value of a node, by the values of the nodes.
-use Rattle.std.proofs.Common.{◌≡◌, ℕ, ◌<◌, ℤ, refl, ap, sym, ◌∙◌, List, [], ◌∷◌, map, Option, Some, None}
-use Rattle.fx_pixel.specs.declared.Pixel.{Pixel}
-use Rattle.fx_scene.specs.Plan.{Tap, Op, Kind, Effect, Plan, IsPlan, IsKind, clip_node}
+use Rattle.std.proofs.Common.{◌≡◌, ℕ, ◌<◌, ℤ, refl, ap, ◌∙◌, List, [], ◌∷◌, map, Option, Some, None}
+use Rattle.fx_scene.specs.Plan.{Kind, Effect, Plan, IsPlan, IsKind, clip_node}
 use Rattle.fx_scene.specs.Table.{below, at_place}
 use Rattle.fx_scene.specs.Value.{Field, no_field, clip_value, tap_value, node_value, value, ValueIsMix}
 use Rattle.fx_scene.proofs.TableLemmas.{below_is}

@@ -1,5 +1,5 @@
 -- The effect solid, a generator: one colour over the project's extent, and zero outside it. Its levels are in units of 1/65536, from 0 to 1.
-use Rattle.std.specs.Prelude.{ℕ, ◌+◌, ◌*◌, ◌/◌, ℤ, List, [], if◌then◌else◌}
+use Rattle.std.specs.Prelude.{ℕ, ◌+◌, ◌*◌, ◌/◌, [], if◌then◌else◌}
 use Rattle.fx_base.specs.Bounds.{Bounds}
 use Rattle.fx_base.specs.Rect.{within}
 use Rattle.fx_pixel.specs.declared.Pixel.{Pixel}

@@ -1,9 +1,9 @@
 -- The value of a node: its pixel at each frame and place, on the unbounded plane, one pixel at a time.
-use Rattle.std.specs.Prelude.{◌≡◌, ℕ, ℤ, List, map, Option, Some, None}
+use Rattle.std.specs.Prelude.{◌≡◌, ℕ, ℤ, map, Option, Some, None}
 use Rattle.fx_pixel.specs.declared.Pixel.{Pixel}
 use Rattle.fx_pixel.specs.declared.Components.TheVariants as components
 use Rattle.fx_pixel.specs.Pixel.{zero}
-use Rattle.fx_scene.specs.Plan.{Tap, Op, Kind, Effect, Plan, IsPlan, clip_node}
+use Rattle.fx_scene.specs.Plan.{Tap, Op, Kind, Effect, Plan, clip_node}
 use Rattle.fx_scene.specs.Table.{at_place}
 
 -- a pixel at each frame, column and row

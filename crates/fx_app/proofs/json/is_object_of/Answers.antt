@@ -1,4 +1,4 @@
-use Rattle.std.proofs.Common.{◌≡◌, ap, ◌∙◌, map}
+use Rattle.std.proofs.Common.{ap, ◌∙◌, map}
 use Rattle.fx_app.specs.Json.{fit}
 use Rattle.fx_app.proofs.JsonLemmas.{keys_are_members}
 use Rattle.fx_app.proofs.json.is_object_of.Goals as goal

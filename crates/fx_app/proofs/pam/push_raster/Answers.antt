@@ -1,6 +1,6 @@
-use Rattle.std.proofs.Common.{◌≡◌, ◌<◌, ◌++◌, refl, pos, arith, rules, ◌-◌}
+use Rattle.std.proofs.Common.{◌≡◌, ◌<◌, refl, pos, arith}
 use Rattle.fx_scene.specs.Scene.{picture}
-use Rattle.fx_app.specs.Pam.{columns, row_bytes}
+use Rattle.fx_app.specs.Pam.{columns}
 use Rattle.fx_app.proofs.PamLemmas.{raster-more}
 use Rattle.fx_app.proofs.pam.push_raster.Goals as goal
 

@@ -1,4 +1,4 @@
-use Rattle.std.proofs.Common.{refl, pos, rules}
+use Rattle.std.proofs.Common.{refl, pos}
 use Rattle.fx_scene.specs.Scene.{picture}
 use Rattle.fx_app.proofs.PamLemmas.{row_bytes-more}
 use Rattle.fx_app.proofs.pam.push_row.Goals as goal

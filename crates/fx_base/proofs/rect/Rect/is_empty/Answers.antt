@@ -1,4 +1,4 @@
-use Rattle.std.proofs.Common.{rules, arith, ◌≡◌, ◌≤ℤ◌, ap}
+use Rattle.std.proofs.Common.{arith, ◌≤ℤ◌}
 use Rattle.std.proofs.lemmas.Int.{ints}
 use Rattle.fx_base.proofs.RectLemmas.{is_none_without_places}
 use Rattle.fx_base.proofs.rect.Rect.is_empty.Goals as goal
