@@ -2,8 +2,9 @@
 //! (OpenFX 1.4, "Pixel Depths" and "Image Components"; half and float depths are left out).
 #![tactic(auto)]
 
-ghost use Rattle.std.specs.Prelude.{◌≡◌};
-ghost use Rattle.fx_pixel.specs.Pixel.{greatest, zero};
+ghost use Rattle.std.specs.Prelude.{◌≡◌, ◌≤◌};
+ghost use Rattle.fx_pixel.specs.declared.Pixel.TheVariants.{Rgba as PixelRgba};
+ghost use Rattle.fx_pixel.specs.Pixel.{greatest, size, count, zero, IsOfDepth, components_of, convert_sample, at_depth, with_components, convert};
 
 /// How deep each sample is.
 #[derive(Clone, Copy, Debug, PartialEq, Eq)]
@@ -46,6 +47,28 @@ impl Depth {
             Depth::Short => 65535,
         }
     }
+
+    /// How many bytes a sample has.
+    pub fn size(self) -> u32
+        ensures { result ≡ size self }
+    {
+        match self {
+            Depth::Byte => 1,
+            Depth::Short => 2,
+        }
+    }
+}
+
+impl Components {
+    /// How many samples a pixel has.
+    pub fn count(self) -> u32
+        ensures { result ≡ count self }
+    {
+        match self {
+            Components::Rgba => 4,
+            Components::Alpha => 1,
+        }
+    }
 }
 
 impl Pixel {
@@ -63,16 +86,74 @@ impl Pixel {
             Components::Alpha => Pixel::Alpha { a: 0 },
         }
     }
+
+    /// The pixel at another depth and with other components: byte to short is `v * 257`, short to byte
+    /// `(v * 255 + 32767) / 65535`; RGBA to Alpha takes a, and Alpha to RGBA repeats it.
+    pub fn convert(self, from: Depth, to: Depth, c: Components) -> Pixel
+        requires { IsOfDepth from self }
+        ensures value { result ≡ convert from to c self }
+        ensures depth { IsOfDepth to result }
+        ensures components { components_of result ≡ c }
+    {
+        match self {
+            Pixel::Rgba { r, g, b, a } => with_components(
+                c,
+                convert_sample(from, to, r),
+                convert_sample(from, to, g),
+                convert_sample(from, to, b),
+                convert_sample(from, to, a),
+            ),
+            Pixel::Alpha { a } => {
+                let a = convert_sample(from, to, a);
+                with_components(c, a, a, a, a)
+            }
+        }
+    }
 }
+
+fn convert_sample(from: Depth, to: Depth, v: u16) -> u16
+    requires { v ≤ greatest from }
+    ensures value { result ≡ convert_sample from to v }
+    ensures bound { result ≤ greatest to }
+{
+    match (from, to) {
+        (Depth::Byte, Depth::Short) => v * 257,
+        (Depth::Short, Depth::Byte) => ((u32::from(v) * 255 + 32767) / 65535) as u16,
+        _ => v,
+    }
+}
+
+// The pixel of these samples, or of a alone.
+fn with_components(c: Components, r: u16, g: u16, b: u16, a: u16) -> Pixel
+    ensures { result ≡ with_components c (PixelRgba r g b a) }
+{
+    match c {
+        Components::Rgba => Pixel::Rgba { r, g, b, a },
+        Components::Alpha => Pixel::Alpha { a },
+    }
+}
+
+/// The pixel whose samples are all 0 stays so at every conversion. It computes nothing.
+pub fn zero_stays_zero()
+    ensures { (from to : Depth) (c d : Components) → convert from to d (zero c) ≡ zero d }
+{}
 
 #[cfg(test)]
 mod tests {
     use super::*;
 
     #[test]
-    fn samples_have_their_bounds(rt: HostRuntime) {
-        assert_eq!(rt; Depth::Byte.greatest(), 255);
-        assert_eq!(rt; Depth::Short.greatest(), 65535);
+    fn depths_and_components_have_their_numbers(rt: HostRuntime) {
+        assert_eq!(rt; (Depth::Byte.greatest(), Depth::Byte.size()), (255, 1));
+        assert_eq!(rt; (Depth::Short.greatest(), Depth::Short.size()), (65535, 2));
+        assert_eq!(rt;
+            (Components::Rgba.count(), Components::Alpha.count()),
+            (4, 1)
+        );
+    }
+
+    #[test]
+    fn pixels_are_converted(rt: HostRuntime) {
         let none = Pixel::Rgba {
             r: 0,
             g: 0,
@@ -81,5 +162,39 @@ mod tests {
         };
         assert_eq!(rt; Pixel::zero(Components::Rgba), none);
         assert_eq!(rt; Pixel::zero(Components::Alpha), Pixel::Alpha { a: 0 });
+        let grey = Pixel::Alpha { a: 128 };
+        let repeated = Pixel::Rgba {
+            r: 32896,
+            g: 32896,
+            b: 32896,
+            a: 32896,
+        };
+        assert_eq!(rt;
+            grey.convert(Depth::Byte, Depth::Short, Components::Rgba),
+            repeated
+        );
+        // 128.49.. of 255 goes down, and 128.50.. up.
+        for (short, byte) in [
+            (0, 0),
+            (128, 0),
+            (129, 1),
+            (33023, 128),
+            (33024, 128),
+            (33025, 129),
+            (65535, 255),
+        ] {
+            let pixel = Pixel::Rgba {
+                r: 0,
+                g: 0,
+                b: 0,
+                a: short,
+            };
+            assert_eq!(rt;
+                pixel.convert(Depth::Short, Depth::Byte, Components::Alpha),
+                Pixel::Alpha { a: byte },
+                "at {short}"
+            );
+        }
+        zero_stays_zero();
     }
 }

@@ -1,0 +1,5 @@
+pub mod RowsLaws
+pub mod RowsMade
+pub mod PixelLaws
+pub mod ImageLaws
+pub mod ImageWrites

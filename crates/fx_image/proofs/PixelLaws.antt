@@ -1,0 +1,105 @@
+-- The pixels of a row of bytes, read from a run of it and after a run was written.
+use Rattle.std.proofs.Common.{◌≡◌, ◌≤◌, ◌<◌, ◌⊎◌, inl, inr, ℕ, ◌+◌, ◌-◌, ◌*◌, List, length, take, drop, slice_index, refl, ap, rules, arith, ◌∙◌}
+use Rattle.std.proofs.lemmas.List.{places}
+use Rattle.fx_pixel.specs.declared.Depth.{Depth}
+use Rattle.fx_pixel.specs.declared.Depth.TheVariants.{Byte, Short}
+use Rattle.fx_pixel.specs.declared.Components.{Components}
+use Rattle.fx_pixel.specs.declared.Components.TheVariants as components
+use Rattle.fx_pixel.specs.declared.Pixel.{Pixel}
+use Rattle.fx_pixel.specs.declared.Pixel.TheVariants.{Rgba, Alpha}
+use Rattle.fx_pixel.specs.Pixel.{size}
+use Rattle.fx_image.specs.Rows.{written}
+use Rattle.fx_image.specs.Stored.{pixel_size, sample_in, pixel_in}
+
+read_run : (xs : List ℕ) (from n i : ℕ) → i < n → slice_index (take n (drop from xs)) i ≡ slice_index xs (from + i)
+read_run xs from n i h = grind (arith, places)
+
+read_inside : (xs ws : List ℕ) (from i : ℕ) → from + length ws ≤ length xs → from ≤ i → i < from + length ws → slice_index (written xs from ws) i ≡ slice_index ws (i - from)
+read_inside xs ws from i fits above below = grind (arith, places)
+
+read_below : (xs ws : List ℕ) (from i : ℕ) → from + length ws ≤ length xs → i < from → slice_index (written xs from ws) i ≡ slice_index xs i
+read_below xs ws from i fits below = grind (arith, places)
+
+read_above : (xs ws : List ℕ) (from i : ℕ) → from + length ws ≤ length xs → from + length ws ≤ i → slice_index (written xs from ws) i ≡ slice_index xs i
+read_above xs ws from i fits above = grind (arith, places)
+
+same_place : (xs : List ℕ) (i j : ℕ) → i ≡ j → slice_index xs i ≡ slice_index xs j
+same_place xs i j e = ap (slice_index xs) e
+
+short_of : (a b c d : ℕ) → a ≡ c → b ≡ d → 256 * a + b ≡ 256 * c + d
+short_of a b c d p q = ap (λ x. 256 * x + b) p ∙ ap (λ y. 256 * c + y) q
+
+-- a sample of a run of a row is a sample of the row
+sample_of_run : (depth : Depth) (row : List ℕ) (from n i j : ℕ) → size depth * j ≡ from + size depth * i → size depth * i + size depth ≤ n → sample_in depth (take n (drop from row)) i ≡ sample_in depth row j
+sample_of_run Byte row from n i j e h = read_run row from n i (omega arith) ∙ same_place row (from + i) j (omega arith)
+sample_of_run Short row from n i j e h =
+    short_of _ _ _ _ (read_run row from n (2 * i) (omega arith) ∙ same_place row (from + 2 * i) (2 * j) (omega arith))
+    (read_run row from n (2 * i + 1) (omega arith) ∙ same_place row (from + (2 * i + 1)) (2 * j + 1) (omega arith))
+
+-- a sample that was written over
+sample_inside : (depth : Depth) (row ws : List ℕ) (from i j : ℕ) → from + length ws ≤ length row → size depth * j ≡ from + size depth * i → size depth * i + size depth ≤ length ws
+    → sample_in depth (written row from ws) j ≡ sample_in depth ws i
+sample_inside Byte row ws from i j fits e h = read_inside row ws from j fits (omega arith) (omega arith) ∙ same_place ws (j - from) i (omega arith)
+sample_inside Short row ws from i j fits e h =
+    short_of _ _ _ _ (read_inside row ws from (2 * j) fits (omega arith) (omega arith) ∙ same_place ws (2 * j - from) (2 * i) (omega arith))
+    (read_inside row ws from (2 * j + 1) fits (omega arith) (omega arith) ∙ same_place ws (2 * j + 1 - from) (2 * i + 1) (omega arith))
+
+-- samples before and behind are as they were
+sample_below : (depth : Depth) (row ws : List ℕ) (from j : ℕ) → from + length ws ≤ length row → size depth * j + size depth ≤ from → sample_in depth (written row from ws) j ≡ sample_in depth row j
+sample_below Byte row ws from j fits h = read_below row ws from j fits (omega arith)
+sample_below Short row ws from j fits h = short_of _ _ _ _ (read_below row ws from (2 * j) fits (omega arith)) (read_below row ws from (2 * j + 1) fits (omega arith))
+
+sample_above : (depth : Depth) (row ws : List ℕ) (from j : ℕ) → from + length ws ≤ length row → from + length ws ≤ size depth * j → sample_in depth (written row from ws) j ≡ sample_in depth row j
+sample_above Byte row ws from j fits h = read_above row ws from j fits (omega arith)
+sample_above Short row ws from j fits h = short_of _ _ _ _ (read_above row ws from (2 * j) fits (omega arith)) (read_above row ws from (2 * j + 1) fits (omega arith))
+
+rgba_of : {r g b a r' g' b' a' : ℕ} → r ≡ r' → g ≡ g' → b ≡ b' → a ≡ a' → Rgba r g b a ≡ Rgba r' g' b' a'
+rgba_of p q s t = cc
+
+-- pixel i of a run that begins at a pixel
+pub pixel_of_run : (depth : Depth) (c : Components) (row : List ℕ) (length column i : ℕ) → i * pixel_size depth c + pixel_size depth c ≤ length → pixel_in depth c (take length (drop (column * pixel_size depth c) row)) i ≡ pixel_in depth c row (column + i)
+pixel_of_run Byte components.Rgba row length column i h =
+    rgba_of (sample_of_run Byte row (column * 4) length (4 * i) (4 * (column + i)) (omega arith) (omega arith)) (sample_of_run Byte row (column * 4) length (4 * i + 1) (4 * (column + i) + 1) (omega arith) (omega arith))
+    (sample_of_run Byte row (column * 4) length (4 * i + 2) (4 * (column + i) + 2) (omega arith) (omega arith)) (sample_of_run Byte row (column * 4) length (4 * i + 3) (4 * (column + i) + 3) (omega arith) (omega arith))
+pixel_of_run Short components.Rgba row length column i h =
+    rgba_of (sample_of_run Short row (column * 8) length (4 * i) (4 * (column + i)) (omega arith) (omega arith)) (sample_of_run Short row (column * 8) length (4 * i + 1) (4 * (column + i) + 1) (omega arith) (omega arith))
+    (sample_of_run Short row (column * 8) length (4 * i + 2) (4 * (column + i) + 2) (omega arith) (omega arith)) (sample_of_run Short row (column * 8) length (4 * i + 3) (4 * (column + i) + 3) (omega arith) (omega arith))
+pixel_of_run Byte components.Alpha row length column i h = ap Alpha (sample_of_run Byte row (column * 1) length i (column + i) (omega arith) (omega arith))
+pixel_of_run Short components.Alpha row length column i h = ap Alpha (sample_of_run Short row (column * 2) length i (column + i) (omega arith) (omega arith))
+
+-- a pixel that was written over
+pub pixel_inside : (depth : Depth) (c : Components) (row ws : List ℕ) (first column : ℕ) → first * pixel_size depth c + length ws ≤ length row → first ≤ column → (column - first) * pixel_size depth c + pixel_size depth c ≤ length ws
+    → pixel_in depth c (written row (first * pixel_size depth c) ws) column ≡ pixel_in depth c ws (column - first)
+pixel_inside Byte components.Rgba row ws first column fits from to =
+    let at = column - first in
+    rgba_of (sample_inside Byte row ws (first * 4) (4 * at) (4 * column) fits (omega arith) (omega arith)) (sample_inside Byte row ws (first * 4) (4 * at + 1) (4 * column + 1) fits (omega arith) (omega arith))
+    (sample_inside Byte row ws (first * 4) (4 * at + 2) (4 * column + 2) fits (omega arith) (omega arith)) (sample_inside Byte row ws (first * 4) (4 * at + 3) (4 * column + 3) fits (omega arith) (omega arith))
+pixel_inside Short components.Rgba row ws first column fits from to =
+    let at = column - first in
+    rgba_of (sample_inside Short row ws (first * 8) (4 * at) (4 * column) fits (omega arith) (omega arith)) (sample_inside Short row ws (first * 8) (4 * at + 1) (4 * column + 1) fits (omega arith) (omega arith))
+    (sample_inside Short row ws (first * 8) (4 * at + 2) (4 * column + 2) fits (omega arith) (omega arith)) (sample_inside Short row ws (first * 8) (4 * at + 3) (4 * column + 3) fits (omega arith) (omega arith))
+pixel_inside Byte components.Alpha row ws first column fits from to = ap Alpha (sample_inside Byte row ws (first * 1) (column - first) column fits (omega arith) (omega arith))
+pixel_inside Short components.Alpha row ws first column fits from to = ap Alpha (sample_inside Short row ws (first * 2) (column - first) column fits (omega arith) (omega arith))
+
+-- pixels to the left and to the right are as they were
+pub pixel_left : (depth : Depth) (c : Components) (row ws : List ℕ) (first column : ℕ) → first * pixel_size depth c + length ws ≤ length row → column < first
+    → pixel_in depth c (written row (first * pixel_size depth c) ws) column ≡ pixel_in depth c row column
+pixel_left Byte components.Rgba row ws first column fits h =
+    rgba_of (sample_below Byte row ws (first * 4) (4 * column) fits (omega arith)) (sample_below Byte row ws (first * 4) (4 * column + 1) fits (omega arith))
+    (sample_below Byte row ws (first * 4) (4 * column + 2) fits (omega arith)) (sample_below Byte row ws (first * 4) (4 * column + 3) fits (omega arith))
+pixel_left Short components.Rgba row ws first column fits h =
+    rgba_of (sample_below Short row ws (first * 8) (4 * column) fits (omega arith)) (sample_below Short row ws (first * 8) (4 * column + 1) fits (omega arith))
+    (sample_below Short row ws (first * 8) (4 * column + 2) fits (omega arith)) (sample_below Short row ws (first * 8) (4 * column + 3) fits (omega arith))
+pixel_left Byte components.Alpha row ws first column fits h = ap Alpha (sample_below Byte row ws (first * 1) column fits (omega arith))
+pixel_left Short components.Alpha row ws first column fits h = ap Alpha (sample_below Short row ws (first * 2) column fits (omega arith))
+
+pub pixel_right : (depth : Depth) (c : Components) (row ws : List ℕ) (first column : ℕ) → first * pixel_size depth c + length ws ≤ length row → first * pixel_size depth c + length ws ≤ column * pixel_size depth c
+    → pixel_in depth c (written row (first * pixel_size depth c) ws) column ≡ pixel_in depth c row column
+pixel_right Byte components.Rgba row ws first column fits h =
+    rgba_of (sample_above Byte row ws (first * 4) (4 * column) fits (omega arith)) (sample_above Byte row ws (first * 4) (4 * column + 1) fits (omega arith))
+    (sample_above Byte row ws (first * 4) (4 * column + 2) fits (omega arith)) (sample_above Byte row ws (first * 4) (4 * column + 3) fits (omega arith))
+pixel_right Short components.Rgba row ws first column fits h =
+    rgba_of (sample_above Short row ws (first * 8) (4 * column) fits (omega arith)) (sample_above Short row ws (first * 8) (4 * column + 1) fits (omega arith))
+    (sample_above Short row ws (first * 8) (4 * column + 2) fits (omega arith)) (sample_above Short row ws (first * 8) (4 * column + 3) fits (omega arith))
+pixel_right Byte components.Alpha row ws first column fits h = ap Alpha (sample_above Byte row ws (first * 1) column fits (omega arith))
+pixel_right Short components.Alpha row ws first column fits h = ap Alpha (sample_above Short row ws (first * 2) column fits (omega arith))

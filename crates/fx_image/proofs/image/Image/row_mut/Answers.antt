@@ -1,0 +1,50 @@
+use Rattle.std.proofs.Common.{◌≡◌, ◌≤ℤ◌, ◌∙◌, ℤ, pos, negsuc, ◌*◌, ap, sym, subst, refl, FitsSigned, w64, arith, to_z, of_z}
+use Rattle.std.specs.Int.{int_gap}
+use Rattle.std.proofs.lemmas.Int.{ints, to_z-of_z}
+use Rattle.fx_base.specs.Bounds.{Bounds, IsRect}
+use Rattle.fx_base.specs.Rect.{columns}
+use Rattle.fx_image.specs.Stored.{Stored, IsStored, pixel_in, pixel_size}
+use Rattle.fx_image.specs.Runs.{run_of}
+use Rattle.fx_image.specs.ImageLending.{with_row}
+use Rattle.fx_image.proofs.ImageLaws.{inside_from, IsInside, near_inside, row_run, fits_near, row_shown}
+use Rattle.fx_image.proofs.image.Image.row_mut.Goals as goal
+
+-- the left column of a rectangle with a row, as the code has it
+left_column : (r s : Bounds) (y x : ℤ) → IsInside r s y → r.x2 ≤ℤ pos 1073741824 → negsuc 1073741823 ≤ℤ r.x1 → x ≡ r.x1 → to_z w64 (of_z w64 x) ≡ r.x1
+left_column r s y x there right left is = ap (λ z. to_z w64 (of_z w64 z)) is ∙ to_z-of_z w64 r.x1 (fits_near r.x1 left (omega (arith, ints, there.wide)))
+
+pub columns_in-requires : goal.columns_in-requires
+columns_in-requires c =
+    let rect : IsRect c.args.rect = rw (← c.rect.view_is) c.rect.invariant in
+    let stored : IsStored c.args.self.now = rw (← c.self.view_is) c.self.invariant in
+    let there = inside_from c.args.rect c.args.self.now.rect c.args.y rect c.requires.within c.requires.inside.0 c.requires.inside.1 in
+    near_inside c.args.rect c.args.self.now.rect c.args.y there stored.near c.requires.inside.0 c.requires.inside.1
+
+pub run_mut-requires : goal.run_mut-requires
+run_mut-requires c =
+    let rect : IsRect c.args.rect = rw (← c.rect.view_is) c.rect.invariant in
+    let stored : IsStored c.args.self.now = rw (← c.self.view_is) c.self.invariant in
+    let there = inside_from c.args.rect c.args.self.now.rect c.args.y rect c.requires.within c.requires.inside.0 c.requires.inside.1 in
+    let near = near_inside c.args.rect c.args.self.now.rect c.args.y there stored.near c.requires.inside.0 c.requires.inside.1 in
+    let column = left_column c.args.rect c.args.self.now.rect c.args.y c.rect.inside.x1 there near.right near.left (ap (λ (b : Bounds). b.x1) c.rect.view_is) in
+    rw (column, to_z-of_z w64 c.args.y c.ranges.y, c.columns_in.ensures.value) (row_run c.args.self.now c.args.rect c.args.y there)
+
+pub returns : goal.returns
+returns c =
+    let rect : IsRect c.args.rect = rw (← c.rect.view_is) c.rect.invariant in
+    let stored : IsStored c.args.self.now = rw (← c.self.view_is) c.self.invariant in
+    let there = inside_from c.args.rect c.args.self.now.rect c.args.y rect c.requires.within c.requires.inside.0 c.requires.inside.1 in
+    let near = near_inside c.args.rect c.args.self.now.rect c.args.y there stored.near c.requires.inside.0 c.requires.inside.1 in
+    let column = left_column c.args.rect c.args.self.now.rect c.args.y c.rect.inside.x1 there near.right near.left (ap (λ (b : Bounds). b.x1) c.rect.view_is) in
+    let value = rw (column, to_z-of_z w64 c.args.y c.ranges.y, c.columns_in.ensures.value) at c.run_mut.ensures.value in (
+      (refl, λ w. rw (column, to_z-of_z w64 c.args.y c.ranges.y) refl),
+      record {
+        writes_back = tt;
+        stored = c.run_mut.ensures.stored;
+        rows = c.run_mut.ensures.rows;
+        len = c.run_mut.ensures.len ∙ ap (λ n. n * pixel_size c.args.self.now.depth c.args.self.now.components) c.columns_in.ensures.value;
+        pixels = λ x inside.
+            ap (λ bytes. pixel_in c.args.self.now.depth c.args.self.now.components bytes (int_gap c.args.rect.x1 x)) value
+            ∙ row_shown c.args.self.now c.args.rect c.args.y there x inside;
+      },
+    )

@@ -1,0 +1,18 @@
+-- Images: a rectangle, a depth, components, and a pixel for each place of the rectangle. An image has no rows, strides or bytes.
+use Rattle.std.specs.Prelude.{◌≡◌, ℤ, if◌then◌else◌}
+use Rattle.fx_base.specs.Bounds.{Bounds}
+use Rattle.fx_base.specs.Rect.{within}
+use Rattle.fx_pixel.specs.declared.Depth.{Depth}
+use Rattle.fx_pixel.specs.declared.Components.{Components}
+use Rattle.fx_pixel.specs.declared.Pixel.{Pixel}
+use Rattle.fx_pixel.specs.Pixel.{zero}
+
+pub record Image : Type 0 where
+  pub rect : Bounds
+  pub depth : Depth
+  pub components : Components
+  pub pixel : ℤ → ℤ → Pixel
+
+-- the pixel at a place, and zero outside the rectangle
+abbrev pub pixel_at : Image → ℤ → ℤ → Pixel
+pixel_at image x y = if within image.rect x y then image.pixel x y else zero image.components

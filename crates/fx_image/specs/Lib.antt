@@ -1,0 +1,7 @@
+pub mod Rows
+pub mod RowsLending
+pub mod Image
+pub mod Stored
+pub mod Runs
+pub mod ImageLending
+pub mod Part

@@ -1,0 +1,97 @@
+//! A part of an image, to be written.
+ghost use Rattle.std.specs.Prelude.{◌≡◌, ◌*◌, ℤ, ◌≤ℤ◌, ◌<ℤ◌, length};
+ghost use Rattle.std.specs.Int.{int_gap};
+ghost use Rattle.std.specs.Borrow.{sem};
+ghost use Rattle.fx_base.specs.Rect.{Holds, IsWithin, columns};
+ghost use Rattle.fx_pixel.specs.Pixel.{components_of, IsOfDepth};
+ghost use Rattle.fx_image.specs.Rows.{HasRows};
+ghost use Rattle.fx_image.specs.Stored.{IsStored, pixel_size, pixel_in, shown};
+ghost use Rattle.fx_image.specs.ImageLending.{Puts};
+ghost use Rattle.fx_image.specs.Part.{IsPart, SamePart, part_shown, LendsPartRow};
+
+use crate::Image;
+use fx_base::Rect;
+use fx_pixel::{Components, Depth, Pixel};
+
+/// A rectangle of an image's pixels, to be written. It copies nothing.
+#[derive(Drop)]
+pub struct Part<'a> {
+    image: &'a mut Image,
+    rect: Rect,
+}
+
+impl Image {
+    /// The part with this rectangle. What is written there is the image's own pixels, and every other
+    /// pixel stays.
+    pub fn part(&mut self, rect: Rect) -> Part<'_>
+        requires { IsWithin rect self.old.rect }
+        ensures same_reference { result.image.ghost_name ≡ self.entry.ghost_name }
+        ensures value { result.image.now ≡ self.old }
+        ensures rect { result.rect ≡ rect }
+        ensures part { IsPart result }
+    {
+        let _whole = rect.x1;
+        Part { image: self, rect }
+    }
+}
+
+impl<'a> Part<'a> {
+    /// The rectangle of its pixels.
+    pub fn rect(&self) -> Rect
+        ensures { result ≡ self.now.rect }
+    {
+        self.rect
+    }
+
+    /// How deep its samples are.
+    pub fn depth(&self) -> Depth
+        ensures { result ≡ self.now.image.now.depth }
+    {
+        self.image.depth()
+    }
+
+    /// Which samples its pixels have.
+    pub fn components(&self) -> Components
+        ensures { result ≡ self.now.image.now.components }
+    {
+        self.image.components()
+    }
+
+    /// The pixel at column x and row y, and the zero pixel outside the rectangle.
+    pub fn at(&self, x: i64, y: i64) -> Pixel
+        ensures { result ≡ part_shown self.now x y }
+    {
+        if self.rect.holds(x, y) {
+            self.image.at(x, y)
+        } else {
+            Pixel::zero(self.image.components())
+        }
+    }
+
+    /// Sets the pixel at column x and row y. No other pixel of the image changes.
+    pub fn put(&mut self, x: i64, y: i64, p: Pixel)
+        requires part { IsPart self.old }
+        requires inside { Holds self.old.rect x y }
+        requires components { components_of p ≡ self.old.image.now.components }
+        requires depth { IsOfDepth self.old.image.now.depth p }
+        ensures same_part { SamePart self.old self.new }
+        ensures pixel { Puts x y p self.old.image.now self.new.image.now }
+    {
+        self.image.put(x, y, p);
+    }
+
+    /// The bytes of the part's row y, to be written: its pixels' samples in the order r, g, b, a, a
+    /// short sample with the more significant byte first, and no padding.
+    pub fn row_mut(&mut self, y: i64) -> &mut [u8]
+        requires part { IsPart self.old }
+        requires inside { (self.old.rect.y1 ≤ℤ y) × (y <ℤ self.old.rect.y2) }
+        ensures* writes_back { sem 𝓛 (LendsPartRow self.entry y result) }
+        ensures stored { IsStored self.old.image.now }
+        ensures rows { HasRows self.old.image.now.raster }
+        ensures len { length result.now ≡ columns self.old.rect * pixel_size self.old.image.now.depth self.old.image.now.components }
+        ensures pixels { (x : ℤ) → Holds self.old.rect x y → pixel_in self.old.image.now.depth self.old.image.now.components result.now (int_gap self.old.rect.x1 x) ≡ shown self.old.image.now x y }
+    {
+        let rect = self.rect;
+        self.image.row_mut(rect, y)
+    }
+}

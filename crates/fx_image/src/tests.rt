@@ -1,0 +1,59 @@
+use crate::Image;
+use fx_base::Rect;
+use fx_pixel::{Components, Depth, Pixel};
+use std::test::Fail;
+
+fn grey(v: u16) -> Pixel {
+    Pixel::Rgba {
+        r: v,
+        g: v,
+        b: v,
+        a: v,
+    }
+}
+
+#[test]
+fn pixels_are_put_and_read(rt: HostRuntime) -> Result<(), Fail> {
+    let rect = Rect::of(-1, 2, 2, 4);
+    let mut image = Image::new(rt.alloc(), rect, Depth::Short, Components::Rgba, 25)?;
+    assert_eq!(rt; (image.rect(), image.row_bytes()), (rect, 25));
+    assert_eq!(rt;
+        (image.depth(), image.components()),
+        (Depth::Short, Components::Rgba)
+    );
+    image.put(1, 3, grey(258));
+    assert_eq!(rt; image.at(1, 3), grey(258));
+    for (x, y) in [(0, 3), (1, 2), (-1, 2), (2, 3), (1, 4), (-2, 3), (1, 1)] {
+        assert_eq!(rt; image.at(x, y), grey(0), "at {x} {y}");
+    }
+    Ok(())
+}
+
+#[test]
+fn parts_are_written_by_rows(rt: HostRuntime) -> Result<(), Fail> {
+    let mut image = Image::new(
+        rt.alloc(),
+        Rect::of(0, 0, 3, 2),
+        Depth::Short,
+        Components::Alpha,
+        8,
+    )?;
+    let mut part = image.part(Rect::of(1, 1, 3, 2));
+    assert_eq!(rt; part.rect(), Rect::of(1, 1, 3, 2));
+    assert_eq!(rt;
+        (part.depth(), part.components()),
+        (Depth::Short, Components::Alpha)
+    );
+    let row = part.row_mut(1);
+    assert_eq!(rt; row.len(), 4);
+    row[0] = 1;
+    row[1] = 2;
+    part.put(2, 1, Pixel::Alpha { a: 65535 });
+    assert_eq!(rt; part.at(1, 1), Pixel::Alpha { a: 258 });
+    assert_eq!(rt; part.at(0, 1), Pixel::Alpha { a: 0 });
+    let shown = [(0, 1, 0), (1, 1, 258), (2, 1, 65535), (1, 0, 0), (3, 1, 0)];
+    for (x, y, a) in shown {
+        assert_eq!(rt; image.at(x, y), Pixel::Alpha { a }, "at {x} {y}");
+    }
+    Ok(())
+}
