@@ -1,0 +1,4 @@
+mod Slope
+mod KeyLemmas
+mod ValueLemmas
+mod ParamLemmas
