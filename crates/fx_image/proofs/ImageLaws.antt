@@ -1,7 +1,6 @@
 -- The pixels of an image, by the bytes of its rows.
-use Rattle.std.proofs.Common.{◌≡◌, ◌≤◌, ◌<◌, ◌⊎◌, inl, inr, ℕ, ◌+◌, ◌-◌, ◌*◌, ℤ, pos, negsuc, ◌+ℤ◌, ◌-ℤ◌, ◌≤ℤ◌, ◌<ℤ◌, Bool, true, false, List, length, take, drop, replicate, slice_index, refl, sym, ap, rules, arith, ◌∙◌, FitsSigned, w64}
+use Rattle.std.proofs.Common.{◌≡◌, ◌≤◌, ◌<◌, inl, inr, ℕ, ◌+◌, ◌*◌, ℤ, pos, negsuc, ◌+ℤ◌, ◌-ℤ◌, ◌≤ℤ◌, ◌<ℤ◌, Bool, true, false, length, replicate, slice_index, refl, ap, rules, arith, ◌∙◌, FitsSigned, w64}
 use Rattle.std.specs.Int.{int_gap}
-use Rattle.std.specs.Int.Signed.{le_z, lt_z}
 use Rattle.std.proofs.lemmas.Int.{ints}
 use Rattle.std.proofs.lemmas.List.{places}
 use Rattle.std.proofs.Math.Nat.{mul-le-mul_right}
@@ -12,7 +11,7 @@ use Rattle.fx_pixel.specs.declared.Depth.TheVariants.{Byte, Short}
 use Rattle.fx_pixel.specs.declared.Components.{Components}
 use Rattle.fx_pixel.specs.declared.Components.TheVariants as components
 use Rattle.fx_pixel.specs.Pixel.{zero}
-use Rattle.fx_image.specs.Rows.{Raster, row_of, HasRows}
+use Rattle.fx_image.specs.Rows.{row_of, HasRows}
 use Rattle.fx_image.specs.Stored.{Stored, IsStored, pixel_size, pixel_in, shown}
 use Rattle.fx_image.specs.Runs.{IsRun, place_of, bytes_of, run_of}
 use Rattle.fx_image.proofs.RowsLaws.{row_length, rows_apart}

@@ -2,12 +2,11 @@
 use Rattle.std.proofs.Common.{◌≡◌, ◌≢◌, ◌≤◌, ◌<◌, ◌⊎◌, inl, inr, ℕ, ◌+◌, ◌-◌, ◌*◌, ℤ, pos, ◌+ℤ◌, ◌≤ℤ◌, ◌<ℤ◌, Bool, true, false, List, length, refl, sym, ap, arith, ◌∙◌}
 use Rattle.std.specs.Int.{int_gap}
 use Rattle.std.proofs.lemmas.Int.{ints, by_lt_z}
-use Rattle.std.proofs.Math.Nat.{mul-le-mul_right, suc-mul}
+use Rattle.std.proofs.Math.Nat.{mul-le-mul_right}
 use Rattle.std.proofs.lemmas.List.{length-set}
 use Rattle.fx_base.specs.Rect.{within}
 use Rattle.fx_pixel.specs.declared.Pixel.{Pixel}
-use Rattle.fx_pixel.specs.Pixel.{zero}
-use Rattle.fx_image.specs.Rows.{Raster, row_of, written, with_run, HasRows}
+use Rattle.fx_image.specs.Rows.{row_of, written, HasRows}
 use Rattle.fx_image.specs.Stored.{Stored, IsStored, SameFrame, pixel_size, pixel_in, shown}
 use Rattle.fx_image.specs.Runs.{IsRun, place_of, bytes_of}
 use Rattle.fx_image.specs.ImageLending.{with_row, Puts}

@@ -1,11 +1,10 @@
 -- The pixels of a row of bytes, read from a run of it and after a run was written.
-use Rattle.std.proofs.Common.{◌≡◌, ◌≤◌, ◌<◌, ◌⊎◌, inl, inr, ℕ, ◌+◌, ◌-◌, ◌*◌, List, length, take, drop, slice_index, refl, ap, rules, arith, ◌∙◌}
+use Rattle.std.proofs.Common.{◌≡◌, ◌≤◌, ◌<◌, ℕ, ◌+◌, ◌-◌, ◌*◌, List, length, take, drop, slice_index, ap, arith, ◌∙◌}
 use Rattle.std.proofs.lemmas.List.{places}
 use Rattle.fx_pixel.specs.declared.Depth.{Depth}
 use Rattle.fx_pixel.specs.declared.Depth.TheVariants.{Byte, Short}
 use Rattle.fx_pixel.specs.declared.Components.{Components}
 use Rattle.fx_pixel.specs.declared.Components.TheVariants as components
-use Rattle.fx_pixel.specs.declared.Pixel.{Pixel}
 use Rattle.fx_pixel.specs.declared.Pixel.TheVariants.{Rgba, Alpha}
 use Rattle.fx_pixel.specs.Pixel.{size}
 use Rattle.fx_image.specs.Rows.{written}

@@ -1,10 +1,10 @@
 -- Where rows lie in their block, and what is read after a run was written.
-use Rattle.std.proofs.Common.{ℕ, ◌≡◌, ◌≤◌, ◌<◌, ◌+◌, ◌-◌, ◌*◌, ◌/◌, ◌%◌, List, [], ◌++◌, ◌∷◌, length, take, drop, slice_index_or, slice_set, refl, sym, ap, rules, arith, ◌∙◌, ◌≢◌, ◌⊎◌, inl, inr}
+use Rattle.std.proofs.Common.{ℕ, ◌≡◌, ◌≤◌, ◌<◌, ◌+◌, ◌-◌, ◌*◌, ◌/◌, ◌%◌, List, [], ◌++◌, length, take, drop, slice_index_or, slice_set, refl, sym, ap, rules, arith, ◌∙◌, ◌≢◌, ◌⊎◌, inl, inr}
 use Rattle.std.specs.List.{length_refill}
 use Rattle.std.proofs.Math.Nat.{suc-mul, mul-le-mul_right}
 use Rattle.std.proofs.lemmas.Bool.{cases_eq, cases_order}
 use Rattle.std.proofs.lemmas.Nat.{mod_below, div-add-mod'}
-use Rattle.std.proofs.lemmas.List.{get_or-set_same, get_or-set_other, places, same_lists, get_or_read, length-set}
+use Rattle.std.proofs.lemmas.List.{get_or-set_same, get_or-set_other, places, same_lists, get_or_read}
 use Rattle.fx_image.specs.Rows.{Raster, row_of, block_of, start_of, written, with_run, HasRows}
 
 pub row_fits : (y step pitch : ℕ) → 0 < step → (y % step) * pitch + pitch ≤ step * pitch

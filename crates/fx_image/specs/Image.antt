@@ -1,5 +1,5 @@
 -- Images: a rectangle, a depth, components, and a pixel for each place of the rectangle. An image has no rows, strides or bytes.
-use Rattle.std.specs.Prelude.{◌≡◌, ℤ, if◌then◌else◌}
+use Rattle.std.specs.Prelude.{ℤ, if◌then◌else◌}
 use Rattle.fx_base.specs.Bounds.{Bounds}
 use Rattle.fx_base.specs.Rect.{within}
 use Rattle.fx_pixel.specs.declared.Depth.{Depth}

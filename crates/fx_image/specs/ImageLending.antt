@@ -3,7 +3,7 @@ use Rattle.std.specs.Prelude.{◌≡◌, ℕ, ◌*◌, ℤ, List, ◌⊎◌, ◌
 use Rattle.std.specs.Int.{int_gap}
 use Rattle.std.specs.Borrow.{Lends, MutBor, Fml, Array, u8}
 use Rattle.fx_pixel.specs.declared.Pixel.{Pixel}
-use Rattle.fx_image.specs.Rows.{row_of, with_run}
+use Rattle.fx_image.specs.Rows.{with_run}
 use Rattle.fx_image.specs.Stored.{Stored, SameFrame, pixel_size, shown}
 use Rattle.fx_image.specs.contracts.image.Image.{the_row}
 

@@ -1,5 +1,5 @@
 -- Rows of bytes in blocks of whole rows. A block can be moved without copying its rows.
-use Rattle.std.specs.Prelude.{◌≡◌, ℕ, ◌+◌, ◌-◌, ◌*◌, ◌/◌, ◌%◌, ◌<◌, ◌≤◌, List, [], ◌++◌, length, take, drop, slice_index_or, slice_set}
+use Rattle.std.specs.Prelude.{ℕ, ◌+◌, ◌*◌, ◌/◌, ◌%◌, ◌<◌, ◌≤◌, List, [], ◌++◌, length, take, drop, slice_index_or, slice_set}
 
 -- rows of `pitch` bytes, `step` of them in each block
 pub record Raster : Type 0 where

@@ -3,14 +3,19 @@ use fx_base::Rect;
 use fx_pixel::{Components, Depth, Pixel};
 use std::test::Fail;
 
-fn grey(v: u16) -> Pixel {
-    Pixel::Rgba {
-        r: v,
-        g: v,
-        b: v,
-        a: v,
-    }
-}
+const GREY: Pixel = Pixel::Rgba {
+    r: 258,
+    g: 258,
+    b: 258,
+    a: 258,
+};
+
+const CLEAR: Pixel = Pixel::Rgba {
+    r: 0,
+    g: 0,
+    b: 0,
+    a: 0,
+};
 
 #[test]
 fn pixels_are_put_and_read(rt: HostRuntime) -> Result<(), Fail> {
@@ -21,10 +26,10 @@ fn pixels_are_put_and_read(rt: HostRuntime) -> Result<(), Fail> {
         (image.depth(), image.components()),
         (Depth::Short, Components::Rgba)
     );
-    image.put(1, 3, grey(258));
-    assert_eq!(rt; image.at(1, 3), grey(258));
+    image.put(1, 3, GREY);
+    assert_eq!(rt; image.at(1, 3), GREY);
     for (x, y) in [(0, 3), (1, 2), (-1, 2), (2, 3), (1, 4), (-2, 3), (1, 1)] {
-        assert_eq!(rt; image.at(x, y), grey(0), "at {x} {y}");
+        assert_eq!(rt; image.at(x, y), CLEAR, "at {x} {y}");
     }
     Ok(())
 }

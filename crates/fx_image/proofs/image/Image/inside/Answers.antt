@@ -1,4 +1,4 @@
-use Rattle.std.proofs.Common.{◌∙◌, ◌≡◌, ℤ, pos, ◌+ℤ◌, ap, arith}
+use Rattle.std.proofs.Common.{◌∙◌, ◌≡◌, pos, ◌+ℤ◌, ap, arith}
 use Rattle.std.proofs.lemmas.Int.{ints, to_z-of_z}
 use Rattle.fx_image.specs.Stored.{Stored, pixel_in, shown}
 use Rattle.fx_image.proofs.ImageLaws.{run_here, run_shown}

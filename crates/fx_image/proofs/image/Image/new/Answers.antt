@@ -1,4 +1,4 @@
-use Rattle.std.proofs.Common.{◌<◌, ap, sym, subst, replicate, ◌∙◌}
+use Rattle.std.proofs.Common.{ap, sym, replicate, ◌∙◌}
 use Rattle.fx_image.proofs.ImageLaws.{zeros_shown}
 use Rattle.fx_image.proofs.image.Image.new.Goals as goal
 

@@ -1,11 +1,8 @@
-use Rattle.std.proofs.Common.{◌≡◌, ◌≤ℤ◌, ◌∙◌, ℤ, pos, negsuc, ◌*◌, ap, sym, subst, refl, FitsSigned, w64, arith, to_z, of_z}
+use Rattle.std.proofs.Common.{◌≡◌, ◌≤ℤ◌, ◌∙◌, ℤ, pos, negsuc, ◌*◌, ap, refl, w64, arith, to_z, of_z}
 use Rattle.std.specs.Int.{int_gap}
 use Rattle.std.proofs.lemmas.Int.{ints, to_z-of_z}
 use Rattle.fx_base.specs.Bounds.{Bounds, IsRect}
-use Rattle.fx_base.specs.Rect.{columns}
-use Rattle.fx_image.specs.Stored.{Stored, IsStored, pixel_in, pixel_size}
-use Rattle.fx_image.specs.Runs.{run_of}
-use Rattle.fx_image.specs.ImageLending.{with_row}
+use Rattle.fx_image.specs.Stored.{IsStored, pixel_in, pixel_size}
 use Rattle.fx_image.proofs.ImageLaws.{inside_from, IsInside, near_inside, row_run, fits_near, row_shown}
 use Rattle.fx_image.proofs.image.Image.row_mut.Goals as goal
 

@@ -1,9 +1,8 @@
-use Rattle.std.proofs.Common.{◌≡◌, ◌+◌, ◌-◌, ◌*◌, ℕ, List, take, drop, length, ◌∙◌, ap, refl, sym, arith}
+use Rattle.std.proofs.Common.{◌≡◌, ◌+◌, ◌-◌, ◌*◌, ℕ, take, drop, ◌∙◌, ap, refl, arith}
 use Rattle.std.specs.Int.{int_gap}
 use Rattle.std.proofs.lemmas.Int.{to_z-of_z}
 use Rattle.fx_image.specs.Rows.{row_of, with_run}
 use Rattle.fx_image.specs.Stored.{Stored, pixel_size}
-use Rattle.fx_image.specs.ImageLending.{with_row}
 use Rattle.fx_image.specs.Runs.{run_of, place_of}
 use Rattle.fx_image.proofs.image.Image.run_mut.Goals as goal
 
