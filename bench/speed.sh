@@ -1,0 +1,32 @@
+#!/usr/bin/env bash
+# speed.sh: the cost of one ask of a core for a kept key, one taking and giving of a turn, and the same
+# in eight threads on one slot, in nanoseconds. It times `fx_speed` with a large count and with 0.
+set -eu
+here=$(cd "$(dirname "${BASH_SOURCE[0]}")/.." && pwd)
+program=$here/crates/fx_speed/out/fx_speed
+
+if [ ! -x "$program" ]; then
+  echo "speed.sh: build the program first: rt run, in crates/fx_speed" >&2
+  exit 2
+fi
+
+# The nanoseconds that the program takes with these words.
+took() {
+  local from to
+  from=$(date +%s%N)
+  "$program" "$@" >/dev/null
+  to=$(date +%s%N)
+  echo $((to - from))
+}
+
+# measure WORD COUNT TIMES WHAT: the program does COUNT of them, and each counts for so many.
+measure() {
+  local empty full
+  empty=$(took "$1" 0)
+  full=$(took "$1" "$2")
+  echo "$4: $(((full - empty) / ($2 * $3))) ns"
+}
+
+measure kept 10000000 1 'an ask for one of 4,096 kept keys'
+measure turn 10000000 1 'a turn taken and given, alone'
+measure turns 1000000 8 'a turn taken and given, among eight threads on one slot'
