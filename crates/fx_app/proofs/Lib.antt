@@ -1,3 +1,2 @@
 pub mod JsonLemmas
-pub mod PamLemmas
 pub mod RunLemmas

@@ -8,7 +8,8 @@ use Rattle.fx_base.specs.Pattern.{name_of}
 use Rattle.fx_scene.specs.Scene.{Graph, picture}
 use Rattle.fx_app.specs.Words.{order_of}
 use Rattle.fx_app.specs.GraphFile.{graph_of}
-use Rattle.fx_app.specs.Pam.{pam_text}
+use Rattle.fx_pixel.specs.declared.Format.TheVariants.{RgbAlpha}
+use Rattle.fx_pam.specs.Text.{pam_text}
 
 -- the graph whose bytes the library tells under a name
 abbrev pub graph_under : Files → List ℕ → Option Graph
@@ -34,7 +35,7 @@ file_name graph frame = name_of graph.file frame
 
 -- the files of a graph's frames, which are frame 0 alone: the text of its picture
 abbrev pub files_of : Graph → Files
-files_of graph name = if bytes_eq (file_name graph 0) name then Some (pam_text (picture graph (pos 0))) else None
+files_of graph name = if bytes_eq (file_name graph 0) name then Some (pam_text RgbAlpha (picture graph (pos 0))) else None
 
 -- files, with others in the place of those of their names
 abbrev pub overridden : Files → Files → Files

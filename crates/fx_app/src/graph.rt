@@ -87,7 +87,7 @@ fn is_first_frame(range: &Value) -> bool
 
 fn sides_in(graph: &Value) -> Option<(u32, u32)>
     ensures value { result ≡ option_and_then sides_of (get (codes "project") (view graph.now)) }
-    ensures small { IfSome result (λ sides. (sides.0 ≤ 4096) × (sides.1 ≤ 4096)) }
+    ensures range { IfSome result (λ sides. (1 ≤ sides.0) × (sides.0 ≤ 4096) × (1 ≤ sides.1) × (sides.1 ≤ 4096)) }
 {
     match graph.get("project") {
         Some(project) => sides_of(project),
@@ -98,7 +98,7 @@ fn sides_in(graph: &Value) -> Option<(u32, u32)>
 // The width and the height.
 fn sides_of(project: &Value) -> Option<(u32, u32)>
     ensures value { result ≡ sides_of (view project.now) }
-    ensures small { IfSome result (λ sides. (sides.0 ≤ 4096) × (sides.1 ≤ 4096)) }
+    ensures range { IfSome result (λ sides. (1 ≤ sides.0) × (sides.0 ≤ 4096) × (1 ≤ sides.1) × (sides.1 ≤ 4096)) }
 {
     let keys = ["width", "height", "depth", "components"];
     if !is_object_of(&keys, project) {
@@ -115,7 +115,7 @@ fn sides_of(project: &Value) -> Option<(u32, u32)>
 
 fn side_at(key: &str, project: &Value) -> Option<u32>
     ensures value { result ≡ side_at key.now (view project.now) }
-    ensures small { IfSome result (λ n. n ≤ 4096) }
+    ensures range { IfSome result (λ n. (1 ≤ n) × (n ≤ 4096)) }
 {
     match whole_at(key, project) {
         Some(n) if 1 <= n && n <= 4096 => Some(n as u32),

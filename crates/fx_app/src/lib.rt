@@ -4,9 +4,9 @@
 //! graph's value.
 #![tactic(auto)]
 
+mod frame;
 mod graph;
 mod json;
-mod pam;
 mod steps;
 mod words;
 

@@ -5,8 +5,8 @@ ghost use Rattle.fx_app.specs.Words.{order_of};
 ghost use Rattle.fx_app.specs.Run.{is_status, files_of, overridden, graph_under, graph_named, IsRefused, NamesNoGraph, file_name, Gains, Changes, NamesFile, HasGained, HasChanged, IsFileName};
 ghost use Rattle.fx_app.specs.declared.steps.Failure.TheVariants.{Memory as OutOfMemory};
 
+use crate::frame::picture_text;
 use crate::graph::{GraphFault, read_graph};
-use crate::pam::picture_text;
 use crate::words::order_of;
 use fx_base::Memory;
 use fx_outside::{Depot, FetchFault, Library, Pace, PutFault, Sink};

@@ -1,7 +1,7 @@
 -- The pixels of an image, by the bytes of its rows.
-use Rattle.std.proofs.Common.{◌≡◌, ◌≤◌, ◌<◌, inl, inr, ℕ, ◌+◌, ◌*◌, ℤ, pos, negsuc, ◌+ℤ◌, ◌-ℤ◌, ◌≤ℤ◌, ◌<ℤ◌, Bool, true, false, length, replicate, slice_index, refl, ap, rules, arith, ◌∙◌, FitsSigned, w64}
+use Rattle.std.proofs.Common.{◌≡◌, ◌≤◌, ◌<◌, inl, inr, ℕ, ◌+◌, ◌*◌, ℤ, pos, negsuc, ◌+ℤ◌, ◌-ℤ◌, ◌≤ℤ◌, ◌<ℤ◌, Bool, true, false, length, replicate, slice_index, refl, ap, rules, arith, ◌∙◌, FitsSigned, w64, to_z, of_z}
 use Rattle.std.specs.Int.{int_gap}
-use Rattle.std.proofs.lemmas.Int.{ints}
+use Rattle.std.proofs.lemmas.Int.{ints, to_z-of_z}
 use Rattle.std.proofs.lemmas.List.{places}
 use Rattle.std.proofs.Math.Nat.{mul-le-mul_right}
 use Rattle.fx_base.specs.Bounds.{Bounds, IsRect}
@@ -155,3 +155,7 @@ row_shown s r y there x inside =
     let place = place_from r x y inside in
     let here = gap_is r.x1 x place.left in
     run_shown s r.x1 y (columns r) (int_gap r.x1 x) (row_run s r y there) (gap_below r.x1 x r.x2 place.left place.right) ∙ ap (λ column. shown s column y) here
+
+-- the left column of a rectangle with a row, as the code has it
+pub left_column : (r s : Bounds) (y x : ℤ) → IsInside r s y → r.x2 ≤ℤ pos 1073741824 → negsuc 1073741823 ≤ℤ r.x1 → x ≡ r.x1 → to_z w64 (of_z w64 x) ≡ r.x1
+left_column r s y x there right left is = ap (λ z. to_z w64 (of_z w64 z)) is ∙ to_z-of_z w64 r.x1 (fits_near r.x1 left (omega (arith, ints, there.wide)))

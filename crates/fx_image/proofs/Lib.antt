@@ -3,3 +3,4 @@ pub mod RowsMade
 pub mod PixelLaws
 pub mod ImageLaws
 pub mod ImageWrites
+pub mod PartLaws

@@ -29,7 +29,7 @@ short_of : (a b c d : ℕ) → a ≡ c → b ≡ d → 256 * a + b ≡ 256 * c +
 short_of a b c d p q = ap (λ x. 256 * x + b) p ∙ ap (λ y. 256 * c + y) q
 
 -- a sample of a run of a row is a sample of the row
-sample_of_run : (depth : Depth) (row : List ℕ) (from n i j : ℕ) → size depth * j ≡ from + size depth * i → size depth * i + size depth ≤ n → sample_in depth (take n (drop from row)) i ≡ sample_in depth row j
+pub sample_of_run : (depth : Depth) (row : List ℕ) (from n i j : ℕ) → size depth * j ≡ from + size depth * i → size depth * i + size depth ≤ n → sample_in depth (take n (drop from row)) i ≡ sample_in depth row j
 sample_of_run Byte row from n i j e h = read_run row from n i (omega arith) ∙ same_place row (from + i) j (omega arith)
 sample_of_run Short row from n i j e h =
     short_of _ _ _ _ (read_run row from n (2 * i) (omega arith) ∙ same_place row (from + 2 * i) (2 * j) (omega arith))

@@ -5,3 +5,4 @@ pub mod Stored
 pub mod Runs
 pub mod ImageLending
 pub mod Part
+pub mod View

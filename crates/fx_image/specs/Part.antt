@@ -1,11 +1,13 @@
 -- Parts of an image, to be written row by row.
-use Rattle.std.specs.Prelude.{◌≡◌, ℤ, ℕ, ◌<ℤ◌, List, [], if◌then◌else◌}
+use Rattle.std.specs.Prelude.{◌≡◌, ℤ, ℕ, pos, ◌+ℤ◌, ◌≤ℤ◌, ◌<ℤ◌, ◌*◌, List, [], length, if◌then◌else◌}
+use Rattle.std.specs.Int.{int_gap}
 use Rattle.std.specs.Borrow.{Lends, MutBor, Fml, Array, u8}
 use Rattle.fx_base.specs.Bounds.{IsRect}
-use Rattle.fx_base.specs.Rect.{Holds, IsWithin, within}
+use Rattle.fx_base.specs.Rect.{Holds, IsWithin, within, columns}
 use Rattle.fx_pixel.specs.declared.Pixel.{Pixel}
 use Rattle.fx_pixel.specs.Pixel.{zero}
-use Rattle.fx_image.specs.Stored.{Stored, SameFrame, shown}
+use Rattle.fx_image.specs.Rows.{HasRows}
+use Rattle.fx_image.specs.Stored.{Stored, IsStored, SameFrame, pixel_size, pixel_in, shown}
 use Rattle.fx_image.specs.ImageLending.{with_row}
 use Rattle.fx_image.specs.declared.part.Part.{Part}
 use Rattle.fx_image.specs.contracts.part.Part as part
@@ -39,3 +41,15 @@ pub record WroteRows (p : Part) (now : Stored) (y : ℤ) (f : ℤ → ℤ → Pi
 -- the part q is what the part p has become: it shows f's pixels, and no other pixel of the image changed
 abbrev pub IsWritten : Part → Part → (ℤ → ℤ → Pixel) → Type 0
 IsWritten p q f = SamePart p q × WroteRows p q.image.now p.rect.y2 f
+
+-- Of the part q, which p has become, the bytes ws come to row y, where f's pixels are; the rows below show f already.
+pub record IsNextRow (p q : Part) (y : ℤ) (f : ℤ → ℤ → Pixel) (ws : List ℕ) : Type 0 where
+  pub same : SamePart p q
+  pub part : IsPart p
+  pub stored : IsStored q.image.now
+  pub rows : HasRows q.image.now.raster
+  pub above : p.rect.y1 ≤ℤ y
+  pub below : y <ℤ p.rect.y2
+  pub long : length ws ≡ columns p.rect * pixel_size q.image.now.depth q.image.now.components
+  pub right : (x : ℤ) → Holds p.rect x y → pixel_in q.image.now.depth q.image.now.components ws (int_gap p.rect.x1 x) ≡ f x y
+  pub before : WroteRows p q.image.now y f

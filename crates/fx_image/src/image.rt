@@ -4,10 +4,11 @@ ghost use Rattle.std.specs.Int.{int_gap};
 ghost use Rattle.fx_base.specs.Rect.{Holds, IsWithin, columns, rows, IsNear};
 ghost use Rattle.fx_pixel.specs.Pixel.{zero, size, components_of, IsOfDepth};
 ghost use Rattle.fx_image.specs.Rows.{HasRows};
-ghost use Rattle.fx_image.specs.Stored.{IsStored, pixel_size, sample_in, pixel_in, shown};
+ghost use Rattle.fx_image.specs.Stored.{IsStored, pixel_size, pixel_in, shown};
 ghost use Rattle.fx_image.specs.Runs.{IsRun, run_of};
 
 use crate::rows::Rows;
+use crate::samples::{pixel, pixel_size, set_pixel};
 use fx_base::{Memory, Rect};
 use fx_pixel::{Components, Depth, Pixel};
 use std::alloc::Global;
@@ -103,7 +104,20 @@ impl Image {
         requires { Holds self.now.rect x y }
         ensures { result ≡ shown self.now x y }
     {
-        first_pixel(self.depth, self.components, self.run(x, y, 1))
+        pixel(self.depth, self.components, self.run(x, y, 1), 0)
+    }
+
+    // The bytes of row y of a rectangle of the image.
+    pub(crate) fn row(&self, rect: Rect, y: i64) -> &[u8]
+        requires within { IsWithin rect self.now.rect }
+        requires inside { (rect.y1 ≤ℤ y) × (y <ℤ rect.y2) }
+        ensures len { length result.now ≡ columns rect * pixel_size self.now.depth self.now.components }
+        ensures pixels { (x : ℤ) → Holds rect x y → pixel_in self.now.depth self.now.components result.now (int_gap rect.x1 x) ≡ shown self.now x y }
+    {
+        // Reading it tells the proof that the rows are there.
+        let _stored = self.depth;
+        let x = rect.x1;
+        self.run(x, y, columns_in(rect))
     }
 
     // The bytes of n pixels of row y from column x on.
@@ -147,6 +161,7 @@ impl Image {
         ensures len { length result.now ≡ columns rect * pixel_size self.old.depth self.old.components }
         ensures pixels { (x : ℤ) → Holds rect x y → pixel_in self.old.depth self.old.components result.now (int_gap rect.x1 x) ≡ shown self.old x y }
     {
+        // Reading it tells the proof that the rows are there.
         let _stored = self.depth;
         let x = rect.x1;
         self.run_mut(x, y, columns_in(rect))
@@ -164,29 +179,7 @@ impl Image {
         ensures { Puts x y p self.old self.new }
     {
         let depth = self.depth;
-        write_pixel(depth, p, self.run_mut(x, y, 1));
-    }
-}
-
-// The pixel's samples as bytes, the more significant first.
-fn write_pixel(depth: Depth, p: Pixel, row: &mut [u8])
-    requires length { length row.old ≡ pixel_size depth (components_of p) }
-    requires depth { IsOfDepth depth p }
-    ensures { pixel_in depth (components_of p) row.new 0 ≡ p }
-{
-    match (depth, p) {
-        (Depth::Byte, Pixel::Rgba { r, g, b, a }) => {
-            row.copy_from_slice(&[r as u8, g as u8, b as u8, a as u8])
-        }
-        (Depth::Byte, Pixel::Alpha { a }) => row.copy_from_slice(&[a as u8]),
-        (Depth::Short, Pixel::Rgba { r, g, b, a }) => {
-            let [r1, r2] = r.to_be_bytes();
-            let [g1, g2] = g.to_be_bytes();
-            let [b1, b2] = b.to_be_bytes();
-            let [a1, a2] = a.to_be_bytes();
-            row.copy_from_slice(&[r1, r2, g1, g2, b1, b2, a1, a2])
-        }
-        (Depth::Short, Pixel::Alpha { a }) => row.copy_from_slice(&a.to_be_bytes()),
+        set_pixel(depth, self.run_mut(x, y, 1), 0, p);
     }
 }
 
@@ -228,41 +221,4 @@ fn rows_in(rect: Rect) -> usize
 {
     let top = rect.y2;
     row_in(rect, top)
-}
-
-// How many bytes a pixel has.
-fn pixel_size(depth: Depth, components: Components) -> usize
-    ensures value { result ≡ pixel_size depth components }
-    ensures small { result ≤ 8 }
-{
-    (components.count() * depth.size()) as usize
-}
-
-// The sample of a byte, or of two with the more significant first.
-fn sample_in(depth: Depth, row: &[u8], i: usize) -> u16
-    requires { size depth * i + size depth ≤ length row.now }
-    ensures { result ≡ sample_in depth row.now i }
-{
-    match depth {
-        Depth::Byte => u16::from(row[i]),
-        Depth::Short => 256 * u16::from(row[2 * i]) + u16::from(row[2 * i + 1]),
-    }
-}
-
-// The first pixel of a row of bytes.
-fn first_pixel(depth: Depth, components: Components, row: &[u8]) -> Pixel
-    requires { pixel_size depth components ≤ length row.now }
-    ensures { result ≡ pixel_in depth components row.now 0 }
-{
-    match components {
-        Components::Rgba => Pixel::Rgba {
-            r: sample_in(depth, row, 0),
-            g: sample_in(depth, row, 1),
-            b: sample_in(depth, row, 2),
-            a: sample_in(depth, row, 3),
-        },
-        Components::Alpha => Pixel::Alpha {
-            a: sample_in(depth, row, 0),
-        },
-    }
 }

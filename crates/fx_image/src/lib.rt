@@ -4,10 +4,14 @@
 #![tactic(auto)]
 
 mod image;
+pub mod laws;
 mod part;
 mod rows;
+pub mod samples;
 #[cfg(test)]
 mod tests;
+mod view;
 
 pub use image::Image;
 pub use part::Part;
+pub use view::View;

@@ -30,7 +30,8 @@ impl Image {
         ensures rect { result.rect ≡ rect }
         ensures part { IsPart result }
     {
-        let _whole = rect.x1;
+        // Reading it tells the proof that its bounds are a rectangle's.
+        let _bounds = rect.x1;
         Part { image: self, rect }
     }
 }

@@ -1,4 +1,6 @@
 use crate::Image;
+use crate::laws::a_row_is_written;
+use crate::samples::{pixel, pixel_size, sample, set_pixel};
 use fx_base::Rect;
 use fx_pixel::{Components, Depth, Pixel};
 use std::test::Fail;
@@ -35,6 +37,32 @@ fn pixels_are_put_and_read(rt: HostRuntime) -> Result<(), Fail> {
 }
 
 #[test]
+fn views_are_read_by_rows(rt: HostRuntime) -> Result<(), Fail> {
+    let rect = Rect::of(0, 0, 2, 1);
+    let mut image = Image::new(rt.alloc(), rect, Depth::Short, Components::Rgba, 16)?;
+    image.put(1, 0, GREY);
+    let view = image.view(Rect::of(1, 0, 2, 1));
+    assert_eq!(rt; view.rect(), Rect::of(1, 0, 2, 1));
+    assert_eq!(rt;
+        (view.depth(), view.components()),
+        (Depth::Short, Components::Rgba)
+    );
+    assert_eq!(rt; (view.at(0, 0), view.at(1, 0)), (CLEAR, GREY));
+    assert_eq!(rt; view.row(0), [1, 2, 1, 2, 1, 2, 1, 2].as_slice());
+    Ok(())
+}
+
+#[test]
+fn pixels_of_a_row_are_read_and_set(rt: HostRuntime) {
+    let mut row = [0u8; 16];
+    set_pixel(Depth::Short, &mut row, 1, GREY);
+    assert_eq!(rt; row, [0, 0, 0, 0, 0, 0, 0, 0, 1, 2, 1, 2, 1, 2, 1, 2]);
+    assert_eq!(rt; sample(Depth::Short, &row, 4), 258);
+    assert_eq!(rt; pixel(Depth::Short, Components::Rgba, &row, 1), GREY);
+    assert_eq!(rt; pixel_size(Depth::Short, Components::Rgba), 8);
+}
+
+#[test]
 fn parts_are_written_by_rows(rt: HostRuntime) -> Result<(), Fail> {
     let mut image = Image::new(
         rt.alloc(),
@@ -49,6 +77,7 @@ fn parts_are_written_by_rows(rt: HostRuntime) -> Result<(), Fail> {
         (part.depth(), part.components()),
         (Depth::Short, Components::Alpha)
     );
+    a_row_is_written();
     let row = part.row_mut(1);
     assert_eq!(rt; row.len(), 4);
     row[0] = 1;

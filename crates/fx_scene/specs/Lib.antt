@@ -1,6 +1,5 @@
 pub mod Table
 pub mod Plan
 pub mod Value
-pub mod Image
 pub mod Solid
 pub mod Scene

@@ -6,7 +6,7 @@ use Rattle.fx_pixel.specs.declared.Components.TheVariants.{Rgba}
 use Rattle.fx_pixel.specs.Pixel.{greatest}
 use Rattle.fx_scene.specs.Plan.{Plan, Effect}
 use Rattle.fx_scene.specs.Value.{value}
-use Rattle.fx_scene.specs.Image.{Image}
+use Rattle.fx_image.specs.Image.{Image}
 use Rattle.fx_scene.specs.declared.solid.Levels.{Levels}
 use Rattle.fx_scene.specs.Solid.{solid}
 

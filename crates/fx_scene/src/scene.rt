@@ -1,10 +1,12 @@
 //! A scene of one solid.
 ghost use Rattle.std.specs.Prelude.{◌≡◌, ◌≤◌, ℤ};
 ghost use Rattle.fx_scene.specs.Value.{value};
-ghost use Rattle.fx_scene.specs.Image.{pixel_at};
-ghost use Rattle.fx_scene.specs.Scene.{plan_of, output, picture};
+ghost use Rattle.fx_image.specs.Image.{pixel_at};
+ghost use Rattle.fx_base.specs.Rect.{Holds};
+ghost use Rattle.fx_scene.specs.Scene.{project, plan_of, output, picture};
+ghost use Rattle.fx_pixel.specs.declared.Components.TheVariants.{Rgba};
 ghost use Rattle.fx_pixel.specs.declared.Depth.TheVariants.{Byte};
-ghost use Rattle.fx_pixel.specs.Pixel.{IsOfDepth};
+ghost use Rattle.fx_pixel.specs.Pixel.{IsOfDepth, components_of};
 
 use crate::Levels;
 use fx_base::Pattern;
@@ -29,14 +31,14 @@ impl Model for Scene {
 
     ghost view = { λ s. record { width = s.width; height = s.height; levels = s.levels; file = s.file } };
 
-    ghost invariant = { λ s. (s.width ≤ 4096) × (s.height ≤ 4096) };
+    ghost invariant = { λ s. (1 ≤ s.width) × (s.width ≤ 4096) × (1 ≤ s.height) × (s.height ≤ 4096) };
 }
 
 impl Scene {
     /// The scene of these parts.
     pub fn new(width: u32, height: u32, levels: Levels, file: Pattern) -> Scene
-        requires wide { width ≤ 4096 }
-        requires high { height ≤ 4096 }
+        requires wide { (1 ≤ width) × (width ≤ 4096) }
+        requires high { (1 ≤ height) × (height ≤ 4096) }
         ensures { result ≡ record { width = width; height = height; levels = levels; file = file } }
     {
         Scene {
@@ -50,7 +52,7 @@ impl Scene {
     /// The project's width in pixels.
     pub fn width(&self) -> u32
         ensures value { result ≡ self.now.width }
-        ensures small { result ≤ 4096 }
+        ensures range { (1 ≤ result) × (result ≤ 4096) }
     {
         self.width
     }
@@ -58,7 +60,7 @@ impl Scene {
     /// The project's height in pixels.
     pub fn height(&self) -> u32
         ensures value { result ≡ self.now.height }
-        ensures small { result ≤ 4096 }
+        ensures range { (1 ≤ result) × (result ≤ 4096) }
     {
         self.height
     }
@@ -68,6 +70,16 @@ impl Scene {
         ensures { result.now ≡ self.now.file }
     {
         &self.file
+    }
+
+    /// The pixel of each frame's picture at each place of the project's extent.
+    #[tactic(auto, unfolding(crate::specs::Value::value))]
+    pub fn colour(&self) -> Pixel
+        ensures value { (t x y : ℤ) → Holds (project self.now) x y → pixel_at (picture self.now t) x y ≡ result }
+        ensures depth { IsOfDepth Byte result }
+        ensures components { components_of result ≡ Rgba }
+    {
+        self.levels.colour()
     }
 
     /// The value of the output node at a frame, a column and a row, which is the pixel of that frame's

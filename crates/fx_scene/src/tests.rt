@@ -22,7 +22,7 @@ fn solid_fills_the_project(rt: HostRuntime) -> Result<(), Fail> {
         b: 0,
         a: 255,
     };
-    assert_eq!(rt; levels.colour(), inside);
+    assert_eq!(rt; (levels.colour(), scene.colour()), (inside, inside));
     for (x, y, is) in [
         (0, 0, true),
         (1, 0, true),

@@ -1,12 +1,18 @@
 //! Does one thing many times, so that a script under `bench/` can time it: `fx_speed kept 1000000` asks
 //! a core for kept keys, `turn` takes and gives a turn, `turns` does so in eight threads on one slot.
-//! Several such pairs are done in their order.
+//! `file` makes the bytes of a PAM file with so many rows of 1,920 pixels and `read` reads them too, of
+//! r, g, b and a; with `rgb`, `scaled` or `short` behind its name, of other samples. `image` makes an
+//! image of that width, and `write` and `write_rgb` write it too. Several such pairs are done in their
+//! order.
 #![tactic(auto)]
 
 mod kept;
 mod number;
+mod pam;
 mod turns;
 
+use fx_pixel::Format;
+use pam::{Kind, Work};
 use std::env;
 use std::process::ExitCode;
 
@@ -33,7 +39,10 @@ fn main(rt: HostRuntime) -> ExitCode {
             "kept" => kept::ask_kept(rt.alloc(), count).ok(),
             "turn" => turns::add_alone(&rt, count).ok(),
             "turns" => turns::add_together(&rt, count).ok(),
-            _ => return ExitCode::from(USAGE),
+            what => match pam_work(what) {
+                Some(work) => work.done(rt.alloc(), count).ok(),
+                None => return ExitCode::from(USAGE),
+            },
         };
         match done {
             Some(number) => {
@@ -43,4 +52,22 @@ fn main(rt: HostRuntime) -> ExitCode {
         }
     }
     ExitCode::SUCCESS
+}
+
+// What is done with PAM files under this word.
+fn pam_work(word: &str) -> Option<Work> {
+    match word {
+        "file" => Some(Work::Make(Kind::Rgba)),
+        "file_rgb" => Some(Work::Make(Kind::Rgb)),
+        "file_scaled" => Some(Work::Make(Kind::Scaled)),
+        "file_short" => Some(Work::Make(Kind::Short)),
+        "read" => Some(Work::Read(Kind::Rgba)),
+        "read_rgb" => Some(Work::Read(Kind::Rgb)),
+        "read_scaled" => Some(Work::Read(Kind::Scaled)),
+        "read_short" => Some(Work::Read(Kind::Short)),
+        "image" => Some(Work::Image),
+        "write" => Some(Work::Write(Format::RgbAlpha)),
+        "write_rgb" => Some(Work::Write(Format::Rgb)),
+        _ => None,
+    }
 }

@@ -10,7 +10,7 @@ returns c =
     let fy = c.ranges.y in
     let run = simp to_z-of_z at c.run.ensures.value in
     let here : (c.args.x +ℤ pos 0) ≡ c.args.x = omega (arith, ints) in
-    c.first_pixel.ensures
+    c.pixel.ensures.value
     ∙ ap (λ depth. pixel_in depth c.self.inside.components c.run.result.now 0) (ap (λ (s : Stored). s.depth) c.self.view_is)
     ∙ ap (λ components. pixel_in c.args.self.now.depth components c.run.result.now 0) (ap (λ (s : Stored). s.components) c.self.view_is)
     ∙ ap (λ bytes. pixel_in c.args.self.now.depth c.args.self.now.components bytes 0) run

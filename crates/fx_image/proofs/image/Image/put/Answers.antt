@@ -16,8 +16,8 @@ returns c =
     let fx = c.ranges.x in
     let fy = c.ranges.y in
     let there =
-    ap (λ depth. pixel_in depth c.args.self.now.components c.write_pixel.new.row 0) (sym (ap (λ (s : Stored). s.depth) c.self.view_is))
-    ∙ ap (λ components. pixel_in c.self.inside.depth components c.write_pixel.new.row 0) (sym c.requires.components)
-    ∙ c.write_pixel.ensures in
+    ap (λ depth. pixel_in depth c.args.self.now.components c.set_pixel.new.row 0) (sym (ap (λ (s : Stored). s.depth) c.self.view_is))
+    ∙ ap (λ components. pixel_in c.self.inside.depth components c.set_pixel.new.row 0) (sym c.requires.components)
+    ∙ c.set_pixel.ensures.there in
     simp to_z-of_z
-    (puts_one c.args.self.now c.args.x c.args.y c.args.p c.write_pixel.new.row c.run_mut.ensures.stored c.run_mut.ensures.rows c.requires.inside (c.write_pixel.auto.row ∙ c.run_mut.ensures.len) there)
+    (puts_one c.args.self.now c.args.x c.args.y c.args.p c.set_pixel.new.row c.run_mut.ensures.stored c.run_mut.ensures.rows c.requires.inside (c.set_pixel.auto.row ∙ c.run_mut.ensures.len) there)

@@ -1,14 +1,10 @@
-use Rattle.std.proofs.Common.{◌≡◌, ◌≤ℤ◌, ◌∙◌, ℤ, pos, negsuc, ◌*◌, ap, refl, w64, arith, to_z, of_z}
+use Rattle.std.proofs.Common.{◌∙◌, ◌*◌, ap, refl, w64}
 use Rattle.std.specs.Int.{int_gap}
-use Rattle.std.proofs.lemmas.Int.{ints, to_z-of_z}
+use Rattle.std.proofs.lemmas.Int.{to_z-of_z}
 use Rattle.fx_base.specs.Bounds.{Bounds, IsRect}
 use Rattle.fx_image.specs.Stored.{IsStored, pixel_in, pixel_size}
-use Rattle.fx_image.proofs.ImageLaws.{inside_from, IsInside, near_inside, row_run, fits_near, row_shown}
+use Rattle.fx_image.proofs.ImageLaws.{inside_from, near_inside, row_run, row_shown, left_column}
 use Rattle.fx_image.proofs.image.Image.row_mut.Goals as goal
-
--- the left column of a rectangle with a row, as the code has it
-left_column : (r s : Bounds) (y x : ℤ) → IsInside r s y → r.x2 ≤ℤ pos 1073741824 → negsuc 1073741823 ≤ℤ r.x1 → x ≡ r.x1 → to_z w64 (of_z w64 x) ≡ r.x1
-left_column r s y x there right left is = ap (λ z. to_z w64 (of_z w64 z)) is ∙ to_z-of_z w64 r.x1 (fits_near r.x1 left (omega (arith, ints, there.wide)))
 
 pub columns_in-requires : goal.columns_in-requires
 columns_in-requires c =

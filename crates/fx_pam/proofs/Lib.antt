@@ -1,0 +1,16 @@
+pub mod NumberLemmas
+pub mod LineLemmas
+pub mod WrittenLines
+pub mod WrittenNumbers
+pub mod WrittenHeader
+pub mod Pieces
+pub mod WrittenSamples
+pub mod WrittenRaster
+pub mod ReadingLaws
+pub mod PixelsBack
+pub mod ReadBack
+pub mod FileImage
+pub mod RasterLemmas
+pub mod TextLaws
+pub mod WrittenRows
+pub mod WrittenImage

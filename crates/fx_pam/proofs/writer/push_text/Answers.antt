@@ -1,0 +1,25 @@
+use Rattle.std.proofs.Common.{◌≡◌, ◌∙◌, ◌++◌, ap, string_bytes, append_assoc, rules}
+use Rattle.std.proofs.lemmas.Result.{on_ok_weaker, on_err_weaker}
+use Rattle.fx_base.specs.Rect.{columns, rows}
+use Rattle.fx_pixel.specs.Pixel.{greatest}
+use Rattle.fx_image.specs.Stored.{image_of}
+use Rattle.fx_pam.specs.Text.{header, raster}
+use Rattle.fx_pam.proofs.WrittenImage.{begun_with}
+use Rattle.fx_pam.proofs.writer.push_text.Goals as goal
+
+pub returns : goal.returns
+returns c =
+    let image = c.args.image.now in
+    let old = c.args.out.now.items in
+    let begun = c.extend_from_slice.new.self.items in
+    let head = header (columns image.rect) (rows image.rect) c.args.format (greatest image.depth) in
+    let text : string_bytes c.in_ok-header.header ≡ head = search rules in
+    let with_head : begun ≡ old ++ head =
+    c.in_ok-extend_from_slice.ensures.items
+    ∙ ap (λ bs. bs ++ c.as_bytes.result.now) c.reserve_exact.ensures.items
+    ∙ ap (λ bs. old ++ bs) (c.as_bytes.ensures.value ∙ text) in
+    let below = raster c.args.format (image_of image) (rows image.rect) in
+    record {
+      ok = on_ok_weaker c.push_rows.result (λ is. is ∙ ap (λ bs. bs ++ below) with_head ∙ append_assoc old head below) c.push_rows.ensures.ok;
+      err = on_err_weaker c.push_rows.result (λ is. begun_with old head begun c.push_rows.new.out.items with_head is) c.push_rows.ensures.err;
+    }

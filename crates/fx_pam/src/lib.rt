@@ -1,0 +1,17 @@
+//! Reads and writes PAM files (Netpbm, the manual page "pam").
+#![tactic(auto)]
+
+mod bytes;
+mod fault;
+pub mod header;
+pub mod laws;
+pub mod numbers;
+mod raster;
+mod reader;
+#[cfg(test)]
+mod tests;
+mod writer;
+
+pub use fault::{PamFault, PamField};
+pub use reader::read;
+pub use writer::write;
