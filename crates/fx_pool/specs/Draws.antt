@@ -1,0 +1,51 @@
+-- What clauses see of a draw and of its seats.
+use Rattle.std.specs.Prelude.{◌≡◌, ℕ, ◌+◌, ◌-◌, ◌==◌, nat_lt, List, [], ◌∷◌, ◌++◌, count_by, if◌then◌else◌}
+
+-- A draw of the numbers below a count. Where the numbers have slots, the items stood in these at first. No other draw has its stamp
+pub record DrawState (S : Type 0) : Type 0 where
+  pub count : ℕ
+  pub items : List S
+  pub stamp : List ℕ
+
+-- A seat has the numbers that it drew, in order, and what its draws found the word at that gave no number
+pub record DrawSeatState (S : Type 0) : Type 0 where
+  pub draw : DrawState S
+  pub parts : ℕ
+  pub drawn : List ℕ
+  pub past : List ℕ
+
+-- as many parts as a draw has
+abbrev pub all_parts : ℕ
+all_parts = 4294967296
+
+-- how often x stands in the list
+abbrev pub times : ℕ → List ℕ → ℕ
+times x ns = count_by (λ n. n == x) ns
+
+abbrev pub once_below : ℕ → ℕ → ℕ
+once_below x n = if nat_lt x n then 1 else 0
+
+-- the numbers below the count, each once, and no others
+abbrev pub AllDrawn : ℕ → List ℕ → Type 0
+AllDrawn count ns = (x : ℕ) → times x ns ≡ once_below x count
+
+module _ {S : Type 0} where
+  abbrev pub first_seat : DrawState S → DrawSeatState S
+  first_seat d = record { draw = d; parts = all_parts; drawn = []; past = [] }
+
+  -- a new seat: one part, and nothing else
+  abbrev pub new_seat : DrawSeatState S → DrawSeatState S
+  new_seat s = record { draw = s.draw; parts = 1; drawn = []; past = [] }
+
+  abbrev pub with_one_part_less : DrawSeatState S → DrawSeatState S
+  with_one_part_less s = record s { parts = s.parts - 1 }
+
+  abbrev pub with_drawn : DrawSeatState S → ℕ → DrawSeatState S
+  with_drawn s n = record s { drawn = s.drawn ++ n ∷ [] }
+
+  abbrev pub with_past : DrawSeatState S → ℕ → DrawSeatState S
+  with_past s n = record s { past = s.past ++ n ∷ [] }
+
+  -- both in one
+  abbrev pub joined : DrawSeatState S → DrawSeatState S → DrawSeatState S
+  joined s t = record s { parts = s.parts + t.parts; drawn = s.drawn ++ t.drawn; past = s.past ++ t.past }
