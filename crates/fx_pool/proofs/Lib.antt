@@ -1,2 +1,4 @@
 pub mod Lists
 pub mod Keeps
+pub mod Rising
+pub mod Gathering

@@ -3,6 +3,11 @@
 #![tactic(auto)]
 
 mod draw;
+mod job;
 mod rule;
+mod work;
+mod worker;
 
 pub use draw::{Draw, DrawSeat};
+pub use job::Job;
+pub use work::Worked;

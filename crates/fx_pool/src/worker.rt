@@ -1,0 +1,114 @@
+//! Workers: how they are set up, and how what they did is put together.
+ghost use Rattle.std.specs.Prelude.{◌≡◌, ℕ, ◌+◌, ◌<◌, ◌≤◌, [], ◌∷◌, ◌++◌, All, IsPermutation, false, length, reverse, vec_capacity, vec_len};
+ghost use Rattle.fx_pool.specs.Draws.{AllDrawn, all_parts};
+ghost use Rattle.fx_pool.specs.Working.{HasEnded, IsFresh, numbers_below, numbers_of, outs_of, seats_of};
+
+use crate::draw::{Draw, DrawSeat};
+use std::alloc::Global;
+
+/// A worker: its seat of the job, its seat of the draw, what it made with the numbers, and whether
+/// memory was wanting.
+#[derive(Drop)]
+pub(crate) struct Worker<S, D, T> {
+    pub(crate) seat: S,
+    pub(crate) draw: DrawSeat<D>,
+    pub(crate) outs: Vec<(u64, T)>,
+    pub(crate) failed: bool,
+}
+
+/// What all workers made, and whether memory was wanting.
+#[derive(Drop)]
+pub(crate) struct Gathered<T> {
+    pub(crate) outs: Vec<(u64, T)>,
+    pub(crate) failed: bool,
+}
+
+// Makes a worker of each seat. The last seat is the first worker's.
+pub(crate) fn set_up<S, D, T>(
+    alloc: Global,
+    draw: &Draw<D>,
+    all: &mut DrawSeat<D>,
+    seats: &mut Vec<S>,
+    workers: &mut Vec<Worker<S, D, T>>,
+)
+    requires draw { (all.old.draw ≡ draw.now) × (all.old.past ≡ []) }
+    requires parts { vec_len seats.old < all.old.parts }
+    requires room { (workers.old.items ≡ []) × (vec_len seats.old ≤ vec_capacity workers.old) }
+    ensures all { (all.new.draw ≡ draw.now) × (all.new.past ≡ all.old.past) × (all.new.drawn ≡ all.old.drawn) × (all.new.parts + vec_len seats.old ≡ all.old.parts) }
+    ensures seats { (seats.new.items ≡ []) × (vec_capacity seats.new ≡ vec_capacity seats.old) }
+    ensures workers { seats_of workers.new.items ≡ reverse seats.old.items }
+    ensures fresh { All (IsFresh draw.now) workers.new.items }
+{
+    while let Some(seat) = seats.pop() {
+        workers.push_reserved(Worker {
+            seat,
+            draw: draw.part(all),
+            outs: Vec::new(alloc),
+            failed: false,
+        });
+    }
+}
+
+// Takes the workers apart, the last one first: their seats, their seats of the draw, and their outs.
+pub(crate) fn gather<S, D, T: Drop>(
+    alloc: Global,
+    draw: &Draw<D>,
+    all: &mut DrawSeat<D>,
+    seats: &mut Vec<S>,
+    mut workers: Vec<Worker<S, D, T>>,
+) -> Gathered<T>
+    requires draw { (all.old.draw ≡ draw.now) × (all.old.drawn ≡ []) × (all.old.past ≡ []) }
+    requires parts { (all.old.parts + vec_len workers ≡ all_parts) × (0 < vec_len workers) }
+    requires ended { All (HasEnded draw.now) workers.items }
+    requires room { (seats.old.items ≡ []) × (vec_len workers ≤ vec_capacity seats.old) }
+    ensures seats { seats.new.items ≡ reverse (seats_of workers.items) }
+    ensures works { result.failed ≡ false → All (λ w. w.failed ≡ false) workers.items }
+    ensures outs { result.failed ≡ false → result.outs.items ≡ outs_of (reverse workers.items) }
+    ensures numbers { result.failed ≡ false → AllDrawn draw.now.count (numbers_of result.outs.items) }
+{
+    let mut gathered = Gathered {
+        outs: Vec::new(alloc),
+        failed: false,
+    };
+    while let Some(worker) = workers.pop() {
+        let Worker {
+            seat,
+            draw: mine,
+            outs,
+            failed,
+        } = worker;
+        seats.push_reserved(seat);
+        draw.join(all, mine);
+        gathered.add(outs, failed);
+    }
+    workers.destroy_empty();
+    gathered
+}
+
+impl<T: Drop> Gathered<T> {
+    // Takes in what one worker made. Where memory is wanting it is let go.
+    fn add(&mut self, mut outs: Vec<(u64, T)>, failed: bool)
+        ensures failed { self.new.failed ≡ false → (self.old.failed ≡ false) × (failed ≡ false) }
+        ensures outs { self.new.failed ≡ false → self.new.outs.items ≡ self.old.outs.items ++ outs.items }
+    {
+        if failed || self.outs.append(&mut outs).is_err() {
+            self.failed = true;
+        }
+    }
+
+    // Puts the outs in the order of their numbers.
+    pub(crate) fn sort(&mut self)
+        ensures same { IsPermutation self.old.outs.items self.new.outs.items }
+        ensures rising { (count : ℕ) → AllDrawn count (numbers_of self.old.outs.items) → numbers_of self.new.outs.items ≡ numbers_below count }
+    {
+        sort_by_number(self.outs.as_mut_slice());
+    }
+}
+
+// Where these are the numbers below a count, each once, they stand in their order afterwards.
+fn sort_by_number<T>(outs: &mut [(u64, T)])
+    ensures same { IsPermutation outs.old outs.new }
+    ensures rising { (count : ℕ) → AllDrawn count (numbers_of outs.old) → numbers_of outs.new ≡ numbers_below count }
+{
+    outs.sort_unstable_by_key(|out| out.0);
+}
