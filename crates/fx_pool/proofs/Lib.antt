@@ -2,3 +2,4 @@ pub mod Lists
 pub mod Keeps
 pub mod Rising
 pub mod Gathering
+pub mod Together

@@ -4,10 +4,10 @@
 
 mod draw;
 mod job;
+mod numbers;
 mod rule;
-mod work;
 mod worker;
 
 pub use draw::{Draw, DrawSeat};
 pub use job::Job;
-pub use work::Worked;
+pub use numbers::{Worked, work};

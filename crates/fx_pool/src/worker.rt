@@ -37,6 +37,7 @@ pub(crate) fn set_up<S, D, T>(
     ensures all { (all.new.draw ≡ draw.now) × (all.new.past ≡ all.old.past) × (all.new.drawn ≡ all.old.drawn) × (all.new.parts + vec_len seats.old ≡ all.old.parts) }
     ensures seats { (seats.new.items ≡ []) × (vec_capacity seats.new ≡ vec_capacity seats.old) }
     ensures workers { seats_of workers.new.items ≡ reverse seats.old.items }
+    ensures count { vec_len workers.new ≡ vec_len seats.old }
     ensures fresh { All (IsFresh draw.now) workers.new.items }
 {
     while let Some(seat) = seats.pop() {

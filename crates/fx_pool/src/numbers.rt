@@ -20,6 +20,46 @@ pub struct Worked<S, T> {
     pub outs: Vec<(u64, T)>,
 }
 
+/// Does the job for each number below `count`, by one worker for each seat. Each worker calls
+/// `pace.before_draw` with its number before each draw. Where no thread can be made the workers run
+/// one after another. `Memory` comes where memory is wanting, once all workers have ended, and hands
+/// the seats back.
+pub fn work<R: Threads + Wait + Sync, P: Pace, J: Job>(
+    rt: &R,
+    alloc: Global,
+    pace: &P,
+    count: u64,
+    mut seats: Vec<J::Seat>,
+    job: &J,
+) -> Result<Worked<J::Seat, J::Out>, (Vec<J::Seat>, Memory)>
+    requires few { count ≤ 2 ^ 32 }
+    requires seats { (1 ≤ vec_len seats) × (vec_len seats ≤ 64) }
+    requires fit { All (J.fits job.now) seats.items }
+    ensures seats { IfOk result (λ worked. (vec_len worked.seats ≡ vec_len seats) × All (J.fits job.now) worked.seats.items) }
+    ensures numbers { IfOk result (λ worked. numbers_of worked.outs.items ≡ numbers_below count) }
+    ensures right { IfOk result (λ worked. All (λ out. J.right job.now out.0 out.1) worked.outs.items) }
+    ensures weighs { IfOk result (λ worked. weigh J.weight worked.seats.items ≡ plus (weigh J.weight seats.items) (weigh (λ out. J.out_weight out.1) worked.outs.items)) }
+    ensures back { IfErr result (λ refused. (vec_len refused.0 ≡ vec_len seats) × All (J.fits job.now) refused.0.items) }
+{
+    let Ok((draw, mut all)) = Draw::new(alloc, count) else {
+        return Err((seats, Memory));
+    };
+    let Ok(mut workers) = Vec::with_capacity(alloc, seats.len()) else {
+        return Err((seats, Memory));
+    };
+    set_up(alloc, &draw, &mut all, &mut seats, &mut workers);
+    run_all(rt, alloc, pace, &draw, job, workers.as_mut_slice());
+    let mut gathered = gather(alloc, &draw, &mut all, &mut seats, workers);
+    if gathered.failed {
+        return Err((seats, Memory));
+    }
+    gathered.sort();
+    Ok(Worked {
+        seats,
+        outs: gathered.outs,
+    })
+}
+
 // Draws numbers and does the job for each, until none is left or memory is wanting.
 fn run<R: Wait, P: Pace, J: Job>(
     rt: &R,
