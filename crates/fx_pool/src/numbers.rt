@@ -5,7 +5,7 @@ ghost use Rattle.fx_pool.specs.Working.{HasEnded, IsFresh, HasWorked, Ready, num
 
 use crate::draw::Draw;
 use crate::job::Job;
-use crate::worker::{Worker, gather, set_up};
+use crate::worker::{Worker, collect, set_up};
 use fx_base::Memory;
 use fx_outside::Pace;
 use std::alloc::Global;
@@ -48,16 +48,11 @@ pub fn work<R: Threads + Wait + Sync, P: Pace, J: Job>(
         return Err((seats, Memory));
     };
     set_up(alloc, &draw, &mut all, &mut seats, &mut workers);
-    run_all(rt, alloc, pace, &draw, job, workers.as_mut_slice());
-    let mut gathered = gather(alloc, &draw, &mut all, &mut seats, workers);
-    if gathered.failed {
-        return Err((seats, Memory));
+    run_all(rt, alloc, pace, &draw, job, &mut workers);
+    match collect(alloc, &draw, &mut all, &mut seats, workers) {
+        Some(outs) => Ok(Worked { seats, outs }),
+        None => Err((seats, Memory)),
     }
-    gathered.sort();
-    Ok(Worked {
-        seats,
-        outs: gathered.outs,
-    })
 }
 
 // Draws numbers and does the job for each, until none is left or memory is wanting.
@@ -100,17 +95,18 @@ fn run_all<R: Threads + Wait + Sync, P: Pace, J: Job>(
     pace: &P,
     draw: &Draw,
     job: &J,
-    workers: &mut [Worker<J::Seat, (), J::Out>],
+    workers: &mut Vec<Worker<J::Seat, (), J::Out>>,
 )
-    requires some { (0 < length workers.old) × (length workers.old ≤ 64) }
-    requires ready { All (Ready (J.fits job.now) draw.now) workers.old }
-    ensures count { length workers.new ≡ length workers.old }
-    ensures each { (i : ℕ) (d : Worker J.Seat (Unit {0}) J.Out) → i < length workers.old → HasWorked (J.fits job.now) (J.right job.now) J.weight J.out_weight draw.now (slice_index_or workers.old i d) (slice_index_or workers.new i d) }
+    requires some { (0 < vec_len workers.old) × (vec_len workers.old ≤ 64) }
+    requires ready { All (Ready (J.fits job.now) draw.now) workers.old.items }
+    ensures count { length workers.new.items ≡ length workers.old.items }
+    ensures len { vec_len workers.new ≡ vec_len workers.old }
+    ensures each { (i : ℕ) (d : Worker J.Seat (Unit {0}) J.Out) → i < length workers.old.items → HasWorked (J.fits job.now) (J.right job.now) J.weight J.out_weight draw.now (slice_index_or workers.old.items i d) (slice_index_or workers.new.items i d) }
 {
     let threads = workers.len();
     let each = |place: usize, worker: &mut Worker<J::Seat, (), J::Out>|
         requires { (place < 64) × Ready (J.fits job.now) draw.now worker.now }
         ensures { HasWorked (J.fits job.entry.now) (J.right job.entry.now) J.weight J.out_weight draw.entry.now worker.entry.now worker.exit.now }
     { run(rt, alloc, pace, place as u32, draw, job, worker) };
-    thread::for_each_mut(rt, workers, threads, &each);
+    thread::for_each_mut(rt, workers.as_mut_slice(), threads, &each);
 }

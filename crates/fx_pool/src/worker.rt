@@ -1,5 +1,5 @@
 //! Workers: how they are set up, and how what they did is put together.
-ghost use Rattle.std.specs.Prelude.{◌≡◌, ℕ, ◌+◌, ◌<◌, ◌≤◌, [], ◌∷◌, ◌++◌, All, IsPermutation, false, length, reverse, vec_capacity, vec_len};
+ghost use Rattle.std.specs.Prelude.{◌≡◌, ℕ, ◌+◌, ◌<◌, ◌≤◌, [], ◌∷◌, ◌++◌, All, IfSome, IsPermutation, OnSome, false, length, reverse, vec_capacity, vec_len};
 ghost use Rattle.fx_pool.specs.Draws.{AllDrawn, all_parts};
 ghost use Rattle.fx_pool.specs.Working.{HasEnded, IsFresh, numbers_below, numbers_of, outs_of, seats_of};
 
@@ -18,9 +18,9 @@ pub(crate) struct Worker<S, D, T> {
 
 /// What all workers made, and whether memory was wanting.
 #[derive(Drop)]
-pub(crate) struct Gathered<T> {
-    pub(crate) outs: Vec<(u64, T)>,
-    pub(crate) failed: bool,
+struct Gathered<T> {
+    outs: Vec<(u64, T)>,
+    failed: bool,
 }
 
 // Makes a worker of each seat. The last seat is the first worker's.
@@ -50,8 +50,33 @@ pub(crate) fn set_up<S, D, T>(
     }
 }
 
+// What the workers made, by rising number. `None` comes where memory was wanting.
+pub(crate) fn collect<S, D, T: Drop>(
+    alloc: Global,
+    draw: &Draw<D>,
+    all: &mut DrawSeat<D>,
+    seats: &mut Vec<S>,
+    workers: Vec<Worker<S, D, T>>,
+) -> Option<Vec<(u64, T)>>
+    requires draw { (all.old.draw ≡ draw.now) × (all.old.drawn ≡ []) × (all.old.past ≡ []) }
+    requires parts { (all.old.parts + vec_len workers ≡ all_parts) × (0 < vec_len workers) }
+    requires ended { All (HasEnded draw.now) workers.items }
+    requires room { (seats.old.items ≡ []) × (vec_len workers ≤ vec_capacity seats.old) }
+    ensures seats { seats.new.items ≡ reverse (seats_of workers.items) }
+    ensures works { OnSome result (All (λ w. w.failed ≡ false) workers.items) }
+    ensures outs { IfSome result (λ outs. IsPermutation (outs_of (reverse workers.items)) outs.items) }
+    ensures numbers { IfSome result (λ outs. numbers_of outs.items ≡ numbers_below draw.now.count) }
+{
+    let mut gathered = gather(alloc, draw, all, seats, workers);
+    if gathered.failed {
+        return None;
+    }
+    sort_by_number(&mut gathered.outs);
+    Some(gathered.outs)
+}
+
 // Takes the workers apart, the last one first: their seats, their seats of the draw, and their outs.
-pub(crate) fn gather<S, D, T: Drop>(
+fn gather<S, D, T: Drop>(
     alloc: Global,
     draw: &Draw<D>,
     all: &mut DrawSeat<D>,
@@ -96,20 +121,12 @@ impl<T: Drop> Gathered<T> {
             self.failed = true;
         }
     }
-
-    // Puts the outs in the order of their numbers.
-    pub(crate) fn sort(&mut self)
-        ensures same { IsPermutation self.old.outs.items self.new.outs.items }
-        ensures rising { (count : ℕ) → AllDrawn count (numbers_of self.old.outs.items) → numbers_of self.new.outs.items ≡ numbers_below count }
-    {
-        sort_by_number(self.outs.as_mut_slice());
-    }
 }
 
 // Where these are the numbers below a count, each once, they stand in their order afterwards.
-fn sort_by_number<T>(outs: &mut [(u64, T)])
-    ensures same { IsPermutation outs.old outs.new }
-    ensures rising { (count : ℕ) → AllDrawn count (numbers_of outs.old) → numbers_of outs.new ≡ numbers_below count }
+fn sort_by_number<T>(outs: &mut Vec<(u64, T)>)
+    ensures same { IsPermutation outs.old.items outs.new.items }
+    ensures rising { (count : ℕ) → AllDrawn count (numbers_of outs.old.items) → numbers_of outs.new.items ≡ numbers_below count }
 {
-    outs.sort_unstable_by_key(|out| out.0);
+    outs.as_mut_slice().sort_unstable_by_key(|out| out.0);
 }
