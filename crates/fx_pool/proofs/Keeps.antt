@@ -88,6 +88,40 @@ module _ {S : Type 0} (count : ℕ) (items : List S) where
       (λ s r at below. (keeps, (λ k x after is. r.home k x (omega arith) is), tt, ((λ _. refl), (λ over. absurd (omega arith)))))
       (λ n over. ((λ below. absurd (omega arith)), (λ _. refl)))
 
+  pub allows_take : (slots id : ℕ) (me : Me S (Hand S)) → count ≤ 2 ^ 32 → 0 < me.0.parts → me.0.past ≡ [] → me.0.count ≡ count → me.0.items ≡ items → length items ≡ count
+      → Allows Rule slots id me 0 (λ n. (n + 1) % 2 ^ 64) (TakenOut (step {S = S} slots 0 1 0 none) me)
+  allows_take slots id me few some_part fresh own told long = allows_some slots id me (TakenOut (step {S = S} slots 0 1 0 none) me) few some_part fresh
+      (λ s r at below. let n : ℕ = get_or s.words 0 0 in let x = there items n (omega arith) in (
+      takes n x.0,
+      (λ k y after is. set_else s.homes n k none (λ e. omega arith) ∙ r.home k y (omega arith) is),
+      r.home n x.0 (omega arith) x.1,
+      ((λ _. (x.0, subst (λ (l : List S). get_elem? l n ≡ some x.0) (sym told) x.1, refl)), (λ over. absurd (omega arith)))))
+      (λ n over. ((λ below. absurd (omega arith)), (λ _. refl)))
+
+  drawn_below : (k w : ℕ) → 1 ≤ once_below k (min w count) → k < w
+  drawn_below k w h = grind (arith, nat_tests)
+
+  -- the slot of a number that was drawn may hold anything
+  puts_back : (s : St) (r : Rule s) (id k : ℕ) (x : S) (me : Me S (Hand S)) → get_elem? s.views id ≡ some me.0 → me.1 ≡ (k, x) ∷ [] → 1 ≤ times k me.0.drawn → Rule record { words = s.words; homes = put_back s.homes me.1; views = s.views }
+  puts_back s r id k x me at carries mine = let a = sum_at (λ (h : Hand S). times k h.drawn) s.views id me.0 at in let b = r.once k in let low = drawn_below k (get_or s.words 0 0) (omega arith) in record {
+    one = r.one;
+    parts = r.parts;
+    each_seat = r.each_seat;
+    once = r.once;
+    most = r.most;
+    last = r.last;
+    home = λ j y after is. subst (λ (l : List (ℕ × S)). get_elem? (put_back s.homes l) j ≡ some (some y)) (sym carries) (set_else s.homes k j (some x) (λ e. omega arith) ∙ r.home j y after is);
+  }
+
+  pub allows_put_back : (slots id k : ℕ) (x : S) (me : Me S (Hand S)) → me.1 ≡ (k, x) ∷ [] → 1 ≤ times k me.0.drawn → Allows Rule slots id me 0 (λ n. n) (ReadBack (step {S = S} slots 0 0 0 none) me)
+  allows_put_back slots id k x me carries mine s r len at _ = (
+    me.0,
+    gives,
+    tt,
+    subst (λ (z : List ℕ × List (Hand S)). Rule record { words = z.0; homes = put_back s.homes me.1; views = z.1 }) (λ q. (sym (set-get_or s.words 0 0) q, sym (set_again s.views id me.0 at) q)) (puts_back s r id k x me at carries mine),
+    refl,
+  )
+
   pub splits : (id : ℕ) (me : Hand S) → 1 < me.parts → me.past ≡ [] → Splits Rule id me (one_less me) (one_part me)
   splits id me two fresh s r at = let left : Hand S = one_less me in let right : Hand S = one_part me in let known = r.each_seat id me at in let none_yet : length me.past ≡ 0 = ap length fresh in
       let sums : (f : Hand S → ℕ) → sum_by f (set s.views id left ++ right ∷ []) + f me ≡ sum_by f s.views + (f left + f right) = λ f. let a = sum_by-append f (set s.views id left) (right ∷ []) in let b = sum_set f s.views id me left at in let d = sum_alone f right in omega arith in record {
@@ -146,6 +180,10 @@ module _ {S : Type 0} (count : ℕ) (items : List S) where
     where
       starts : (x n : ℕ) → once_below x (min 0 n) ≡ 0
       starts x n = grind (arith, nat_tests)
+
+-- the number that was drawn last is among those drawn
+pub drawn_last : (ns : List ℕ) (n : ℕ) → 1 ≤ times n (ns ++ n ∷ [])
+drawn_last ns n = let t : times n (ns ++ n ∷ []) ≡ times n ns + cond (n == n) 1 0 = sum_by_push (λ (y : ℕ). cond {A = ℕ} (y == n) 1 0) ns n in grind (arith, nat_tests)
 
 -- a draw's stamp is its table
 abbrev table_of : {S : Type 0} → DrawState S → TableId → TableId

@@ -1,5 +1,7 @@
 -- What clauses see of a draw and of its seats.
-use Rattle.std.specs.Prelude.{◌≡◌, ℕ, ◌+◌, ◌-◌, ◌==◌, nat_lt, List, [], ◌∷◌, ◌++◌, count_by, if◌then◌else◌}
+use Rattle.std.specs.Prelude.{◌≡◌, ℕ, ◌+◌, ◌-◌, ◌==◌, nat_lt, List, [], ◌∷◌, ◌++◌, length, count_by, if◌then◌else◌, Option, Some, None}
+use mathlib.Core.Option.{some}
+use lib.ListN.{get_elem?}
 
 -- A draw of the numbers below a count. Where the numbers have slots, the items stood in these at first. No other draw has its stamp
 pub record DrawState (S : Type 0) : Type 0 where
@@ -49,3 +51,13 @@ module _ {S : Type 0} where
   -- both in one
   abbrev pub joined : DrawSeatState S → DrawSeatState S → DrawSeatState S
   joined s t = record s { parts = s.parts + t.parts; drawn = s.drawn ++ t.drawn; past = s.past ++ t.past }
+
+module _ {I : Type 0} where
+  -- the item that stands in the slot of the number n
+  abbrev pub IsItem : List (Option I) → ℕ → I → Type 0
+  IsItem slots n item = get_elem? slots n ≡ some (Some item)
+
+  -- each number has a slot, with an item in it
+  pub record HasItems (d : DrawState (Option I)) : Type 0 where
+    pub count : length d.items ≡ d.count
+    pub full : (k : ℕ) → get_elem? d.items k ≡ some None → ⊥

@@ -1,8 +1,8 @@
 -- What a worker begins with, and what it has done.
-use Rattle.std.specs.Prelude.{◌≡◌, ℕ, ◌<◌, Bool, false, List, [], map, length, flat_map, All}
+use Rattle.std.specs.Prelude.{◌≡◌, ℕ, ◌<◌, Bool, false, List, [], map, length, flat_map, All, Option, slice_index_or}
 use Rattle.std.specs.List.{range_with_len}
 use Rattle.fx_pool.specs.declared.worker.Worker.{Worker}
-use Rattle.fx_pool.specs.Draws.{DrawState, DrawSeatState}
+use Rattle.fx_pool.specs.Draws.{DrawState, DrawSeatState, IsItem}
 use Rattle.fx_pool.specs.Weights.{plus, weigh}
 
 -- the numbers below the count, rising
@@ -57,3 +57,13 @@ module _ {S D T : Type 0} where
         pub ended : HasEnded d w
         pub outs_right : All (λ o. right o.0 o.1) w.outs.items
         pub weighs : w.failed ≡ false → weight w.seat ≡ plus (weight v.seat) (weigh (λ o. out_weight o.1) w.outs.items)
+
+module _ {I : Type 0} where
+  module _ {T : Type 0} (right : ℕ → I → I → T → Type 0) where
+    -- what a turn made with the item of the number n: the item as it is now, and the out
+    abbrev pub MadeRight : List (Option I) → ℕ → I × T → Type 0
+    MadeRight slots n made = (item : I) × IsItem slots n item × right n item made.0 made.1
+
+    -- each out is right for its index, the item before and the item after
+    abbrev pub EachRight : List I → List I → List T → Type 0
+    EachRight before after outs = (k : ℕ) (i : I) (o : T) → k < length before → right k (slice_index_or before k i) (slice_index_or after k i) (slice_index_or outs k o)

@@ -1,8 +1,8 @@
 //! Numbers that threads draw: each below the count once, over all seats.
 ghost use Rattle.std.specs.Prelude.{◌≡◌, ℕ, ◌<◌, ◌≤◌, ◌^◌, [], IfErr, IfNone, IfOk, IfSome, OnErr, length, vec_len};
-ghost use Rattle.fx_pool.specs.Draws.{AllDrawn, all_parts, first_seat, joined, new_seat, with_drawn, with_one_part_less, with_past};
+ghost use Rattle.fx_pool.specs.Draws.{AllDrawn, HasItems, IsItem, all_parts, first_seat, joined, new_seat, with_drawn, with_one_part_less, with_past};
 
-use crate::rule::{Draws, Hand, Learns, OnePart, Rule, Start};
+use crate::rule::{Draws, Hand, Learns, OnePart, PutsBack, Rule, Start, TakesOut};
 use atomic_table::{Refused, Seat, Table};
 use fx_base::Memory;
 use std::alloc::Global;
@@ -130,5 +130,30 @@ impl<S> Draw<S> {
             .shared
             .join_seat::<OnePart>(&mut seat.token, token);
         self.table.shared.load::<Learns>(&mut seat.token, 0);
+    }
+}
+
+impl<I> Draw<Option<I>> {
+    // Draws the next number, and takes the item out of its slot.
+    pub(crate) fn next_item(&self, seat: &mut DrawSeat<Option<I>>) -> Option<(u64, I)>
+        requires draw { seat.old.draw ≡ self.now }
+        requires none_yet { seat.old.past ≡ [] }
+        requires items { HasItems self.now }
+        ensures item { IfSome result (λ r. (r.0 < self.now.count) × IsItem self.now.items r.0 r.1 × (seat.new ≡ with_drawn seat.old r.0)) }
+        ensures none { IfNone result ((word : ℕ) × (self.now.count ≤ word) × (seat.new ≡ with_past seat.old word)) }
+    {
+        let word = self
+            .table
+            .shared
+            .fetch_add::<TakesOut>(&mut seat.token, 0, 1);
+        if word >= self.count {
+            return None;
+        }
+        let slot = word as usize;
+        let Some(item) = self.table.shared.exchange(&mut seat.token, slot, None) else {
+            unreachable!()
+        };
+        self.table.shared.load::<PutsBack>(&mut seat.token, 0);
+        Some((word, item))
     }
 }

@@ -37,3 +37,36 @@ pub trait Job: Sync {
         ensures right { IfOk result (λ out. right self.now index out) }
         ensures weighs { IfOk result (λ out. weight seat.new ≡ plus (weight seat.old) (out_weight out)) };
 }
+
+/// A job for each item of a list. It says which seats fit it, which outs are right for an index, the
+/// item before and the item after, and what a seat and an out weigh, as a `Job` does.
+pub trait ItemJob<I>: Sync {
+    /// What a worker works with: each worker has one, and brings it to each of its turns.
+    type Seat: Send;
+
+    /// What comes of a turn.
+    type Out: Send + Drop;
+
+    ghost fits: { Self → Self.Seat → Type 0 };
+
+    ghost right: { Self → ℕ → I → I → Self.Out → Type 0 };
+
+    ghost weight: { Self.Seat → ℕ × ℕ };
+
+    ghost out_weight: { Self.Out → ℕ × ℕ };
+
+    /// Does the job for the item with this index. The seat fits afterwards too, at `Memory` as well,
+    /// which comes where memory is wanting.
+    fn turn<R: Wait>(
+        &self,
+        rt: &R,
+        alloc: Global,
+        seat: &mut Self::Seat,
+        index: u64,
+        item: &mut I,
+    ) -> Result<Self::Out, Memory>
+        requires { fits self.now seat.old }
+        ensures fits { fits self.now seat.new }
+        ensures right { IfOk result (λ out. right self.now index item.old item.new out) }
+        ensures weighs { IfOk result (λ out. weight seat.new ≡ plus (weight seat.old) (out_weight out)) };
+}
