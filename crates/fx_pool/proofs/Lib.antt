@@ -3,3 +3,4 @@ pub mod Keeps
 pub mod Rising
 pub mod Gathering
 pub mod Together
+pub mod Turns

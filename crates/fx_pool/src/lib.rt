@@ -3,11 +3,13 @@
 #![tactic(auto)]
 
 mod draw;
+mod items;
 mod job;
 mod numbers;
 mod rule;
 mod worker;
 
 pub use draw::{Draw, DrawSeat};
-pub use job::Job;
+pub use items::{WorkedItems, work_items};
+pub use job::{ItemJob, Job};
 pub use numbers::{Worked, work};
