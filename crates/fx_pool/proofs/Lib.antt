@@ -4,3 +4,4 @@ pub mod Rising
 pub mod Gathering
 pub mod Together
 pub mod Turns
+pub mod Apart
