@@ -11,7 +11,7 @@ use Rattle.atomic_table.specs.Table.{State, Me, Act, step, keeps, takes, gives, 
 use Rattle.atomic_table.specs.Seated.{TableId}
 use Rattle.atomic_table.proofs.Lists.{at_set, set_else, set_again, at_snoc, at_map}
 use Rattle.fx_pool.specs.declared.rule.Hand.{Hand}
-use Rattle.fx_pool.specs.Draws.{DrawState, all_parts, times, once_below, AllDrawn}
+use Rattle.fx_pool.specs.Draws.{DrawState, all_parts, times, once_below}
 use Rattle.fx_pool.specs.Drawing.{first_hand, drew, ended, one_less, one_part, both, spent, Knows, Ruled, Drawn, TakenOut, ReadBack, Learnt, draw_of}
 use Rattle.fx_pool.proofs.Lists.{there, at_one, at_alone, sum_set, sum_at, sum_none, sum_alone, sum_le, sole, sum_sole}
 
@@ -20,9 +20,6 @@ one_more x w count h = grind (arith, nat_tests)
 
 past_it : (x w count : ℕ) → count ≤ w → once_below x (min (w + 1) count) ≡ once_below x (min w count)
 past_it x w count h = grind (arith, nat_tests)
-
-whole : (x w count : ℕ) → count ≤ w → once_below x (min w count) ≡ once_below x count
-whole x w count h = grind (arith, nat_tests)
 
 wraps : (n : ℕ) → n + 1 < 2 ^ 64 → (n + 1) % 2 ^ 64 ≡ n + 1
 wraps n h = grind arith
@@ -161,10 +158,13 @@ module _ {S : Type 0} (count : ℕ) (items : List S) where
     keeps,
     tt,
     unmoved s r id me at,
-    (refl, λ all some_none x. let none_else = sole (λ (h : Hand S). h.parts) s.views id me.0 at (r.parts ∙ sym all) in
-        let mine = sum_sole (λ (h : Hand S). times x h.drawn) s.views id me.0 at (λ j b there_b ne. ap (times x) ((r.each_seat j b there_b).nothing (none_else j b there_b ne))) in
-        let own = (r.each_seat id me.0 at).count_is some_part in let t = sum_at (λ (h : Hand S). length h.past) s.views id me.0 at in let over = r.last (omega arith) in
-        sym mine ∙ (r.once x ∙ (whole x (get_or s.words 0 0) count over ∙ ap (once_below x) (sym own)))),
+    (refl, λ all. let none_else = sole (λ (h : Hand S). h.parts) s.views id me.0 at (r.parts ∙ sym all) in
+        let own = (r.each_seat id me.0 at).count_is some_part in let t = sum_at (λ (h : Hand S). length h.past) s.views id me.0 at in record {
+          next = min (get_or s.words 0 0) count;
+          within = omega arith;
+          each_once = λ x. sym (sum_sole (λ (h : Hand S). times x h.drawn) s.views id me.0 at (λ j b there_b ne. ap (times x) ((r.each_seat j b there_b).nothing (none_else j b there_b ne)))) ∙ r.once x;
+          ended = λ some_none. let over = r.last (omega arith) in omega arith;
+        }),
   )
 
   pub opens : (ts : List S) → items ≡ ts → Rule (opening (0 ∷ []) ts (first_hand count items))

@@ -1,5 +1,6 @@
 -- What the workers did together.
 use Rattle.std.proofs.Common.{◌≡◌, ℕ, zero, suc, ◌+◌, ◌<◌, List, [], ◌∷◌, ◌++◌, All, IsPermutation, false, length, get_or, map, reverse, flat_map, sum_by, sym, refl, ap, ◌∙◌, arith}
+use Rattle.std.proofs.lemmas.List.{length-map, length-reverse}
 use Rattle.std.proofs.lemmas.List.Sums.{sum_by-cons, sum_by-append}
 use Rattle.std.proofs.lemmas.List.Sorted.{sum_by-IsPermutation, IsPermutation-reverse, All-permutation}
 use Rattle.std.proofs.lemmas.List.Elements.{All-append, All-head, All-tail, All-map, All-same, All-nil}
@@ -43,8 +44,12 @@ module _ {S D T : Type 0} where
     pub all_ended : All (HasEnded d) new
     all_ended i e h = (each i e (omega arith)).ended
 
-    pub all_fit : All fits (reverse (seats_of new))
+    all_fit : All fits (reverse (seats_of new))
     all_fit = All-permutation fits (seats_of new) (reverse (seats_of new)) (IsPermutation-reverse (seats_of new)) (All-map fits (λ (w : Worker S D T). w.seat) new (λ i e h. (each i e (omega arith)).fit))
+
+    -- the seats that came back
+    pub all_back : (seats : List S) → seats ≡ reverse (seats_of new) → (length seats ≡ length old) × All fits seats
+    all_back seats same = (ap length same ∙ (length-reverse (seats_of new) ∙ (length-map new (λ (w : Worker S D T). w.seat) ∙ len)), All-same fits seats (reverse (seats_of new)) same all_fit)
 
     pub all_right : (outs : List (ℕ × T)) → IsPermutation (outs_of (reverse new)) outs → All (λ o. right o.0 o.1) outs
     all_right outs same = let P : ℕ × T → Type 0 = λ o. right o.0 o.1 in

@@ -5,7 +5,7 @@ use lib.ListN.{get_elem?}
 use Rattle.atomic_table.specs.Table.{State, Step, Me, rest}
 use Rattle.atomic_table.specs.Seated.{TableId}
 use Rattle.fx_pool.specs.declared.rule.Hand.{Hand}
-use Rattle.fx_pool.specs.Draws.{DrawState, DrawSeatState, all_parts, times, once_below, AllDrawn}
+use Rattle.fx_pool.specs.Draws.{DrawState, DrawSeatState, all_parts, times, once_below, HasAll}
 
 module _ {S : Type 0} where
   abbrev pub first_hand : ℕ → List S → Hand S
@@ -61,9 +61,9 @@ module _ {S : Type 0} where
   abbrev pub ReadBack : Step S → Me S (Hand S) → ℕ → Me S (Hand S) → Type 0
   ReadBack t me found after = after ≡ (me.0, rest me.1)
 
-  -- with all parts, a seat that was told that no number is left has all of them
+  -- what a seat with all parts has
   abbrev pub Learnt : Step S → Me S (Hand S) → ℕ → Me S (Hand S) → Type 0
-  Learnt t me found after = (after ≡ me) × (me.0.parts ≡ all_parts → 0 < length me.0.past → AllDrawn me.0.count me.0.drawn)
+  Learnt t me found after = (after ≡ me) × (me.0.parts ≡ all_parts → HasAll me.0.count me.0.drawn me.0.past)
 
   -- how a draw and its seats show themselves
   abbrev pub draw_of : TableId → ℕ → List S → DrawState S

@@ -1,5 +1,5 @@
 -- What clauses see of a draw and of its seats.
-use Rattle.std.specs.Prelude.{◌≡◌, ℕ, ◌+◌, ◌-◌, ◌==◌, nat_lt, List, [], ◌∷◌, ◌++◌, length, count_by, if◌then◌else◌, Option, Some, None}
+use Rattle.std.specs.Prelude.{◌≡◌, ℕ, ◌+◌, ◌-◌, ◌<◌, ◌≤◌, ◌==◌, nat_lt, List, [], ◌∷◌, ◌++◌, length, count_by, if◌then◌else◌, Option, Some, None}
 use mathlib.Core.Option.{some}
 use lib.ListN.{get_elem?}
 
@@ -30,6 +30,13 @@ once_below x n = if nat_lt x n then 1 else 0
 -- the numbers below the count, each once, and no others
 abbrev pub AllDrawn : ℕ → List ℕ → Type 0
 AllDrawn count ns = (x : ℕ) → times x ns ≡ once_below x count
+
+-- What a seat with all parts has: the numbers below some number, each once, and no others. Once it was told that no number is left, these are all below the count
+pub record HasAll (count : ℕ) (drawn past : List ℕ) : Type 0 where
+  pub next : ℕ
+  pub within : next ≤ count
+  pub each_once : AllDrawn next drawn
+  pub ended : 0 < length past → next ≡ count
 
 module _ {S : Type 0} where
   abbrev pub first_seat : DrawState S → DrawSeatState S

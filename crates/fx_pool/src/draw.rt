@@ -1,6 +1,6 @@
 //! Numbers that threads draw: each below the count once, over all seats.
-ghost use Rattle.std.specs.Prelude.{◌≡◌, ℕ, ◌<◌, ◌≤◌, ◌^◌, [], IfErr, IfNone, IfOk, IfSome, OnErr, length, vec_len};
-ghost use Rattle.fx_pool.specs.Draws.{AllDrawn, HasItems, IsItem, all_parts, first_seat, joined, new_seat, with_drawn, with_one_part_less, with_past};
+ghost use Rattle.std.specs.Prelude.{◌≡◌, ℕ, ◌<◌, ◌≤◌, ◌^◌, [], IfErr, IfNone, IfOk, IfSome, OnErr, vec_len};
+ghost use Rattle.fx_pool.specs.Draws.{HasAll, HasItems, IsItem, all_parts, first_seat, joined, new_seat, with_drawn, with_one_part_less, with_past};
 
 use crate::rule::{Draws, Hand, Learns, OnePart, PutsBack, Rule, Start, TakesOut};
 use atomic_table::{Refused, Seat, Table};
@@ -117,13 +117,13 @@ impl<S> Draw<S> {
         DrawSeat { token }
     }
 
-    /// Puts a seat into another: its parts, and what it drew. Who then has all parts, and was told that
-    /// no number is left, has drawn all of them.
+    /// Puts a seat into another: its parts, and what it drew. A seat that has all parts then has drawn
+    /// the numbers below some number, each once; where one of its draws gave none, all below the count.
     pub fn join(&self, seat: &mut DrawSeat<S>, other: DrawSeat<S>)
         requires draw { seat.old.draw ≡ self.now }
         requires other_draw { other.draw ≡ self.now }
         ensures both { seat.new ≡ joined seat.old other }
-        ensures all { seat.new.parts ≡ all_parts → 0 < length seat.new.past → AllDrawn self.now.count seat.new.drawn }
+        ensures all { seat.new.parts ≡ all_parts → HasAll self.now.count seat.new.drawn seat.new.past }
     {
         let DrawSeat { token } = other;
         self.table

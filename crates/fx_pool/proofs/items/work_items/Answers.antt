@@ -4,7 +4,7 @@ use Rattle.std.proofs.lemmas.List.Elements.{All-same}
 use Rattle.fx_pool.specs.declared.worker.Worker.{Worker}
 use Rattle.fx_pool.specs.Working.{EachRight, MadeRight, numbers_below, numbers_of, seats_of}
 use Rattle.fx_pool.specs.Weights.{plus, weigh}
-use Rattle.fx_pool.proofs.Together.{all_ready, all_fit, all_right, all_weigh}
+use Rattle.fx_pool.proofs.Together.{all_ready, all_back, all_right, all_weigh}
 use Rattle.fx_pool.proofs.Apart.{none_of, count_of, each_right, weigh-map}
 use Rattle.fx_pool.proofs.items.work_items.Goals as goal
 
@@ -20,27 +20,18 @@ run_all-requires-clause-ready g c κs within =
 
 pub returns-in_default-collect-clause-back : goal.returns-in_default-collect-clause-back
 returns-in_default-collect-clause-back g c =
-    let ran = c.run_all.new.workers.items in let seats = c.collect.ensures.seats in (
-      omega (arith, ap length seats, length-reverse (seats_of ran), length-map ran (λ (w : Worker g.row.J-Seat.Denot (Option g.row.I.Denot) (g.row.I.Denot × g.row.J-Out.Denot)). w.seat)),
-      All-same (g.J.ItemJob.fits c.args.job.now) c.collect.new.seats.items (reverse (seats_of ran)) seats
-          (all_fit (g.J.ItemJob.fits c.args.job.now) (MadeRight (g.J.ItemJob.right c.args.job.now) c.in-Ok.draw.items) g.J.ItemJob.weight (λ made. g.J.ItemJob.out_weight made.1) c.in-Ok.draw c.set_up.new.workers.items ran c.run_all.ensures.count (λ i e h. (c.run_all.ensures.each i e h).worked)),
-    )
+    let back = all_back (g.J.ItemJob.fits c.args.job.now) (MadeRight (g.J.ItemJob.right c.args.job.now) c.in-Ok.draw.items) g.J.ItemJob.weight (λ m. g.J.ItemJob.out_weight m.1) c.in-Ok.draw c.set_up.new.workers.items c.run_all.new.workers.items c.run_all.ensures.count (λ i e h. (c.run_all.ensures.each i e h).worked) c.collect.new.seats.items c.collect.ensures.seats in
+    let count = c.set_up.ensures.count in (omega arith, back.1)
 
 pub returns-in-Ok-apart-clause-seats : goal.returns-in-Ok-apart-clause-seats
 returns-in-Ok-apart-clause-seats g c =
-    let ran = c.run_all.new.workers.items in let seats = c.collect.ensures.seats in (
-      omega (arith, ap length seats, length-reverse (seats_of ran), length-map ran (λ (w : Worker g.row.J-Seat.Denot (Option g.row.I.Denot) (g.row.I.Denot × g.row.J-Out.Denot)). w.seat)),
-      All-same (g.J.ItemJob.fits c.args.job.now) c.collect.new.seats.items (reverse (seats_of ran)) seats
-          (all_fit (g.J.ItemJob.fits c.args.job.now) (MadeRight (g.J.ItemJob.right c.args.job.now) c.in-Ok.draw.items) g.J.ItemJob.weight (λ made. g.J.ItemJob.out_weight made.1) c.in-Ok.draw c.set_up.new.workers.items ran c.run_all.ensures.count (λ i e h. (c.run_all.ensures.each i e h).worked)),
-    )
+    let back = all_back (g.J.ItemJob.fits c.args.job.now) (MadeRight (g.J.ItemJob.right c.args.job.now) c.in-Ok.draw.items) g.J.ItemJob.weight (λ m. g.J.ItemJob.out_weight m.1) c.in-Ok.draw c.set_up.new.workers.items c.run_all.new.workers.items c.run_all.ensures.count (λ i e h. (c.run_all.ensures.each i e h).worked) c.collect.new.seats.items c.collect.ensures.seats in
+    let count = c.set_up.ensures.count in (omega arith, back.1)
 
 pub returns-clause-back : goal.returns-clause-back
 returns-clause-back g c =
-    let ran = c.run_all.new.workers.items in let seats = c.collect.ensures.seats in (
-      omega (arith, ap length seats, length-reverse (seats_of ran), length-map ran (λ (w : Worker g.row.J-Seat.Denot (Option g.row.I.Denot) (g.row.I.Denot × g.row.J-Out.Denot)). w.seat)),
-      All-same (g.J.ItemJob.fits c.args.job.now) c.collect.new.seats.items (reverse (seats_of ran)) seats
-          (all_fit (g.J.ItemJob.fits c.args.job.now) (MadeRight (g.J.ItemJob.right c.args.job.now) c.in-Ok.draw.items) g.J.ItemJob.weight (λ made. g.J.ItemJob.out_weight made.1) c.in-Ok.draw c.set_up.new.workers.items ran c.run_all.ensures.count (λ i e h. (c.run_all.ensures.each i e h).worked)),
-    )
+    let back = all_back (g.J.ItemJob.fits c.args.job.now) (MadeRight (g.J.ItemJob.right c.args.job.now) c.in-Ok.draw.items) g.J.ItemJob.weight (λ m. g.J.ItemJob.out_weight m.1) c.in-Ok.draw c.set_up.new.workers.items c.run_all.new.workers.items c.run_all.ensures.count (λ i e h. (c.run_all.ensures.each i e h).worked) c.collect.new.seats.items c.collect.ensures.seats in
+    let count = c.set_up.ensures.count in (omega arith, back.1)
 
 pub returns-in-Ok-apart-clause-count : goal.returns-in-Ok-apart-clause-count
 returns-in-Ok-apart-clause-count g c =

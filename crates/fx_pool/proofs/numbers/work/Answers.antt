@@ -4,7 +4,7 @@ use Rattle.std.proofs.lemmas.List.Elements.{All-same}
 use Rattle.fx_pool.specs.declared.worker.Worker.{Worker}
 use Rattle.fx_pool.specs.Working.{seats_of}
 use Rattle.fx_pool.specs.Weights.{weigh}
-use Rattle.fx_pool.proofs.Together.{all_ready, all_fit, all_right, all_weigh}
+use Rattle.fx_pool.proofs.Together.{all_ready, all_back, all_right, all_weigh}
 use Rattle.fx_pool.proofs.numbers.work.Goals as goal
 
 pub run_all-requires-clause-ready : goal.run_all-requires-clause-ready
@@ -13,19 +13,13 @@ run_all-requires-clause-ready g c κs within =
 
 pub returns-in-Some-clause-seats : goal.returns-in-Some-clause-seats
 returns-in-Some-clause-seats g c =
-    let ran = c.run_all.new.workers.items in let seats = c.collect.ensures.seats in (
-      omega (arith, ap length seats, length-reverse (seats_of ran), length-map ran (λ (w : Worker g.row.J-Seat.Denot (Unit {0}) g.row.J-Out.Denot). w.seat)),
-      All-same (g.J.Job.fits c.args.job.now) c.collect.new.seats.items (reverse (seats_of ran)) seats
-          (all_fit (g.J.Job.fits c.args.job.now) (g.J.Job.right c.args.job.now) g.J.Job.weight g.J.Job.out_weight c.in-Ok.draw c.set_up.new.workers.items ran c.run_all.ensures.count c.run_all.ensures.each),
-    )
+    let back = all_back (g.J.Job.fits c.args.job.now) (g.J.Job.right c.args.job.now) g.J.Job.weight g.J.Job.out_weight c.in-Ok.draw c.set_up.new.workers.items c.run_all.new.workers.items c.run_all.ensures.count c.run_all.ensures.each c.collect.new.seats.items c.collect.ensures.seats in
+    let count = c.set_up.ensures.count in (omega arith, back.1)
 
 pub returns-clause-back : goal.returns-clause-back
 returns-clause-back g c =
-    let ran = c.run_all.new.workers.items in let seats = c.collect.ensures.seats in (
-      omega (arith, ap length seats, length-reverse (seats_of ran), length-map ran (λ (w : Worker g.row.J-Seat.Denot (Unit {0}) g.row.J-Out.Denot). w.seat)),
-      All-same (g.J.Job.fits c.args.job.now) c.collect.new.seats.items (reverse (seats_of ran)) seats
-          (all_fit (g.J.Job.fits c.args.job.now) (g.J.Job.right c.args.job.now) g.J.Job.weight g.J.Job.out_weight c.in-Ok.draw c.set_up.new.workers.items ran c.run_all.ensures.count c.run_all.ensures.each),
-    )
+    let back = all_back (g.J.Job.fits c.args.job.now) (g.J.Job.right c.args.job.now) g.J.Job.weight g.J.Job.out_weight c.in-Ok.draw c.set_up.new.workers.items c.run_all.new.workers.items c.run_all.ensures.count c.run_all.ensures.each c.collect.new.seats.items c.collect.ensures.seats in
+    let count = c.set_up.ensures.count in (omega arith, back.1)
 
 pub returns-in-Some-clause-right : goal.returns-in-Some-clause-right
 returns-in-Some-clause-right g c =

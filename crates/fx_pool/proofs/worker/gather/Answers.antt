@@ -23,7 +23,7 @@ loop-worker-preserved g c =
     let one = ended.parts in let shorter = c.in-Some.ensures.cases in record {
       draw = search rules;
       parts = omega arith;
-      all = λ all told. c.join.ensures.all all told;
+      all = λ all. c.join.ensures.all all;
       count = omega arith;
       room = omega arith;
       ended = ends.0;
@@ -56,4 +56,5 @@ pub returns-clause-numbers : goal.returns-clause-numbers
 returns-clause-numbers g c = λ works.
     let inv = c.loop-worker.invariant in
     let none = c.in_default.ensures.cases.0 in
-    subst (λ (ns : List ℕ). AllDrawn c.args.draw.now.count ns) (inv.numbers works) (inv.all (omega arith) (inv.told works (omega arith)))
+    let all = inv.all (omega arith) in
+    subst (λ (z : ℕ × List ℕ). AllDrawn z.0 z.1) (λ q. (all.ended (inv.told works (omega arith)) q, inv.numbers works q)) all.each_once

@@ -1,5 +1,5 @@
 use Rattle.std.proofs.Common.{◌≡◌, ◌+◌, ◌<◌, ◌≤◌, ◌++◌, [], All, false, length, reverse, vec_capacity, vec_len}
-use Rattle.fx_pool.specs.Draws.{AllDrawn, all_parts}
+use Rattle.fx_pool.specs.Draws.{HasAll, all_parts}
 use Rattle.fx_pool.specs.Working.{HasEnded, numbers_of, outs_of, seats_of}
 use Rattle.fx_pool.proofs.worker.gather.Given as goal
 
@@ -7,7 +7,7 @@ abbrev pub invariant-loop-worker : goal.invariant-loop-worker
 invariant-loop-worker g l = record {
   draw : l.all.draw ≡ l.draw;
   parts : l.all.parts + vec_len l.workers ≡ all_parts;
-  all : l.all.parts ≡ all_parts → 0 < length l.all.past → AllDrawn l.draw.count l.all.drawn;
+  all : l.all.parts ≡ all_parts → HasAll l.draw.count l.all.drawn l.all.past;
   count : vec_len l.seats + vec_len l.workers ≡ vec_len l.initial.workers;
   room : vec_len l.initial.workers ≤ vec_capacity l.seats;
   ended : All (HasEnded l.draw) l.workers.items;

@@ -1,7 +1,7 @@
-use Rattle.std.proofs.Common.{rules, ◌≡◌, ◌<◌, length, ap, sym, subst, ◌∙◌, arith}
+use Rattle.std.proofs.Common.{◌≡◌, ap, sym, subst, ◌∙◌, arith}
 use Rattle.atomic_table.specs.Table.{Me}
 use Rattle.fx_pool.specs.declared.rule.Hand.{Hand}
-use Rattle.fx_pool.specs.Draws.{all_parts, AllDrawn}
+use Rattle.fx_pool.specs.Draws.{all_parts, HasAll}
 use Rattle.fx_pool.proofs.Keeps.{same_table, joins, allows_learn}
 use Rattle.fx_pool.proofs.draw.Draw.join.Goals as goal
 
@@ -31,6 +31,6 @@ returns-clause-all g c =
     let M : Type 0 = Me g.row.S.Denot (Hand g.row.S.Denot) in
     let same = ap (λ s. s.draw) c.seat.view_is ∙ (c.requires.draw ∙ sym c.self.view_is) in
     let count = ap (λ (m : M). m.0.count) c.join_seat.ensures.2 ∙ (ap (λ d. d.count) same ∙ ap (λ d. d.count) c.self.view_is) in
-    let learnt : c.join_seat.new.seat.me.0.parts ≡ all_parts → 0 < length c.join_seat.new.seat.me.0.past → AllDrawn c.args.self.now.count c.join_seat.new.seat.me.0.drawn =
-    λ all told. subst (λ n. AllDrawn n c.join_seat.new.seat.me.0.drawn) count (c.load.ensures.2.1 all told) in
-    subst (λ (m : M). m.0.parts ≡ all_parts → 0 < length m.0.past → AllDrawn c.args.self.now.count m.0.drawn) (sym c.load.ensures.2.0) learnt
+    let learnt : c.join_seat.new.seat.me.0.parts ≡ all_parts → HasAll c.args.self.now.count c.join_seat.new.seat.me.0.drawn c.join_seat.new.seat.me.0.past =
+    λ all. subst (λ n. HasAll n c.join_seat.new.seat.me.0.drawn c.join_seat.new.seat.me.0.past) count (c.load.ensures.2.1 all) in
+    subst (λ (m : M). m.0.parts ≡ all_parts → HasAll c.args.self.now.count m.0.drawn m.0.past) (sym c.load.ensures.2.0) learnt
