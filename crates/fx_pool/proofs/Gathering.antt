@@ -1,8 +1,8 @@
 -- Workers that are set up one by one, and taken apart one by one, from the end of a list.
-use Rattle.std.proofs.Common.{◌≡◌, ℕ, List, [], ◌∷◌, ◌++◌, map, reverse, flat_map, sym, refl, ap, ◌∙◌, append_assoc}
+use Rattle.std.proofs.Common.{◌≡◌, ℕ, List, [], ◌∷◌, ◌++◌, reverse, sym, ap, ◌∙◌, append_assoc}
 use Rattle.std.proofs.lemmas.List.{reverse-append, map-append}
 use Rattle.fx_pool.specs.declared.worker.Worker.{Worker}
-use Rattle.fx_pool.specs.Working.{seats_of, outs_of, numbers_of}
+use Rattle.fx_pool.specs.Working.{seats_of, outs_of}
 
 module _ {A : Type 0} where
   -- one more from the end of what remains

@@ -1,5 +1,5 @@
 -- Each step on a draw keeps its rule.
-use Rattle.std.proofs.Common.{◌≡◌, ℕ, ◌+◌, ◌-◌, ◌%◌, ◌^◌, ◌<◌, ◌≤◌, ◌≢◌, ◌==◌, cond, min, List, [], ◌∷◌, ◌++◌, length, get_or, set, map, sum_by, sym, refl, ap, ◌∙◌, subst, ⊎_elim, arith, length-set, length-append, get_or-set_same, lt_of_not-le}
+use Rattle.std.proofs.Common.{◌≡◌, ℕ, ◌+◌, ◌%◌, ◌^◌, ◌<◌, ◌≤◌, ◌==◌, cond, min, List, [], ◌∷◌, ◌++◌, length, get_or, set, sum_by, sym, refl, ap, ◌∙◌, subst, ⊎_elim, arith, length-set, length-append, get_or-set_same, lt_of_not-le}
 use Rattle.std.proofs.lemmas.Bool.Decides.{nat_tests}
 use Rattle.std.proofs.lemmas.List.Sums.{sum_by-append, sum_by_push}
 use mathlib.Core.Logic.{dite}
@@ -7,13 +7,13 @@ use mathlib.Core.Option.{some, none}
 use native.Mathlib.Decide.{dec_le}
 use lib.ListN.{get_elem?}
 use lib.Seq.{set-get_or}
-use Rattle.atomic_table.specs.Table.{State, Me, Act, step, keeps, takes, gives, put_back, rest, stepped, homes_after, carried_after, Valid, Allows, Splits, Joins, opening}
+use Rattle.atomic_table.specs.Table.{State, Me, Act, step, keeps, takes, gives, put_back, stepped, homes_after, carried_after, Valid, Allows, Splits, Joins, opening}
 use Rattle.atomic_table.specs.Seated.{TableId}
 use Rattle.atomic_table.proofs.Lists.{at_set, set_else, set_again, at_snoc, at_map}
 use Rattle.fx_pool.specs.declared.rule.Hand.{Hand}
-use Rattle.fx_pool.specs.Draws.{DrawState, all_parts, times, once_below}
+use Rattle.fx_pool.specs.Draws.{DrawState, times, once_below}
 use Rattle.fx_pool.specs.Drawing.{first_hand, drew, ended, one_less, one_part, both, spent, Knows, Ruled, Drawn, TakenOut, ReadBack, Learnt, draw_of}
-use Rattle.fx_pool.proofs.Lists.{there, at_one, at_alone, sum_set, sum_at, sum_none, sum_alone, sum_le, sole, sum_sole}
+use Rattle.fx_pool.proofs.Lists.{there, at_alone, sum_set, sum_at, sum_alone, sum_le, sole, sum_sole}
 
 one_more : (x w count : ℕ) → w < count → once_below x (min (w + 1) count) ≡ once_below x (min w count) + cond (w == x) 1 0
 one_more x w count h = grind (arith, nat_tests)
@@ -89,10 +89,11 @@ module _ {S : Type 0} (count : ℕ) (items : List S) where
       → Allows Rule slots id me 0 (λ n. (n + 1) % 2 ^ 64) (TakenOut (step {S = S} slots 0 1 0 none) me)
   allows_take slots id me few some_part fresh own told long = allows_some slots id me (TakenOut (step {S = S} slots 0 1 0 none) me) few some_part fresh
       (λ s r at below. let n : ℕ = get_or s.words 0 0 in let x = there items n (omega arith) in (
-      takes n x.0,
-      (λ k y after is. set_else s.homes n k none (λ e. omega arith) ∙ r.home k y (omega arith) is),
-      r.home n x.0 (omega arith) x.1,
-      ((λ _. (x.0, subst (λ (l : List S). get_elem? l n ≡ some x.0) (sym told) x.1, refl)), (λ over. absurd (omega arith)))))
+        takes n x.0,
+        (λ k y after is. set_else s.homes n k none (λ e. omega arith) ∙ r.home k y (omega arith) is),
+        r.home n x.0 (omega arith) x.1,
+        ((λ _. (x.0, subst (λ (l : List S). get_elem? l n ≡ some x.0) (sym told) x.1, refl)), (λ over. absurd (omega arith))),
+      ))
       (λ n over. ((λ below. absurd (omega arith)), (λ _. refl)))
 
   drawn_below : (k w : ℕ) → 1 ≤ once_below k (min w count) → k < w
@@ -158,13 +159,16 @@ module _ {S : Type 0} (count : ℕ) (items : List S) where
     keeps,
     tt,
     unmoved s r id me at,
-    (refl, λ all. let none_else = sole (λ (h : Hand S). h.parts) s.views id me.0 at (r.parts ∙ sym all) in
-        let own = (r.each_seat id me.0 at).count_is some_part in let t = sum_at (λ (h : Hand S). length h.past) s.views id me.0 at in record {
-          next = min (get_or s.words 0 0) count;
-          within = omega arith;
-          each_once = λ x. sym (sum_sole (λ (h : Hand S). times x h.drawn) s.views id me.0 at (λ j b there_b ne. ap (times x) ((r.each_seat j b there_b).nothing (none_else j b there_b ne)))) ∙ r.once x;
-          ended = λ some_none. let over = r.last (omega arith) in omega arith;
-        }),
+    (
+      refl,
+      λ all. let none_else = sole (λ (h : Hand S). h.parts) s.views id me.0 at (r.parts ∙ sym all) in
+          let own = (r.each_seat id me.0 at).count_is some_part in let t = sum_at (λ (h : Hand S). length h.past) s.views id me.0 at in record {
+            next = min (get_or s.words 0 0) count;
+            within = omega arith;
+            each_once = λ x. sym (sum_sole (λ (h : Hand S). times x h.drawn) s.views id me.0 at (λ j b there_b ne. ap (times x) ((r.each_seat j b there_b).nothing (none_else j b there_b ne)))) ∙ r.once x;
+            ended = λ some_none. let over = r.last (omega arith) in omega arith;
+          },
+    ),
   )
 
   pub opens : (ts : List S) → items ≡ ts → Rule (opening (0 ∷ []) ts (first_hand count items))

@@ -1,5 +1,5 @@
 -- What one more turn makes of a worker.
-use Rattle.std.proofs.Common.{◌≡◌, ℕ, ◌+◌, ◌<◌, ◌∷◌, ◌++◌, [], List, Bool, true, false, All, length, map, sum_by, sym, refl, ap, ◌∙◌, subst, arith}
+use Rattle.std.proofs.Common.{◌≡◌, ℕ, ◌+◌, ◌∷◌, ◌++◌, [], List, true, All, length, sym, ap, ◌∙◌, subst, arith}
 use Rattle.std.proofs.lemmas.List.{map-append, length-append}
 use Rattle.std.proofs.lemmas.List.Sums.{sum_by_push}
 use Rattle.std.proofs.lemmas.List.Elements.{All-push}
@@ -45,7 +45,7 @@ module _ {S D T : Type 0} (fits : S → Type 0) (right : ℕ → T → Type 0) (
   goes_on n o fit draw outs is_right rises failed = record {
     fit = fit;
     draw = draw ∙ (ap (λ (s : DrawSeatState D). with_drawn s n) so_far.draw
-    ∙ ap (λ (ns : List ℕ). record { draw = d; parts = 1; drawn = ns; past = [] })
+        ∙ ap (λ (ns : List ℕ). record { draw = d; parts = 1; drawn = ns; past = [] })
         (sym (map-append {A = ℕ × T} {B = ℕ} (λ x. x.0) w.outs.items ((n, o) ∷ [])) ∙ ap numbers_of (sym outs)));
     outs_right = subst (All (λ (x : ℕ × T). right x.0 x.1)) (sym outs) (All-push (λ (x : ℕ × T). right x.0 x.1) w.outs.items (n, o) so_far.outs_right is_right);
     weighs = rises ∙ (ap (λ (u : ℕ × ℕ). plus u (out_weight o)) so_far.weighs

@@ -1,5 +1,5 @@
 -- What a worker begins with, and what it has done.
-use Rattle.std.specs.Prelude.{◌≡◌, ℕ, ◌<◌, Bool, false, List, [], map, length, flat_map, All, Option, slice_index_or}
+use Rattle.std.specs.Prelude.{◌≡◌, ℕ, ◌<◌, false, List, [], map, length, flat_map, All, Option, slice_index_or}
 use Rattle.std.specs.List.{range_with_len}
 use Rattle.fx_pool.specs.declared.worker.Worker.{Worker}
 use Rattle.fx_pool.specs.Draws.{DrawState, DrawSeatState, IsItem}

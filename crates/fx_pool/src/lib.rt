@@ -7,6 +7,8 @@ mod items;
 mod job;
 mod numbers;
 mod rule;
+#[cfg(test)]
+mod tests;
 mod worker;
 
 pub use draw::{Draw, DrawSeat};

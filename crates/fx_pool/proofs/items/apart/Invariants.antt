@@ -8,7 +8,7 @@ invariant-loop-item g l = record {
   count : vec_len l.items + vec_len l.made ≡ vec_len l.initial.made;
   same : vec_len l.outs ≡ vec_len l.items;
   room : vec_len l.initial.made ≤ vec_capacity l.items;
-  other_room : vec_len l.initial.made ≤ vec_capacity l.outs
+  other_room : vec_len l.initial.made ≤ vec_capacity l.outs;
 }
 
 abbrev pub decreases-loop-item : goal.decreases-loop-item

@@ -1,8 +1,6 @@
-use Rattle.std.proofs.Common.{rules, ◌≡◌, ℕ, ◌<◌, List, All, Option, Some, length, map, reverse, sym, ap, subst, ◌∙◌, arith}
-use Rattle.std.proofs.lemmas.List.{length-map, length-reverse}
-use Rattle.std.proofs.lemmas.List.Elements.{All-same}
-use Rattle.fx_pool.specs.declared.worker.Worker.{Worker}
-use Rattle.fx_pool.specs.Working.{EachRight, MadeRight, numbers_below, numbers_of, seats_of}
+use Rattle.std.proofs.Common.{◌≡◌, ℕ, List, All, Option, Some, length, sym, ap, subst, ◌∙◌, arith}
+use Rattle.std.proofs.lemmas.List.{length-map}
+use Rattle.fx_pool.specs.Working.{EachRight, MadeRight, numbers_below}
 use Rattle.fx_pool.specs.Weights.{plus, weigh}
 use Rattle.fx_pool.proofs.Together.{all_ready, all_back, all_right, all_weigh}
 use Rattle.fx_pool.proofs.Apart.{none_of, count_of, each_right, weigh-map}
@@ -63,4 +61,4 @@ returns-in-Ok-apart-clause-weighs g c =
     ∙ (all_weigh (g.J.ItemJob.fits c.args.job.now) (MadeRight (g.J.ItemJob.right c.args.job.now) c.in-Ok.draw.items) g.J.ItemJob.weight (λ m. g.J.ItemJob.out_weight m.1) c.in-Ok.draw c.set_up.new.workers.items c.run_all.new.workers.items c.run_all.ensures.count
     (λ i e h. (c.run_all.ensures.each i e h).worked) c.in-Some.ensures.works c.args.seats.items c.set_up.ensures.workers made c.in-Some.ensures.outs
     ∙ ap (plus (weigh g.J.ItemJob.weight c.args.seats.items))
-        (sym (weigh-map {A = Made} {B = T} (λ x. x.1.1) g.J.ItemJob.out_weight made) ∙ ap (weigh g.J.ItemJob.out_weight) (sym c.in-Ok-apart.ensures.outs)))
+    (sym (weigh-map {A = Made} {B = T} (λ x. x.1.1) g.J.ItemJob.out_weight made) ∙ ap (weigh g.J.ItemJob.out_weight) (sym c.in-Ok-apart.ensures.outs)))

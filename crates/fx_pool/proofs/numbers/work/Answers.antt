@@ -1,8 +1,4 @@
-use Rattle.std.proofs.Common.{rules, ◌≡◌, ℕ, ◌<◌, All, length, reverse, ap, ◌∙◌, arith}
-use Rattle.std.proofs.lemmas.List.{length-map, length-reverse}
-use Rattle.std.proofs.lemmas.List.Elements.{All-same}
-use Rattle.fx_pool.specs.declared.worker.Worker.{Worker}
-use Rattle.fx_pool.specs.Working.{seats_of}
+use Rattle.std.proofs.Common.{ap, ◌∙◌, arith}
 use Rattle.fx_pool.specs.Weights.{weigh}
 use Rattle.fx_pool.proofs.Together.{all_ready, all_back, all_right, all_weigh}
 use Rattle.fx_pool.proofs.numbers.work.Goals as goal

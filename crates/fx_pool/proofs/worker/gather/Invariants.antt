@@ -1,4 +1,4 @@
-use Rattle.std.proofs.Common.{◌≡◌, ◌+◌, ◌<◌, ◌≤◌, ◌++◌, [], All, false, length, reverse, vec_capacity, vec_len}
+use Rattle.std.proofs.Common.{◌≡◌, ◌+◌, ◌<◌, ◌≤◌, ◌++◌, All, false, length, reverse, vec_capacity, vec_len}
 use Rattle.fx_pool.specs.Draws.{HasAll, all_parts}
 use Rattle.fx_pool.specs.Working.{HasEnded, numbers_of, outs_of, seats_of}
 use Rattle.fx_pool.proofs.worker.gather.Given as goal
@@ -15,7 +15,7 @@ invariant-loop-worker g l = record {
   works : l.gathered.failed ≡ false → All (λ w. w.failed ≡ false) l.workers.items → All (λ w. w.failed ≡ false) l.initial.workers.items;
   told : l.gathered.failed ≡ false → 0 < vec_len l.seats → 0 < length l.all.past;
   numbers : l.gathered.failed ≡ false → l.all.drawn ≡ numbers_of l.gathered.outs.items;
-  outs : l.gathered.failed ≡ false → l.gathered.outs.items ++ outs_of (reverse l.workers.items) ≡ outs_of (reverse l.initial.workers.items)
+  outs : l.gathered.failed ≡ false → l.gathered.outs.items ++ outs_of (reverse l.workers.items) ≡ outs_of (reverse l.initial.workers.items);
 }
 
 abbrev pub decreases-loop-worker : goal.decreases-loop-worker

@@ -1,4 +1,4 @@
-use Rattle.std.proofs.Common.{◌≡◌, ◌+◌, ◌≤◌, ◌++◌, [], All, reverse, vec_capacity, vec_len}
+use Rattle.std.proofs.Common.{◌≡◌, ◌+◌, ◌≤◌, ◌++◌, All, reverse, vec_capacity, vec_len}
 use Rattle.fx_pool.specs.Working.{IsFresh, seats_of}
 use Rattle.fx_pool.proofs.worker.set_up.Given as goal
 
@@ -12,7 +12,7 @@ invariant-loop-seat g l = record {
   kept : vec_capacity l.seats ≡ vec_capacity l.initial.seats;
   room : vec_len l.initial.seats ≤ vec_capacity l.workers;
   seats : seats_of l.workers.items ++ reverse l.seats.items ≡ reverse l.initial.seats.items;
-  fresh : All (IsFresh l.draw) l.workers.items
+  fresh : All (IsFresh l.draw) l.workers.items;
 }
 
 abbrev pub decreases-loop-seat : goal.decreases-loop-seat

@@ -1,4 +1,4 @@
-use Rattle.std.proofs.Common.{rules, ℕ, ◌≡◌, ◌++◌, List, drop, length, sym, subst, arith}
+use Rattle.std.proofs.Common.{rules, ℕ, ◌≡◌, List, drop, length, sym, subst, arith}
 use Rattle.std.proofs.lemmas.List.Sorted.{IsNonDecreasingBy-from_sort_by_key}
 use Rattle.fx_pool.specs.Working.{numbers_of, numbers_below}
 use Rattle.fx_pool.proofs.Rising.{rising, written_back}

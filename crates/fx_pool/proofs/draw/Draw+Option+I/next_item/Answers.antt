@@ -1,4 +1,4 @@
-use Rattle.std.proofs.Common.{rules, ◌≡◌, ℕ, ◌<◌, ◌≤◌, ◌∷◌, [], List, Option, Some, None, length, ap, sym, subst, ◌∙◌, arith}
+use Rattle.std.proofs.Common.{ℕ, ◌≤◌, ◌∷◌, List, Option, None, length, ap, sym, subst, ◌∙◌, arith}
 use Rattle.atomic_table.specs.Table.{Me, rest}
 use Rattle.fx_pool.specs.declared.rule.Hand.{Hand}
 use Rattle.fx_pool.specs.Draws.{times}

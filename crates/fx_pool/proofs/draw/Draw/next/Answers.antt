@@ -1,4 +1,4 @@
-use Rattle.std.proofs.Common.{rules, ap, sym, ◌∙◌, arith}
+use Rattle.std.proofs.Common.{ap, sym, ◌∙◌, arith}
 use Rattle.fx_pool.proofs.Keeps.{same_table, allows_draw}
 use Rattle.fx_pool.proofs.draw.Draw.next.Goals as goal
 
