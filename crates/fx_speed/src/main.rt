@@ -1,10 +1,12 @@
 //! Does one thing many times, so that a script under `bench/` can time it: `fx_speed kept 1000000` asks
-//! a core for kept keys, `turn` takes and gives a turn, `turns` does so in eight threads on one slot.
-//! Several such pairs are done in their order.
+//! a core for kept keys, `turn` takes and gives a turn, `turns` does so in eight threads on one slot,
+//! `draw` draws numbers, and `one`, `two` and `four` do a piece of work for each number with as many
+//! workers. Several such pairs are done in their order.
 #![tactic(auto)]
 
 mod kept;
 mod number;
+mod pool;
 mod turns;
 
 use std::env;
@@ -33,6 +35,10 @@ fn main(rt: HostRuntime) -> ExitCode {
             "kept" => kept::ask_kept(rt.alloc(), count).ok(),
             "turn" => turns::add_alone(&rt, count).ok(),
             "turns" => turns::add_together(&rt, count).ok(),
+            "draw" => pool::draw_alone(rt.alloc(), count).ok(),
+            "one" => pool::work_together(&rt, 1, count).ok(),
+            "two" => pool::work_together(&rt, 2, count).ok(),
+            "four" => pool::work_together(&rt, 4, count).ok(),
             _ => return ExitCode::from(USAGE),
         };
         match done {
