@@ -18,8 +18,11 @@ use std::thread::Threads;
 /// in the order of the items.
 #[derive(Drop)]
 pub struct WorkedItems<S, I, T> {
+    /// As many as were handed in.
     pub seats: Vec<S>,
+    /// The items as their turns left them.
     pub items: Vec<I>,
+    /// What the turn of each item made.
     pub outs: Vec<T>,
 }
 
@@ -27,7 +30,7 @@ pub struct WorkedItems<S, I, T> {
 /// its number before it draws an item. Where no thread can be made the workers run one after another.
 /// `Memory` comes where memory is wanting, once all workers have ended, and hands the seats back; the
 /// items are then let go.
-pub fn work_items<R: Threads + Wait + Sync, P: Pace, I: Send + Drop, J: ItemJob<I>>(
+pub fn work_items<R: Threads + Wait + Sync, I: Send + Drop, J: ItemJob<I>, P: Pace>(
     rt: &R,
     alloc: Global,
     pace: &P,
@@ -98,7 +101,7 @@ fn apart<I: Drop, T: Drop>(
 }
 
 // Draws items and does the job for each, until none is left or memory is wanting.
-fn run<R: Wait, P: Pace, I: Send + Drop, J: ItemJob<I>>(
+fn run<R: Wait, I: Send + Drop, J: ItemJob<I>, P: Pace>(
     rt: &R,
     alloc: Global,
     pace: &P,
@@ -132,7 +135,7 @@ fn run<R: Wait, P: Pace, I: Send + Drop, J: ItemJob<I>>(
 }
 
 // Runs all workers beside each other.
-fn run_all<R: Threads + Wait + Sync, P: Pace, I: Send + Drop, J: ItemJob<I>>(
+fn run_all<R: Threads + Wait + Sync, I: Send + Drop, J: ItemJob<I>, P: Pace>(
     rt: &R,
     alloc: Global,
     pace: &P,

@@ -15,12 +15,16 @@ pub trait Job: Sync {
     /// What comes of a turn.
     type Out: Send + Drop;
 
+    /// Which seats fit the job.
     ghost fits: { Self → Self.Seat → Type 0 };
 
+    /// Which outs are right for a number.
     ghost right: { Self → ℕ → Self.Out → Type 0 };
 
+    /// What a seat weighs.
     ghost weight: { Self.Seat → ℕ × ℕ };
 
+    /// What an out weighs.
     ghost out_weight: { Self.Out → ℕ × ℕ };
 
     /// Does the job for the number `index`. The seat fits afterwards too, at `Memory` as well, which
@@ -47,12 +51,16 @@ pub trait ItemJob<I>: Sync {
     /// What comes of a turn.
     type Out: Send + Drop;
 
+    /// Which seats fit the job.
     ghost fits: { Self → Self.Seat → Type 0 };
 
+    /// Which outs are right for an index, the item before and the item after.
     ghost right: { Self → ℕ → I → I → Self.Out → Type 0 };
 
+    /// What a seat weighs.
     ghost weight: { Self.Seat → ℕ × ℕ };
 
+    /// What an out weighs.
     ghost out_weight: { Self.Out → ℕ × ℕ };
 
     /// Does the job for the item with this index. The seat fits afterwards too, at `Memory` as well,

@@ -16,7 +16,9 @@ use std::thread::Threads;
 /// What came of a job for each number: the seats, and an out for each number, by rising number.
 #[derive(Drop)]
 pub struct Worked<S, T> {
+    /// As many as were handed in.
     pub seats: Vec<S>,
+    /// Each number below the count, rising, with what its turn made.
     pub outs: Vec<(u64, T)>,
 }
 
@@ -24,7 +26,7 @@ pub struct Worked<S, T> {
 /// `pace.before_draw` with its number before each draw. Where no thread can be made the workers run
 /// one after another. `Memory` comes where memory is wanting, once all workers have ended, and hands
 /// the seats back.
-pub fn work<R: Threads + Wait + Sync, P: Pace, J: Job>(
+pub fn work<R: Threads + Wait + Sync, J: Job, P: Pace>(
     rt: &R,
     alloc: Global,
     pace: &P,
@@ -56,7 +58,7 @@ pub fn work<R: Threads + Wait + Sync, P: Pace, J: Job>(
 }
 
 // Draws numbers and does the job for each, until none is left or memory is wanting.
-fn run<R: Wait, P: Pace, J: Job>(
+fn run<R: Wait, J: Job, P: Pace>(
     rt: &R,
     alloc: Global,
     pace: &P,
@@ -89,7 +91,7 @@ fn run<R: Wait, P: Pace, J: Job>(
 }
 
 // Runs all workers beside each other.
-fn run_all<R: Threads + Wait + Sync, P: Pace, J: Job>(
+fn run_all<R: Threads + Wait + Sync, J: Job, P: Pace>(
     rt: &R,
     alloc: Global,
     pace: &P,
