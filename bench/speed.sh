@@ -1,6 +1,7 @@
 #!/usr/bin/env bash
-# speed.sh: the cost of one ask of a core for a kept key, one taking and giving of a turn, and the same
-# in eight threads on one slot, in nanoseconds. It times `fx_speed` with a large count and with 0.
+# speed.sh: the cost of one ask of a core for a kept key, one taking and giving of a turn, the same in
+# eight threads on one slot, and one draw of a number, in nanoseconds; and how much faster two and four
+# workers do work that shares nothing. It times `fx_speed` with a large count and with 0.
 set -eu
 here=$(cd "$(dirname "${BASH_SOURCE[0]}")/.." && pwd)
 program=$here/crates/fx_speed/out/fx_speed
@@ -27,6 +28,17 @@ measure() {
   echo "$4: $(((full - empty) / ($2 * $3))) ns"
 }
 
+# speed_up WORD COUNT: how much faster the word's workers do so many pieces of work than one does.
+speed_up() {
+  local one many
+  one=$(($(took one "$2") - $(took one 0)))
+  many=$(($(took "$1" "$2") - $(took "$1" 0)))
+  echo "$2 pieces of work by $1 workers: $((many / 1000000)) ms, by one $((one / 1000000)) ms, $((100 * one / many))% of its speed"
+}
+
 measure kept 10000000 1 'an ask for one of 4,096 kept keys'
 measure turn 10000000 1 'a turn taken and given, alone'
 measure turns 1000000 8 'a turn taken and given, among eight threads on one slot'
+measure draw 10000000 1 'a number drawn, alone'
+speed_up two 50000
+speed_up four 50000

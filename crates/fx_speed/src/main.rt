@@ -1,14 +1,16 @@
 //! Does one thing many times, so that a script under `bench/` can time it: `fx_speed kept 1000000` asks
-//! a core for kept keys, `turn` takes and gives a turn, `turns` does so in eight threads on one slot.
-//! `file` makes the bytes of a PAM file with so many rows of 1,920 pixels and `read` reads them too, of
-//! r, g, b and a; with `rgb`, `scaled` or `short` behind its name, of other samples. `image` makes an
-//! image of that width, and `write` and `write_rgb` write it too. Several such pairs are done in their
+//! a core for kept keys, `turn` takes and gives a turn, `turns` does so in eight threads on one slot,
+//! `draw` draws numbers, and `one`, `two` and `four` do a piece of work for each number with as many
+//! workers. `file` makes the bytes of a PAM file with so many rows of 1,920 pixels and `read` reads them
+//! too, of r, g, b and a; with `rgb`, `scaled` or `short` behind its name, of other samples. `image` makes
+//! an image of that width, and `write` and `write_rgb` write it too. Several such pairs are done in their
 //! order.
 #![tactic(auto)]
 
 mod kept;
 mod number;
 mod pam;
+mod pool;
 mod turns;
 
 use fx_pixel::Format;
@@ -39,6 +41,10 @@ fn main(rt: HostRuntime) -> ExitCode {
             "kept" => kept::ask_kept(rt.alloc(), count).ok(),
             "turn" => turns::add_alone(&rt, count).ok(),
             "turns" => turns::add_together(&rt, count).ok(),
+            "draw" => pool::draw_alone(rt.alloc(), count).ok(),
+            "one" => pool::work_together(&rt, 1, count).ok(),
+            "two" => pool::work_together(&rt, 2, count).ok(),
+            "four" => pool::work_together(&rt, 4, count).ok(),
             what => match pam_work(what) {
                 Some(work) => work.done(rt.alloc(), count).ok(),
                 None => return ExitCode::from(USAGE),

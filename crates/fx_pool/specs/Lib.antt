@@ -1,0 +1,4 @@
+pub mod Draws
+pub mod Drawing
+pub mod Weights
+pub mod Working
