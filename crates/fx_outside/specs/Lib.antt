@@ -2,3 +2,4 @@ pub mod Outside
 pub mod Tally
 pub mod Memory
 pub mod Objects
+pub mod Sure

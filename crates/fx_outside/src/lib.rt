@@ -4,8 +4,10 @@
 #![tactic(auto)]
 
 mod faults;
+mod files;
 mod memory;
 mod real;
+mod sure;
 mod tally;
 #[cfg(test)]
 mod tests;
@@ -14,4 +16,5 @@ mod traits;
 pub use faults::{FetchFault, PutFault};
 pub use memory::{MemoryDepot, MemoryLibrary, MemorySink};
 pub use real::{FileDepot, FileLibrary, StdSink};
+pub use sure::{SureDepot, SureLibrary, SureSink};
 pub use traits::{Depot, FreePace, Library, Pace, Sink};

@@ -1,15 +1,16 @@
 //! The outside in memory: objects that tell what they hold, and fail exactly at the calls with given
 //! numbers, counted from 1.
 ghost use Rattle.std.specs.Prelude.{◌≡◌, ◌≢◌, ◌≤◌, ◌⊎◌, ◌++◌, ℕ, List, [], true, OnOk, OnErr, IfOk, IsErrOf, option_map, None, Some};
-ghost use Rattle.fx_outside.specs.Memory.{first_of, kept};
+ghost use Rattle.fx_outside.specs.Memory.{first_of};
 ghost use Rattle.fx_outside.specs.Outside.{SameFiles, Sets};
 ghost use Rattle.fx_outside.specs.Tally.{no_calls, is_next_to_fail, after_call, after_fault, one_more};
 ghost use Rattle.fx_outside.specs.Objects.{library_files, library_calls, depot_files, depot_calls, sink_bytes, sink_calls};
 
+use crate::files::{bytes_of, first_of, keep};
 use crate::tally::Tally;
 use crate::{Depot, FetchFault, Library, PutFault, Sink};
 use fx_base::Name;
-use std::alloc::{AllocError, Global};
+use std::alloc::Global;
 use std::collections::BTreeMap;
 
 /// A library that holds its files.
@@ -30,13 +31,6 @@ impl MemoryLibrary {
             tally: Tally::new(alloc, failing),
         }
     }
-}
-
-// The first file of that name.
-fn first_of<'a>(files: &'a [(Name, Vec<u8>)], name: &str) -> Option<&'a (Name, Vec<u8>)>
-    ensures { option_map (λ file. file.now.1.items) result ≡ first_of files.now name.now }
-{
-    files.iter().find(|file| file.0.text() == name)
 }
 
 fn fetch_fault(alloc: Global, tally: &mut Tally, name: &str) -> FetchFault
@@ -101,27 +95,8 @@ impl MemoryDepot {
     pub fn get(&self, name: &str) -> Option<&[u8]>
         ensures { option_map (λ bytes. bytes.now) result ≡ depot_files self.now name.now }
     {
-        match self.files.get(name) {
-            Some(bytes) => Some(bytes.as_slice()),
-            None => None,
-        }
+        bytes_of(&self.files, name)
     }
-}
-
-// Puts the bytes in the place of those of that name.
-fn keep(
-    alloc: Global,
-    files: &mut BTreeMap<String, Vec<u8>>,
-    name: &str,
-    bytes: &[u8],
-) -> Result<(), AllocError>
-    ensures ok { OnOk result (Sets name.now bytes.now (kept files.old) (kept files.new)) }
-    ensures err { OnErr result (SameFiles (kept files.old) (kept files.new)) }
-{
-    let key = String::from_str(alloc, name)?;
-    let copy = bytes.to_vec(alloc)?;
-    files.insert(key, copy)?;
-    Ok(())
 }
 
 fn put_fault(alloc: Global, tally: &mut Tally, name: &str) -> PutFault

@@ -1,6 +1,6 @@
 use crate::{
     Depot, FetchFault, FileDepot, FileLibrary, FreePace, Library, MemoryDepot, MemoryLibrary,
-    MemorySink, Pace, PutFault, Sink, StdSink,
+    MemorySink, Pace, PutFault, Sink, StdSink, SureDepot, SureLibrary, SureSink,
 };
 use fx_base::Name;
 use std::alloc::{AllocError, Global};
@@ -50,6 +50,42 @@ fn sink_fails_as_listed(rt: HostRuntime) -> Result<(), Fail> {
     sink.write(alloc, b"d")?;
     assert_eq!(rt; sink.bytes(), b"abd".as_slice());
     FreePace.before_draw(0);
+    Ok(())
+}
+
+#[test]
+fn sure_library_has_every_name(rt: HostRuntime) -> Result<(), Fail> {
+    let alloc = rt.alloc();
+    let bytes = b"two".to_vec(alloc)?;
+    let mut library = SureLibrary::new(alloc, vec![in alloc; (named(alloc, "a")?, bytes)]?);
+    assert_eq!(rt; library.fetch(alloc, "a")?.as_slice(), b"two".as_slice());
+    assert_eq!(rt; library.fetch(alloc, "b")?.len(), 0);
+    assert_eq!(rt; library.fetch(alloc, "a")?.as_slice(), b"two".as_slice());
+    Ok(())
+}
+
+#[test]
+fn sure_depot_takes_every_put(rt: HostRuntime) -> Result<(), Fail> {
+    let alloc = rt.alloc();
+    let mut depot = SureDepot::new(alloc);
+    assert_eq!(rt; depot.get("a"), None);
+    depot.put(alloc, "a", b"one")?;
+    depot.put(alloc, "b", b"")?;
+    depot.put(alloc, "a", b"three")?;
+    assert_eq!(rt; depot.get("a").ok_or("no a")?, b"three".as_slice());
+    assert_eq!(rt; depot.get("b").ok_or("no b")?.len(), 0);
+    assert_eq!(rt; depot.get("c"), None);
+    Ok(())
+}
+
+#[test]
+fn sure_sink_takes_every_write(rt: HostRuntime) -> Result<(), Fail> {
+    let alloc = rt.alloc();
+    let mut sink = SureSink::new(alloc);
+    assert_eq!(rt; sink.bytes().len(), 0);
+    sink.write(alloc, b"ab")?;
+    sink.write(alloc, b"c")?;
+    assert_eq!(rt; sink.bytes(), b"abc".as_slice());
     Ok(())
 }
 
