@@ -1,0 +1,3 @@
+pub mod HeldLemmas
+pub mod FillingLemmas
+pub mod RefusalLaws

@@ -1,0 +1,20 @@
+//! What the first refusal of a list of wanted frames is.
+ghost use Rattle.std.specs.Prelude.{◌≡◌, ◌≤◌, ◌↔◌, ℕ, List, None, Some, All};
+ghost use Rattle.fx_outside.specs.Outside.{Files};
+ghost use Rattle.fx_seq.specs.declared.fault.SeqFault.{SeqFault};
+ghost use Rattle.fx_seq.specs.declared.wanted.Wanted.{Wanted};
+ghost use Rattle.fx_seq.specs.Filling.{first_refused, IsReadable, wanted_size, RefusedAt};
+
+/// No frame of a list is refused exactly where each can be read and their sizes together are up to the
+/// limit. It computes nothing.
+pub fn accepted_is()
+    ensures { (files : Files) (side limit : ℕ) (wanted : List Wanted)
+        → (first_refused files side limit 0 wanted ≡ None) ↔ (All (IsReadable files side) wanted × (wanted_size files wanted ≤ limit)) }
+{}
+
+/// What is refused first of a list is a frame of it: those before are not refused, and it is, by its file
+/// or by their sizes with its own. It computes nothing.
+pub fn first_refused_is()
+    ensures { (files : Files) (side limit : ℕ) (wanted : List Wanted) (e : SeqFault)
+        → (first_refused files side limit 0 wanted ≡ Some e) ↔ RefusedAt files side limit wanted e }
+{}

@@ -1,0 +1,13 @@
+//! The source frames of a run: each is fetched and read once, and held under its node and frame.
+#![tactic(auto)]
+
+mod fault;
+pub mod laws;
+mod store;
+#[cfg(test)]
+mod tests;
+mod wanted;
+
+pub use fault::SeqFault;
+pub use store::Store;
+pub use wanted::Wanted;
