@@ -26,7 +26,7 @@ use Rattle.fx_effect.specs.Placed.{CoversRow, IsPieceRow, piece_rect, given_piec
 use Rattle.fx_effect.specs.declared.steps.Step.{Step}
 use Rattle.fx_effect.specs.declared.piece.Placed.{Placed}
 
-is_wide : (r : Bounds) → IsRect r → r.x1 ≤ℤ r.x2
+pub is_wide : (r : Bounds) → IsRect r → r.x1 ≤ℤ r.x2
 is_wide r (inl is) = let left = ap (λ (b : Bounds). b.x1) is in let right = ap (λ (b : Bounds). b.x2) is in omega (arith, ints)
 is_wide r (inr is) = omega (arith, ints, is.0)
 

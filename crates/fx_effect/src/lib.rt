@@ -15,6 +15,6 @@ mod values;
 pub use effect::ImageEffect;
 pub use inputs::Inputs;
 pub use piece::Piece;
-pub use rows::{RowKernel, fill};
+pub use rows::{RowKernel, fill, offset};
 pub use steps::{Step, Steps};
 pub use values::{Flags, Numbers, Values};

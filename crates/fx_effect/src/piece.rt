@@ -11,6 +11,7 @@ ghost use Rattle.fx_effect.specs.Rows.{ShowsRow};
 ghost use Rattle.fx_effect.specs.Placed.{piece_view, piece_rect, piece_steps, given_piece, IsPiece, CoversRow, IsPieceRow};
 
 use crate::Steps;
+use crate::rows::offset;
 use fx_base::Rect;
 use fx_image::View;
 use fx_image::samples::{pixel, pixel_size};
@@ -144,14 +145,6 @@ fn covers_row(have: Rect, rect: Rect, y: i64) -> bool
     ensures { result ≡ true → CoversRow have rect y }
 {
     (have.x1 <= rect.x1) & (rect.x2 <= have.x2) & (have.y1 <= y) & (y < have.y2)
-}
-
-// How far one column lies behind another.
-fn offset(from: i64, to: i64) -> usize
-    requires { from ≤ℤ to }
-    ensures { result ≡ int_gap from to }
-{
-    to.abs_diff(from) as usize
 }
 
 fn pixel_at(view: &View<'_>, x: i64, y: i64) -> Pixel

@@ -1,5 +1,6 @@
 //! The loop over the rows of a window, which effects share.
-ghost use Rattle.std.specs.Prelude.{ℤ};
+ghost use Rattle.std.specs.Prelude.{◌≡◌, ℤ, ◌≤ℤ◌};
+ghost use Rattle.std.specs.Int.{int_gap};
 ghost use Rattle.fx_pixel.specs.declared.Depth.{Depth};
 ghost use Rattle.fx_pixel.specs.declared.Components.{Components};
 ghost use Rattle.fx_pixel.specs.declared.Pixel.{Pixel};
@@ -24,6 +25,14 @@ pub trait RowKernel {
         requires makes { makes self.now depth components }
         requires row { IsRow depth components rect y row.old }
         ensures { ShowsRow depth components rect y (pixel self.now depth components) row.new };
+}
+
+/// How far one column lies to the right of another.
+pub fn offset(from: i64, to: i64) -> usize
+    requires { from ≤ℤ to }
+    ensures { result ≡ int_gap from to }
+{
+    to.abs_diff(from) as usize
 }
 
 /// Fills a part with a kernel's pixels, row by row from the bottom. No other pixel of the image changes.
