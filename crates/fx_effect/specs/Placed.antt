@@ -1,0 +1,58 @@
+-- Pieces, as contracts see them.
+use Rattle.std.specs.Prelude.{◌≡◌, ℕ, ◌*◌, ℤ, ◌≤ℤ◌, ◌<ℤ◌, true, List, length}
+use Rattle.std.specs.List.{All}
+use Rattle.fx_base.specs.Bounds.{Bounds}
+use Rattle.fx_base.specs.Rect.{Holds, within, columns}
+use Rattle.fx_pixel.specs.declared.Depth.{Depth}
+use Rattle.fx_pixel.specs.declared.Components.{Components}
+use Rattle.fx_pixel.specs.declared.Pixel.{Pixel}
+use Rattle.fx_image.specs.Stored.{Stored, pixel_size}
+use Rattle.fx_image.specs.View.{IsView}
+use Rattle.fx_image.specs.declared.view.View.{View}
+use Rattle.fx_effect.specs.Given.{GivenPiece}
+use Rattle.fx_effect.specs.Rows.{ShowsRow}
+use Rattle.fx_effect.specs.declared.steps.Step.{Step}
+use Rattle.fx_effect.specs.declared.piece.Piece.{Piece}
+use Rattle.fx_effect.specs.declared.piece.Piece.TheVariants.{Frame}
+use Rattle.fx_effect.specs.declared.piece.Placed.{Placed}
+
+abbrev pub piece_view : Piece → View
+piece_view (Frame view through) = view
+
+abbrev pub piece_rect : Piece → Bounds
+piece_rect p = (piece_view p).rect
+
+abbrev pub piece_image : Piece → Stored
+piece_image p = (piece_view p).image.now
+
+abbrev pub piece_steps : Piece → List Step
+piece_steps (Frame view through) = through
+
+-- its view lies in its image
+abbrev pub IsPiece : Piece → Type 0
+IsPiece p = IsView (piece_view p)
+
+-- the piece, where it stands for a clip at a frame
+abbrev pub piece_at : ℕ → ℤ → Piece → GivenPiece
+piece_at clip frame piece = record { clip = clip; frame = frame; rect = piece_rect piece; image = piece_image piece; through = piece_steps piece }
+
+abbrev pub given_piece : Placed → GivenPiece
+given_piece p = piece_at p.clip p.frame p.piece
+
+-- the first rectangle has the whole of row y of the second
+pub record CoversRow (have rect : Bounds) (y : ℤ) : Type 0 where
+  pub left : have.x1 ≤ℤ rect.x1
+  pub wide : rect.x1 ≤ℤ rect.x2
+  pub right : rect.x2 ≤ℤ have.x2
+  pub bottom : have.y1 ≤ℤ y
+  pub top : y <ℤ have.y2
+
+-- The first rectangle has the whole of row y of the second, and the bytes show these pixels there.
+pub record IsPieceRow (depth : Depth) (c : Components) (have rect : Bounds) (y : ℤ) (f : ℤ → ℤ → Pixel) (bytes : List ℕ) : Type 0 where
+  pub covers : CoversRow have rect y
+  pub long : length bytes ≡ columns rect * pixel_size depth c
+  pub pixels : ShowsRow depth c rect y f bytes
+
+-- each of the pieces lies in its image
+abbrev pub ArePlaced : List Placed → Type 0
+ArePlaced pieces = All (λ p. IsPiece p.piece) pieces

@@ -1,0 +1,21 @@
+-- Rows of bytes that show pixels.
+use Rattle.std.specs.Prelude.{◌≡◌, ℕ, ◌*◌, ℤ, ◌≤ℤ◌, ◌<ℤ◌, List, length}
+use Rattle.std.specs.Int.{int_gap}
+use Rattle.fx_base.specs.Bounds.{Bounds, IsRect}
+use Rattle.fx_base.specs.Rect.{Holds, columns, IsNear}
+use Rattle.fx_pixel.specs.declared.Depth.{Depth}
+use Rattle.fx_pixel.specs.declared.Components.{Components}
+use Rattle.fx_pixel.specs.declared.Pixel.{Pixel}
+use Rattle.fx_image.specs.Stored.{pixel_size, pixel_in}
+
+-- the bytes are as many as row y of the rectangle has, which has such a row
+pub record IsRow (depth : Depth) (c : Components) (rect : Bounds) (y : ℤ) (bytes : List ℕ) : Type 0 where
+  pub bounds : IsRect rect
+  pub near : IsNear rect
+  pub above : rect.y1 ≤ℤ y
+  pub below : y <ℤ rect.y2
+  pub long : length bytes ≡ columns rect * pixel_size depth c
+
+-- the bytes show these pixels in row y of the rectangle
+abbrev pub ShowsRow : Depth → Components → Bounds → ℤ → (ℤ → ℤ → Pixel) → List ℕ → Type 0
+ShowsRow depth c rect y f bytes = (x : ℤ) → Holds rect x y → pixel_in depth c bytes (int_gap rect.x1 x) ≡ f x y

@@ -1,0 +1,142 @@
+//! What an effect may read.
+ghost use Rattle.std.specs.Prelude.{◌≡◌, ◌≤◌, ◌<◌, ◌*◌, ℤ, [], ◌∷◌, ◌++◌, IfOk, OnOk, OnErr, IfSome, length};
+ghost use Rattle.fx_base.specs.Rect.{columns};
+ghost use Rattle.fx_pixel.specs.Pixel.{IsOfDepth, components_of};
+ghost use Rattle.fx_image.specs.Stored.{pixel_size};
+
+use crate::Piece;
+use crate::piece::Placed;
+use fx_base::{Memory, Rect};
+use fx_pixel::{Components, Depth, Pixel};
+use std::alloc::Global;
+use std::marker::Model;
+
+/// The pixels of an effect's input clips, all shown at one depth and each clip with its components.
+#[derive(Drop)]
+pub struct Inputs<'a> {
+    depth: Depth,
+    components: Vec<Components>,
+    pieces: Vec<Placed<'a>>,
+}
+
+impl<'a> Model for Inputs<'a> {
+    ghost use Rattle.std.specs.Prelude.{map};
+    ghost use Rattle.fx_effect.specs.Given.{Given};
+
+    ghost Value = { Given };
+
+    ghost use Rattle.fx_effect.specs.Placed.{given_piece, ArePlaced};
+
+    ghost view = { λ a. record { depth = a.depth; components = a.components.items; pieces = map given_piece a.pieces.items } };
+
+    ghost invariant = { λ a. ArePlaced a.pieces.items };
+}
+
+impl<'a> Inputs<'a> {
+    ghost use Rattle.std.specs.Prelude.{map};
+    ghost use Rattle.fx_effect.specs.Tap.{tap};
+    ghost use Rattle.fx_effect.specs.Given.{input_pixel, clip_components, row_pixel};
+    ghost use Rattle.fx_effect.specs.Rows.{ShowsRow};
+    ghost use Rattle.fx_effect.specs.Placed.{IsPiece, piece_at};
+
+    /// No pixels yet, for clips of these components.
+    pub fn new(
+        alloc: Global,
+        depth: Depth,
+        components: Vec<Components>,
+    ) -> Result<Inputs<'a>, Memory>
+        ensures { IfOk result (λ inputs. inputs ≡ record { depth = depth; components = components.items; pieces = [] }) }
+    {
+        Ok(Inputs {
+            depth,
+            components,
+            pieces: Vec::new(alloc),
+        })
+    }
+
+    /// Adds a piece that stands for a clip at a frame, behind the others. At want of memory it isn't
+    /// added.
+    pub fn push(&mut self, clip: u32, frame: i64, piece: Piece<'a>) -> Result<(), Memory>
+        requires clip { clip < length self.old.components }
+        requires piece { IsPiece piece }
+        ensures ok { OnOk result (self.new ≡ record self.old { pieces = self.old.pieces ++ piece_at clip frame piece.entry ∷ [] }) }
+        ensures memory { OnErr result (self.new ≡ self.old) }
+    {
+        self.pieces.push(Placed { clip, frame, piece })?;
+        Ok(())
+    }
+
+    /// The pixel of the first piece of that clip and frame that has the place, converted, and the zero
+    /// pixel where none has.
+    pub fn at(&self, clip: u32, frame: i64, x: i64, y: i64) -> Pixel
+        requires { clip < length self.now.components }
+        ensures value { result ≡ input_pixel self.now (tap clip frame x y) }
+        ensures depth { IsOfDepth self.now.depth result }
+        ensures components { components_of result ≡ clip_components self.now clip }
+    {
+        let components = self.components[clip as usize];
+        let pieces = self.pieces.as_slice();
+        pixel_in_pieces(pieces, self.depth, components, clip, frame, x, y)
+    }
+
+    /// The bytes of row y of the rectangle, where one piece has the whole row and converts nothing; each
+    /// pixel there is what `at` gives. None says nothing of the pixels.
+    pub fn row(&self, clip: u32, frame: i64, rect: Rect, y: i64) -> Option<&[u8]>
+        requires { clip < length self.now.components }
+        ensures long { IfSome result (λ bytes. length bytes.now ≡ columns rect * pixel_size self.now.depth (clip_components self.now clip)) }
+        ensures pixels { IfSome result (λ bytes. ShowsRow self.now.depth (clip_components self.now clip) rect y (row_pixel self.now clip frame) bytes.now) }
+    {
+        let components = self.components[clip as usize];
+        let pieces = self.pieces.as_slice();
+        row_in_pieces(pieces, self.depth, components, clip, frame, rect, y)
+    }
+}
+
+ghost use Rattle.std.specs.Prelude.{map};
+ghost use Rattle.fx_effect.specs.Tap.{tap};
+ghost use Rattle.fx_effect.specs.Given.{first_pixel};
+ghost use Rattle.fx_effect.specs.Rows.{ShowsRow};
+ghost use Rattle.fx_effect.specs.Placed.{given_piece, ArePlaced};
+
+fn pixel_in_pieces(
+    pieces: &[Placed<'_>],
+    depth: Depth,
+    components: Components,
+    clip: u32,
+    frame: i64,
+    x: i64,
+    y: i64,
+) -> Pixel
+    requires { ArePlaced pieces.now }
+    ensures value { result ≡ first_pixel depth components (map given_piece pieces.now) (tap clip frame x y) }
+    ensures depth { IsOfDepth depth result }
+    ensures components { components_of result ≡ components }
+{
+    for placed in pieces {
+        if placed.holds(clip, frame, x, y) {
+            return placed.pixel(depth, components, x, y);
+        }
+    }
+    Pixel::zero(components)
+}
+
+fn row_in_pieces<'s>(
+    pieces: &'s [Placed<'_>],
+    depth: Depth,
+    components: Components,
+    clip: u32,
+    frame: i64,
+    rect: Rect,
+    y: i64,
+) -> Option<&'s [u8]>
+    requires { ArePlaced pieces.now }
+    ensures long { IfSome result (λ bytes. length bytes.now ≡ columns rect * pixel_size depth components) }
+    ensures pixels { IfSome result (λ bytes. ShowsRow depth components rect y (λ x y. first_pixel depth components (map given_piece pieces.now) (tap clip frame x y)) bytes.now) }
+{
+    for placed in pieces {
+        if placed.meets(clip, frame, rect, y) {
+            return placed.row(depth, components, rect, y);
+        }
+    }
+    None
+}

@@ -1,0 +1,110 @@
+//! The effect solid.
+ghost use Rattle.std.specs.Prelude.{◌≡◌, ◌≤◌, ◌<◌, ◌⊎◌, ℤ, pos, ◌≤ℤ◌, true, false};
+ghost use Rattle.std.specs.Int.{int_gap};
+ghost use Rattle.fx_base.specs.Rect.{within, Holds, columns};
+ghost use Rattle.fx_pixel.specs.Pixel.{greatest, components_of, IsOfDepth};
+ghost use Rattle.fx_gen.specs.Solid.{scale, colour, solid, solid_pixel, HasLevels};
+
+use crate::paint::paint;
+use fx_base::{Memory, Rect};
+use fx_effect::{ImageEffect, Inputs, RowKernel, Values, fill, offset};
+use fx_image::Part;
+use fx_pixel::{Components, Depth, Pixel};
+use std::alloc::Global;
+
+/// One colour over the project's extent, and zero outside it. Its parameters are r, g, b and a, levels
+/// from 0 to 1.
+#[derive(Clone, Copy, Debug, PartialEq, Eq)]
+pub struct Solid;
+
+impl ImageEffect for Solid {
+    ghost meaning = { λ _. solid };
+
+    fn render(
+        &self,
+        _alloc: Global,
+        values: &Values,
+        _inputs: &Inputs<'_>,
+        out: &mut Part<'_>,
+    ) -> Result<(), Memory> {
+        fill(&SolidRows { values }, out);
+        Ok(())
+    }
+}
+
+// The rows of a render.
+#[derive(Drop)]
+struct SolidRows<'a> {
+    values: &'a Values,
+}
+
+impl<'a> RowKernel for SolidRows<'a> {
+    ghost makes = { λ k depth c. HasLevels k.values.now.numbers };
+
+    ghost pixel = { λ k depth c x y. solid_pixel k.values.now c (greatest depth) x y };
+
+    fn fill_row(
+        &self,
+        depth: Depth,
+        components: Components,
+        rect: Rect,
+        y: i64,
+        row: &mut [u8],
+    ) {
+        let colour = colour(depth, components, self.values.numbers.items());
+        let zero = Pixel::zero(components);
+        let (from, to) = columns_within(self.values.project, rect, y);
+        let end = offset(rect.x1, rect.x2);
+        paint(depth, components, row, 0, from, zero);
+        paint(depth, components, row, from, to, colour);
+        paint(depth, components, row, to, end, zero);
+    }
+}
+
+// The columns of row y of a rectangle that lie in the project, counted from the rectangle's left: from
+// the first up to the second.
+fn columns_within(project: Rect, rect: Rect, y: i64) -> (usize, usize)
+    requires { rect.x1 ≤ℤ rect.x2 }
+    ensures order { result.0 ≤ result.1 }
+    ensures end { result.1 ≤ columns rect }
+    ensures inside { (x : ℤ) → Holds rect x y → result.0 ≤ int_gap rect.x1 x → int_gap rect.x1 x < result.1 → within project x y ≡ true }
+    ensures outside { (x : ℤ) → Holds rect x y → (int_gap rect.x1 x < result.0) ⊎ (result.1 ≤ int_gap rect.x1 x) → within project x y ≡ false }
+{
+    if y < project.y1 || project.y2 <= y {
+        return (0, 0);
+    }
+    let left = project.x1.clamp(rect.x1, rect.x2);
+    let right = project.x2.clamp(rect.x1, rect.x2);
+    (offset(rect.x1, left), offset(rect.x1, right))
+}
+
+// The colour of these levels.
+fn colour(depth: Depth, components: Components, levels: &[i64]) -> Pixel
+    requires { HasLevels levels.now }
+    ensures value { result ≡ colour (greatest depth) levels.now components }
+    ensures depth { IsOfDepth depth result }
+    ensures components { components_of result ≡ components }
+{
+    match components {
+        Components::Rgba => Pixel::Rgba {
+            r: scale(depth, levels[0]),
+            g: scale(depth, levels[1]),
+            b: scale(depth, levels[2]),
+            a: scale(depth, levels[3]),
+        },
+        Components::Alpha => Pixel::Alpha {
+            a: scale(depth, levels[3]),
+        },
+    }
+}
+
+// A level as a sample: the greatest times the level, to the nearest and halves up.
+fn scale(depth: Depth, level: i64) -> u16
+    requires { (pos 0 ≤ℤ level) × (level ≤ℤ pos 65536) }
+    ensures value { result ≡ scale (greatest depth) level }
+    ensures bound { result ≤ greatest depth }
+{
+    let level = level as u64;
+    let greatest = u64::from(depth.greatest());
+    ((2 * level * greatest + 65536) / 131072) as u16
+}
