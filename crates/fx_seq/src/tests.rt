@@ -5,7 +5,7 @@ use crate::{SeqFault, Store, Wanted};
 use fx_base::Name;
 use fx_outside::MemoryLibrary;
 use fx_pam::PamFault;
-use fx_pixel::{Depth, Pixel};
+use fx_pixel::Pixel;
 use std::alloc::{AllocError, Global};
 use std::test::Fail;
 
@@ -96,16 +96,13 @@ fn told(fault: &SeqFault) -> Option<(u32, i64, Cause<'_>)> {
 #[test]
 fn two_frames_are_held(rt: HostRuntime) -> Result<(), Fail> {
     let alloc = rt.alloc();
-    for names in [("byte", "byte"), ("byte", "short")] {
-        let limit = if names.1 == "byte" { 8 } else { 12 };
-        let store = fill(alloc, names, &[], limit)?.ok().ok_or("not filled")?;
+    for (name, limit, pixel) in [("byte", 8, FIRST), ("short", 12, SECOND)] {
+        let filled = fill(alloc, ("byte", name), &[], limit)?;
+        let store = filled.ok().ok_or("not filled")?;
         let first = store.frame(3, -1).ok_or("not held")?;
         let second = store.frame(1, 2).ok_or("not held")?;
         assert_eq!(rt; first.at(0, 0), FIRST);
-        assert_eq!(rt;
-            second.at(0, 0),
-            if names.1 == "byte" { FIRST } else { SECOND }
-        );
+        assert_eq!(rt; second.at(0, 0), pixel);
         for (node, frame) in [(3, 2), (1, -1), (2, -1), (3, 0)] {
             assert!(rt; store.frame(node, frame).is_none());
         }
