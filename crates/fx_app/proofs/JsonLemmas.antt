@@ -1,4 +1,4 @@
--- The keys of a map are those of the members that the value's data has.
+-- Texts among names, and the keys of a map, which are those of the members that the value's data has.
 use Rattle.std.proofs.Common.{◌≡◌, refl, ap, ℕ, List, [], ◌∷◌, map, String, string_bytes, ◌&&◌, ◌||◌, ◌∙◌}
 use Rattle.std.specs.Borrow.{Bor}
 use Rattle.std.specs.List.{list_any, list_all}
@@ -8,7 +8,7 @@ use Rattle.serde_json.specs.declared.value.Value.{Value}
 use Rattle.serde_json.specs.View.{members_view}
 use Rattle.fx_app.specs.Json.{is_among, members_are_among}
 
-among_is : (names : List (Bor (List ℕ))) (key : List ℕ) → list_any (λ k. bytes_eq k.now key) names ≡ is_among (map (λ k. k.now) names) key
+pub among_is : (names : List (Bor (List ℕ))) (key : List ℕ) → list_any (λ k. bytes_eq k.now key) names ≡ is_among (map (λ k. k.now) names) key
 among_is [] key = refl
 among_is (k ∷ names) key = ap (λ r. bytes_eq k.now key || r) (among_is names key)
 

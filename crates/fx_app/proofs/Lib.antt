@@ -1,2 +1,6 @@
 pub mod JsonLemmas
-pub mod RunLemmas
+pub mod NameLemmas
+pub mod FilesLemmas
+pub mod FillLemmas
+pub mod StepsLemmas
+pub mod PictureLemmas

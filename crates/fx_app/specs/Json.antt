@@ -1,8 +1,9 @@
 -- The JSON value of bytes, and what its objects have. Where an object has a key more than once, the last value counts.
-use Rattle.std.specs.Prelude.{ℕ, ◌&&◌, ◌||◌, ℤ, pos, negsuc, List, [], ◌∷◌, Bool, true, false, ◌==◌, if◌then◌else◌, Option, Some, None, option_and_then}
+use Rattle.std.specs.Prelude.{ℕ, ◌&&◌, ℤ, pos, negsuc, List, Bool, true, false, ◌==◌, if◌then◌else◌, Option, Some, None, option_and_then}
+use Rattle.std.specs.List.{list_any}
 use Rattle.std.specs.Str.{bytes_eq, is_utf8}
 use Rattle.serde_json.specs.Data.{Data, Members, no_members, member}
-use Rattle.serde_json.specs.Find.{get, as_str, as_number, as_i64, as_object, at}
+use Rattle.serde_json.specs.Find.{get, as_str, as_number, as_i64, as_object}
 use Rattle.serde_json.specs.Read.{read}
 
 -- the value, or None where the bytes are no JSON text
@@ -11,8 +12,7 @@ value_of bytes = if is_utf8 bytes then read bytes else None
 
 -- the key is one of these
 abbrev pub is_among : List (List ℕ) → List ℕ → Bool
-is_among [] key = false
-is_among (k ∷ keys) key = bytes_eq k key || is_among keys key
+is_among keys key = list_any (λ k. bytes_eq k key) keys
 
 -- each member's key is one of these
 abbrev pub members_are_among : List (List ℕ) → Members → Bool
@@ -51,11 +51,3 @@ is_whole None wanted = false
 -- the value at a key is this whole number
 abbrev pub has_whole : List ℕ → ℕ → Data → Bool
 has_whole key wanted d = is_whole (whole_at key d) wanted
-
-abbrev pub only_from : Option Data → Option Data → Option Data
-only_from first None = first
-only_from first (Some second) = None
-
--- the item of a list of one
-abbrev pub only_of : Data → Option Data
-only_of d = only_from (at 0 d) (at 1 d)

@@ -4,7 +4,7 @@ ghost use Rattle.std.specs.List.{list_any, list_all};
 ghost use Rattle.std.specs.Str.{bytes_eq};
 ghost use Rattle.std.specs.BTreeMap.{keys};
 ghost use Rattle.serde_json.specs.View.{view};
-ghost use Rattle.fx_app.specs.Json.{value_of, is_object_of, text_at, whole_at, has_text, has_whole, only_of};
+ghost use Rattle.fx_app.specs.Json.{value_of, is_object_of, text_at, whole_at, has_text, has_whole};
 
 use serde_json::{Map, Value};
 use std::alloc::Global;
@@ -33,7 +33,8 @@ pub fn value_of(alloc: Global, bytes: &[u8]) -> Result<Value, JsonFault>
     }
 }
 
-fn is_among(keys: &[&str], key: &str) -> bool
+/// Whether a text is one of these.
+pub fn is_among(keys: &[&str], key: &str) -> bool
     ensures { result ≡ list_any (λ k. bytes_eq k.now key.now) keys.now }
 {
     keys.iter().any(|k| *k == key)
@@ -86,15 +87,5 @@ pub fn has_whole(key: &str, wanted: u32, value: &Value) -> bool
     match whole_at(key, value) {
         Some(n) => n == i64::from(wanted),
         None => false,
-    }
-}
-
-/// The item of a list of one.
-pub fn only_of(list: &Value) -> Option<&Value>
-    ensures { option_map (λ v. view v.now) result ≡ only_of (view list.now) }
-{
-    match list.get(1usize) {
-        Some(_) => None,
-        None => list.get(0usize),
     }
 }

@@ -4,10 +4,15 @@
 //! graph's value.
 #![tactic(auto)]
 
-mod frame;
+mod copy;
+mod frames;
 mod graph;
 mod json;
+mod picture;
+mod source;
 mod steps;
+mod tell;
+mod texts;
 mod words;
 
 pub use steps::run;

@@ -1,7 +1,13 @@
+ghost use Rattle.std.specs.Prelude.{◌≡◌, pos, IfOk};
+ghost use Rattle.fx_base.specs.Rect.{Holds, IsNear, columns, rows};
+ghost use Rattle.fx_pixel.specs.Pixel.{IsOfDepth, components_of};
+ghost use Rattle.fx_pixel.specs.declared.Components.TheVariants.{Rgba as RgbaSamples};
+
 use crate::{Flags, Inputs, Numbers, Piece, Step, Steps};
-use fx_base::Rect;
+use fx_base::{Memory, Rect};
 use fx_image::Image;
 use fx_pixel::{Components, Depth, Pixel};
+use std::alloc::Global;
 use std::test::Fail;
 
 const GREY: Pixel = Pixel::Rgba {
@@ -16,6 +22,13 @@ const BYTE_GREY: Pixel = Pixel::Rgba {
     g: 128,
     b: 128,
     a: 128,
+};
+
+const FOUR: Pixel = Pixel::Rgba {
+    r: 1,
+    g: 2,
+    b: 3,
+    a: 4,
 };
 
 const CLEAR: Pixel = Pixel::Rgba {
@@ -53,66 +66,55 @@ fn lists_give_back_what_they_hold(rt: HostRuntime) -> Result<(), Fail> {
     Ok(())
 }
 
+// An image of two pixels, the second with this pixel.
+fn pair(alloc: Global, rect: Rect, depth: Depth, p: Pixel) -> Result<Image, Memory>
+    requires near { IsNear rect }
+    requires two { columns rect ≡ 2 }
+    requires row { rows rect ≡ 1 }
+    requires place { Holds rect (pos 1) (pos 0) }
+    requires components { components_of p ≡ RgbaSamples }
+    requires depth { IsOfDepth depth p }
+    ensures { IfOk result (λ image. (image.rect ≡ rect) × (image.depth ≡ depth) × (image.components ≡ RgbaSamples)) }
+{
+    let mut image = Image::new(alloc, rect, depth, Components::Rgba, 16)?;
+    image.put(1, 0, p);
+    Ok(image)
+}
+
 #[test]
-fn inputs_show_the_first_piece_that_has_the_place(rt: HostRuntime) -> Result<(), Fail> {
+fn the_first_piece_is_shown_converted(rt: HostRuntime) -> Result<(), Fail> {
     let alloc = rt.alloc();
-    let rgba = Components::Rgba;
-    let mut short = Image::new(alloc, Rect::of(0, 0, 2, 1), Depth::Short, rgba, 16)?;
-    short.put(1, 0, GREY);
-    let mut byte = Image::new(alloc, Rect::of(1, 0, 3, 1), Depth::Byte, rgba, 8)?;
-    let four = Pixel::Rgba {
-        r: 1,
-        g: 2,
-        b: 3,
-        a: 4,
-    };
-    byte.put(1, 0, BYTE_GREY);
-    byte.put(2, 0, four);
-    let mut inputs = Inputs::new(alloc, Depth::Byte, vec![in alloc; rgba, Components::Alpha]?)?;
-    let first = Piece::Frame {
-        view: short.view(Rect::of(0, 0, 2, 1)),
-        through: Steps::of(vec![in alloc;]?),
-    };
-    inputs.push(0, 5, first)?;
-    let second = Piece::Frame {
-        view: byte.view(Rect::of(1, 0, 3, 1)),
-        through: Steps::of(vec![in alloc;]?),
-    };
-    inputs.push(0, 5, second)?;
-    let alpha = Piece::Frame {
-        view: byte.view(Rect::of(2, 0, 3, 1)),
-        through: Steps::of(vec![in alloc;]?),
-    };
-    inputs.push(1, 5, alpha)?;
-    // The short frame is converted, and comes before the other where both have the place.
-    let shown = [
-        (0, 5, 0, 0, CLEAR),
-        (0, 5, 1, 0, BYTE_GREY),
-        (0, 5, 2, 0, four),
-        (0, 5, 3, 0, CLEAR),
-        (0, 5, 2, 1, CLEAR),
-        (0, 4, 2, 0, CLEAR),
-        (1, 5, 2, 0, Pixel::Alpha { a: 4 }),
-        (1, 5, 1, 0, Pixel::Alpha { a: 0 }),
-    ];
-    for (clip, frame, x, y, pixel) in shown {
-        assert_eq!(rt;
-            inputs.at(clip, frame, x, y),
-            pixel,
-            "{clip} {frame} at {x} {y}"
-        );
-    }
-    // Only the second piece has these rows whole and at the inputs' depth.
-    let row = inputs.row(0, 5, Rect::of(2, 0, 3, 1), 0).ok_or("no row")?;
+    let short = pair(alloc, Rect::of(0, 0, 2, 1), Depth::Short, GREY)?;
+    let byte = pair(alloc, Rect::of(1, 0, 3, 1), Depth::Byte, FOUR)?;
+    let mut inputs = Inputs::new(alloc, Depth::Byte, vec![in alloc; Components::Rgba]?)?;
+    let through = Steps::of(vec![in alloc;]?);
+    let view = short.view(Rect::of(0, 0, 2, 1));
+    inputs.push(0, 5, Piece::Frame { view, through })?;
+    let through = Steps::of(vec![in alloc;]?);
+    let view = byte.view(Rect::of(1, 0, 3, 1));
+    inputs.push(0, 5, Piece::Frame { view, through })?;
+    assert_eq!(rt;
+        (inputs.at(0, 5, 0, 0), inputs.at(0, 5, 1, 0)),
+        (CLEAR, BYTE_GREY)
+    );
+    assert_eq!(rt;
+        (inputs.at(0, 5, 3, 0), inputs.at(0, 4, 1, 0)),
+        (CLEAR, CLEAR)
+    );
+    Ok(())
+}
+
+#[test]
+fn rows_are_lent_where_a_piece_has_them_whole(rt: HostRuntime) -> Result<(), Fail> {
+    let alloc = rt.alloc();
+    let byte = pair(alloc, Rect::of(0, 0, 2, 1), Depth::Byte, FOUR)?;
+    let mut inputs = Inputs::new(alloc, Depth::Byte, vec![in alloc; Components::Rgba]?)?;
+    let through = Steps::of(vec![in alloc;]?);
+    let view = byte.view(Rect::of(0, 0, 2, 1));
+    inputs.push(0, 5, Piece::Frame { view, through })?;
+    let row = inputs.row(0, 5, Rect::of(1, 0, 2, 1), 0).ok_or("no row")?;
     assert_eq!(rt; row, [1, 2, 3, 4].as_slice());
-    for rect in [
-        Rect::of(0, 0, 2, 1),
-        Rect::of(1, 0, 3, 1),
-        Rect::of(2, 0, 4, 1),
-    ] {
-        assert!(rt; inputs.row(0, 5, rect, 0).is_none());
-    }
-    assert!(rt; inputs.row(0, 4, Rect::of(2, 0, 3, 1), 0).is_none());
-    assert!(rt; inputs.row(1, 5, Rect::of(2, 0, 3, 1), 0).is_none());
+    assert!(rt; inputs.row(0, 5, Rect::of(1, 0, 3, 1), 0).is_none());
+    assert!(rt; inputs.row(0, 4, Rect::of(1, 0, 2, 1), 0).is_none());
     Ok(())
 }

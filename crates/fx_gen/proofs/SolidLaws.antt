@@ -1,14 +1,14 @@
 -- The levels of lawful values, and the columns of a row that lie in the project.
-use Rattle.std.proofs.Common.{◌≡◌, ◌≤◌, ◌<◌, ◌⊎◌, inl, inr, ℕ, ◌+◌, ℤ, pos, ◌≤ℤ◌, ◌<ℤ◌, Bool, true, false, List, [], ◌∷◌, slice_index_or, if◌then◌else◌, zero, suc, length, refl, arith, ◌∙◌}
+use Rattle.std.proofs.Common.{◌≡◌, ◌≤◌, ◌<◌, ◌⊎◌, inl, inr, ℕ, ℤ, pos, ◌≤ℤ◌, ◌<ℤ◌, Bool, true, false, List, [], ◌∷◌, slice_index_or, if◌then◌else◌, zero, suc, refl, arith, ◌∙◌}
 use Rattle.std.specs.List.{AllZip}
 use Rattle.std.specs.Int.{int_gap, int_max, int_min}
-use Rattle.std.proofs.lemmas.Int.{ints, clamps, by_lt_z}
+use Rattle.std.proofs.lemmas.Int.{ints, clamps}
 use Rattle.std.proofs.lemmas.Bool.{cases_lt}
 use Rattle.fx_base.specs.Bounds.{Bounds}
 use Rattle.fx_base.specs.Rect.{within}
 use Rattle.fx_pixel.specs.declared.Pixel.{Pixel}
-use Rattle.fx_image.proofs.ImageLaws.{gap_is, gap_up_to, place_from, place_to}
-use Rattle.fx_effect.specs.Meaning.{Param, InRange}
+use Rattle.fx_image.proofs.ImageLaws.{gap_is, place_from, place_to}
+use Rattle.fx_effect.specs.Meaning.{InRange}
 use Rattle.fx_gen.specs.Solid.{level, HasLevels}
 
 high_four : (n : ℕ) → suc (suc (suc (suc n))) < 4 → ⊥

@@ -1,6 +1,5 @@
 -- The effect solid: one colour over the project's extent, and zero outside it. Its parameters r, g, b and a are levels from 0 to 1, as numbers of units of 1/65536.
-use Rattle.std.specs.Prelude.{◌≡◌, ◌<◌, length, ◌≤ℤ◌, ℕ, ◌+◌, ◌*◌, ◌/◌, ℤ, pos, negsuc, Bool, true, List, [], ◌∷◌, slice_index_or, if◌then◌else◌}
-use Rattle.fx_base.specs.Bounds.{Bounds}
+use Rattle.std.specs.Prelude.{◌≡◌, ◌<◌, length, ◌≤ℤ◌, ℕ, ◌+◌, ◌*◌, ◌/◌, ℤ, pos, negsuc, true, List, [], ◌∷◌, slice_index_or, if◌then◌else◌}
 use Rattle.fx_base.specs.Rect.{within}
 use Rattle.fx_pixel.specs.declared.Components.{Components}
 use Rattle.fx_pixel.specs.declared.Components.TheVariants as components

@@ -43,14 +43,7 @@ impl<'a> RowKernel for SolidRows<'a> {
 
     ghost pixel = { λ k depth c x y. solid_pixel k.values.now c (greatest depth) x y };
 
-    fn fill_row(
-        &self,
-        depth: Depth,
-        components: Components,
-        rect: Rect,
-        y: i64,
-        row: &mut [u8],
-    ) {
+    fn fill_row(&self, depth: Depth, components: Components, rect: Rect, y: i64, row: &mut [u8]) {
         let colour = colour(depth, components, self.values.numbers.items());
         let zero = Pixel::zero(components);
         let (from, to) = columns_within(self.values.project, rect, y);

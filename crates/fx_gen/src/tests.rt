@@ -28,9 +28,24 @@ fn solid_fills_the_project_within_the_part(rt: HostRuntime) -> Result<(), Fail> 
     // 255 and 65535 halves and quarters, to the nearest and halves up.
     let cases = [
         (Depth::Byte, Components::Rgba, rgba(255, 128, 0, 64), CLEAR),
-        (Depth::Short, Components::Rgba, rgba(65535, 32768, 0, 16384), CLEAR),
-        (Depth::Byte, Components::Alpha, Pixel::Alpha { a: 64 }, Pixel::Alpha { a: 0 }),
-        (Depth::Short, Components::Alpha, Pixel::Alpha { a: 16384 }, Pixel::Alpha { a: 0 }),
+        (
+            Depth::Short,
+            Components::Rgba,
+            rgba(65535, 32768, 0, 16384),
+            CLEAR,
+        ),
+        (
+            Depth::Byte,
+            Components::Alpha,
+            Pixel::Alpha { a: 64 },
+            Pixel::Alpha { a: 0 },
+        ),
+        (
+            Depth::Short,
+            Components::Alpha,
+            Pixel::Alpha { a: 16384 },
+            Pixel::Alpha { a: 0 },
+        ),
     ];
     for (depth, components, colour, zero) in cases {
         let mut image = Image::new(alloc, Rect::of(-2, -1, 6, 3), depth, components, 64)?;

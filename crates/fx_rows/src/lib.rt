@@ -3,6 +3,12 @@
 #![tactic(auto)]
 
 #[cfg(test)]
+mod chain;
+#[cfg(test)]
 mod first_frame;
+#[cfg(test)]
+mod graph_text;
+#[cfg(test)]
+mod graphs;
 #[cfg(test)]
 mod outcome;

@@ -1,2 +1,4 @@
 pub mod TableLemmas
 pub mod ValueLemmas
+pub mod WantsLemmas
+pub mod ChainLemmas

@@ -1,6 +1,6 @@
 -- The value of a node, by the values of the nodes.
 use Rattle.std.proofs.Common.{◌≡◌, ℕ, ◌<◌, ℤ, refl, ap, ◌∙◌, List, [], ◌∷◌, map, Option, Some, None}
-use Rattle.fx_scene.specs.Plan.{Kind, Effect, Plan, IsPlan, IsKind, clip_node}
+use Rattle.fx_scene.specs.Plan.{Kind, Source, Effect, Plan, IsPlan, IsKind, clip_node}
 use Rattle.fx_scene.specs.Table.{below, at_place}
 use Rattle.fx_scene.specs.Value.{Field, no_field, clip_value, tap_value, node_value, value, ValueIsMix}
 use Rattle.fx_scene.proofs.TableLemmas.{below_is}
@@ -15,6 +15,7 @@ clip_same f g n (Some m) earlier same = same m (earlier m refl)
 
 -- a node reads nothing but the values of earlier nodes
 node_same : (f g : ℕ → Field) (n : ℕ) (kind : Kind) → IsKind n kind → ((m : ℕ) → m < n → f m ≡ g m) → (t x y : ℤ) → node_value f kind t x y ≡ node_value g kind t x y
+node_same f g n (Source r) is same t x y = refl
 node_same f g n (Effect o) is same t x y =
     ap (o.mix t x y)
     (map_same (tap_value f o) (tap_value g o) (o.taps t x y)

@@ -1,5 +1,6 @@
 pub mod Table
 pub mod Plan
 pub mod Value
-pub mod Solid
 pub mod Scene
+pub mod Graph
+pub mod Wants

@@ -1,13 +1,10 @@
--- What stands in a list of nodes, with no type of effect in it: a pixel of an effect node is made from the pixels that it reads on its input clips.
+-- What stands in a list of nodes, with no type of effect in it: a source of frames, or an effect, whose pixel is made from the pixels that it reads on its input clips.
 use Rattle.std.specs.Prelude.{◌≡◌, ℕ, ◌<◌, ℤ, List, Option, Some, None, slice_index_or}
 use Rattle.fx_pixel.specs.declared.Pixel.{Pixel}
-
--- a pixel that an effect reads: on which input clip, of which frame, at which place
-pub record Tap : Type 0 where
-  pub clip : ℕ
-  pub frame : ℤ
-  pub x : ℤ
-  pub y : ℤ
+use Rattle.fx_pixel.specs.declared.Depth.{Depth}
+use Rattle.fx_pixel.specs.declared.Components.{Components}
+use Rattle.fx_image.specs.Image.{Image}
+use Rattle.fx_effect.specs.Tap.{Tap}
 
 -- An effect in its place: the taps of each pixel (of a frame, a column and a row), the pixel that it makes of theirs, and which node each input clip is, if any.
 pub record Op : Type 0 where
@@ -15,7 +12,16 @@ pub record Op : Type 0 where
   pub mix : ℤ → ℤ → ℤ → List Pixel → Pixel
   pub clips : List (Option ℕ)
 
+-- A source of frames: its first and last frame, the image of each frame that was fetched, and the depth and components of its pixels. Outside its frames it is black.
+pub record Reel : Type 0 where
+  pub first : ℤ
+  pub last : ℤ
+  pub frames : ℤ → Option Image
+  pub depth : Depth
+  pub components : Components
+
 pub data Kind : Type 0 where
+  Source : Reel → Kind
   Effect : Op → Kind
 
 -- what stands at each place of the list
@@ -28,6 +34,7 @@ clip_node o clip = slice_index_or o.clips clip None
 
 -- each clip is an earlier node or nothing
 abbrev pub IsKind : ℕ → Kind → Type 0
+IsKind k (Source r) = Unit {0}
 IsKind k (Effect o) = (clip m : ℕ) → clip_node o clip ≡ Some m → m < k
 
 abbrev pub IsPlan : Plan → Type 0

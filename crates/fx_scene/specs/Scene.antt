@@ -1,33 +1,48 @@
--- A scene as far as it is built: a project of bytes and RGBA with one node, a solid, which is the output; and the picture of a frame.
-use Rattle.std.specs.Prelude.{ℕ, ℤ, pos, List}
-use Rattle.fx_base.specs.Bounds.{Bounds}
+-- What the nodes of a graph are, where its source's frames show these images; and the picture of a frame.
+use Rattle.std.specs.Prelude.{ℕ, zero, suc, ℤ, pos, List, [], ◌∷◌, true, Option, Some}
 use Rattle.fx_pixel.specs.declared.Depth.TheVariants.{Byte}
 use Rattle.fx_pixel.specs.declared.Components.TheVariants.{Rgba}
 use Rattle.fx_pixel.specs.Pixel.{greatest}
-use Rattle.fx_scene.specs.Plan.{Plan, Effect}
-use Rattle.fx_scene.specs.Value.{value}
 use Rattle.fx_image.specs.Image.{Image}
+use Rattle.fx_effect.specs.declared.values.Values.{Values}
+use Rattle.fx_effect.specs.Meaning.{Meaning}
+use Rattle.fx_gen.specs.Solid.{solid}
+use Rattle.fx_point.specs.Invert.{invert}
 use Rattle.fx_scene.specs.declared.solid.Levels.{Levels}
-use Rattle.fx_scene.specs.Solid.{solid}
+use Rattle.fx_scene.specs.declared.graph.Start.{Start}
+use Rattle.fx_scene.specs.declared.graph.Start.TheVariants as start
+use Rattle.fx_scene.specs.Plan.{Op, Kind, Effect, Plan, Source as Reel_of}
+use Rattle.fx_scene.specs.Value.{value}
+use Rattle.fx_scene.specs.Graph.{Graph, project}
 
--- the project's sides, the levels of the node, and the pattern of the files' names
-pub record Graph : Type 0 where
-  pub width : ℕ
-  pub height : ℕ
-  pub levels : Levels
-  pub file : List ℕ
+-- the images of the source's frames
+abbrev pub Frames : Type 0
+Frames = ℤ → Option Image
 
--- the project's extent
-abbrev pub project : Graph → Bounds
-project s = record { x1 = pos 0; y1 = pos 0; x2 = pos s.width; y2 = pos s.height }
+-- an effect of bytes and RGBA in its place: what it means by its values at each frame, and which node each input clip is
+abbrev pub op_of : Meaning → (ℤ → Values) → List (Option ℕ) → Op
+op_of m values clips =
+    record {
+      taps = λ t x y. m.taps (values t) x y;
+      mix = λ t x y pixels. m.mix (values t) Rgba (greatest Byte) x y pixels;
+      clips = clips;
+    }
 
-abbrev pub plan_of : Graph → Plan
-plan_of s k = Effect (solid (project s) (greatest Byte) s.levels)
+abbrev pub solid_values : Graph → Levels → ℤ → Values
+solid_values g l t = record { frame = t; numbers = pos l.r ∷ pos l.g ∷ pos l.b ∷ pos l.a ∷ []; connected = []; project = project g }
 
--- the place of the output node in the list
-abbrev pub output : Graph → ℕ
-output s = 0
+abbrev pub invert_values : Graph → ℤ → Values
+invert_values g t = record { frame = t; numbers = []; connected = true ∷ []; project = project g }
 
--- the picture of a frame: the output's value over the project's extent
-abbrev pub picture : Graph → ℤ → Image
-picture s t = record { rect = project s; depth = Byte; components = Rgba; pixel = value (plan_of s) (output s) t }
+abbrev pub start_kind : Graph → Frames → Start → Kind
+start_kind g frames (start.Solid levels) = Effect (op_of solid (solid_values g levels) [])
+start_kind g frames (start.Source s) = Reel_of (record { first = pos s.first; last = pos s.last; frames = frames; depth = Byte; components = Rgba })
+
+-- the nodes: the first one, and then inverts, each over the node just before
+abbrev pub plan_of : Graph → Frames → Plan
+plan_of g frames zero = start_kind g frames g.start
+plan_of g frames (suc k) = Effect (op_of invert (invert_values g) (Some k ∷ []))
+
+-- the picture of a frame: the value of the last node over the project's extent
+abbrev pub picture : Graph → Frames → ℤ → Image
+picture g frames t = record { rect = project g; depth = Byte; components = Rgba; pixel = value (plan_of g frames) g.inverts t }

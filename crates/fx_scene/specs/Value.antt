@@ -1,9 +1,12 @@
 -- The value of a node: its pixel at each frame and place, on the unbounded plane, one pixel at a time.
-use Rattle.std.specs.Prelude.{◌≡◌, ℕ, ℤ, map, Option, Some, None}
+use Rattle.std.specs.Prelude.{◌≡◌, ◌&&◌, ℕ, ℤ, map, Bool, if◌then◌else◌, Option, Some, None}
+use Rattle.std.specs.Int.Signed.{le_z}
 use Rattle.fx_pixel.specs.declared.Pixel.{Pixel}
 use Rattle.fx_pixel.specs.declared.Components.TheVariants as components
-use Rattle.fx_pixel.specs.Pixel.{zero}
-use Rattle.fx_scene.specs.Plan.{Tap, Op, Kind, Effect, Plan, clip_node}
+use Rattle.fx_pixel.specs.Pixel.{zero, convert}
+use Rattle.fx_image.specs.Image.{Image, pixel_at}
+use Rattle.fx_effect.specs.Tap.{Tap}
+use Rattle.fx_scene.specs.Plan.{Op, Reel, Kind, Source, Effect, Plan, clip_node}
 use Rattle.fx_scene.specs.Table.{at_place}
 
 -- a pixel at each frame, column and row
@@ -23,14 +26,27 @@ clip_value values (Some m) = values m
 abbrev pub tap_value : (ℕ → Field) → Op → Tap → Pixel
 tap_value values o p = clip_value values (clip_node o p.clip) p.frame p.x p.y
 
--- a node's value, by the values of the nodes: the mix of its taps
+-- a pixel of a frame, at the source's depth and components; a frame that wasn't fetched shows nothing
+abbrev pub frame_pixel : Reel → Option Image → ℤ → ℤ → Pixel
+frame_pixel r (Some image) x y = convert image.depth r.depth r.components (pixel_at image x y)
+frame_pixel r None x y = zero r.components
+
+-- whether a source has the frame
+abbrev pub has_frame : Reel → ℤ → Bool
+has_frame r t = le_z r.first t && le_z t r.last
+
+abbrev pub reel_value : Reel → Field
+reel_value r t x y = if has_frame r t then frame_pixel r (r.frames t) x y else zero r.components
+
+-- a node's value, by the values of the nodes: the frame's pixel, or the mix of its taps
 abbrev pub node_value : (ℕ → Field) → Kind → Field
+node_value values (Source r) t x y = reel_value r t x y
 node_value values (Effect o) t x y = o.mix t x y (map (tap_value values o) (o.taps t x y))
 
 -- the value of each node, by the place in the list
 unfoldable pub value : Plan → ℕ → Field
 value plan = at_place no_field (λ before k. node_value before (plan k))
 
--- the value of a node is the mix of its taps' values at the nodes that its clips are
+-- the value of a node is its frame's pixel, or the mix of its taps' values at the nodes that its clips are
 abbrev pub ValueIsMix : Plan → Type 0
 ValueIsMix plan = (n : ℕ) (t x y : ℤ) → value plan n t x y ≡ node_value (value plan) (plan n) t x y

@@ -1,7 +1,6 @@
 //! The parameters of the effect solid.
 ghost use Rattle.std.specs.Prelude.{◌≡◌, ◌≤◌};
 
-use fx_pixel::Pixel;
 use std::marker::Model;
 
 /// A level from 0 to 1, which contracts see as its number of units of 1/65536.
@@ -23,8 +22,6 @@ impl Model for Level {
 }
 
 impl Level {
-    ghost use Rattle.fx_scene.specs.Solid.{scale};
-
     /// The level of this many units of 1/65536.
     pub fn of(raw: u32) -> Level
         requires { raw ≤ 65536 }
@@ -33,11 +30,12 @@ impl Level {
         Level { raw }
     }
 
-    /// The level as a sample of a byte: 255 times the level, to the nearest and halves up.
-    pub fn sample(self) -> u8
-        ensures { result ≡ scale 255 self }
+    /// Its number of units of 1/65536.
+    pub fn raw(self) -> u32
+        ensures value { result ≡ self }
+        ensures bound { result ≤ 65536 }
     {
-        ((2 * self.raw * 255 + 65536) / 131072) as u8
+        self.raw
     }
 }
 
@@ -48,23 +46,4 @@ pub struct Levels {
     pub g: Level,
     pub b: Level,
     pub a: Level,
-}
-
-impl Levels {
-    ghost use Rattle.fx_scene.specs.Solid.{colour};
-    ghost use Rattle.fx_pixel.specs.declared.Depth.TheVariants.{Byte};
-    ghost use Rattle.fx_pixel.specs.Pixel.{IsOfDepth};
-
-    /// The colour as a pixel of bytes.
-    pub fn colour(self) -> Pixel
-        ensures value { result ≡ colour 255 self }
-        ensures depth { IsOfDepth Byte result }
-    {
-        Pixel::Rgba {
-            r: u16::from(self.r.sample()),
-            g: u16::from(self.g.sample()),
-            b: u16::from(self.b.sample()),
-            a: u16::from(self.a.sample()),
-        }
-    }
 }

@@ -1,4 +1,4 @@
-use Rattle.std.proofs.Common.{◌≡◌, ◌≤◌, ◌<◌, ◌-◌, ◌⊎◌, ℕ, length}
+use Rattle.std.proofs.Common.{◌≡◌, ◌≤◌, ◌<◌, ◌-◌, ◌⊎◌, ℕ}
 use Rattle.fx_image.specs.Stored.{pixel_in}
 use Rattle.fx_gen.proofs.paint.repeat.Given as goal
 

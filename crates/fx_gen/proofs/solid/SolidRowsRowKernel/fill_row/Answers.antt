@@ -1,8 +1,8 @@
-use Rattle.std.proofs.Common.{◌≡◌, ◌<◌, ap, sym, ◌∙◌, w64, FitsSigned, rules}
+use Rattle.std.proofs.Common.{◌≡◌, ◌<◌, ap, ◌∙◌, w64, FitsSigned, rules}
 use Rattle.std.specs.Int.{int_gap}
 use Rattle.std.proofs.lemmas.Int.{to_z-of_z}
 use Rattle.fx_base.specs.Rect.{within}
-use Rattle.fx_pixel.specs.Pixel.{greatest, zero}
+use Rattle.fx_pixel.specs.Pixel.{greatest}
 use Rattle.fx_image.specs.Stored.{pixel_in}
 use Rattle.fx_image.proofs.ImageLaws.{gap_below, place_from}
 use Rattle.fx_gen.specs.Solid.{colour}
