@@ -2,3 +2,4 @@ pub mod Fix
 pub mod Pattern
 pub mod Bounds
 pub mod Rect
+pub mod Status

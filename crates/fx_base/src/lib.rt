@@ -1,5 +1,5 @@
 //! What every crate of the host stands on: want of memory, fixed-point numbers, names, patterns of
-//! file names, and rectangles of pixels.
+//! file names, rectangles of pixels, and status codes.
 #![tactic(auto)]
 
 mod fix;
@@ -7,6 +7,7 @@ mod memory;
 mod name;
 mod pattern;
 mod rect;
+mod status;
 #[cfg(test)]
 mod tests;
 
@@ -15,3 +16,4 @@ pub use memory::Memory;
 pub use name::{Name, Names};
 pub use pattern::Pattern;
 pub use rect::Rect;
+pub use status::Status;

@@ -1,9 +1,10 @@
 //! Rectangles of pixels: half open, with the y axis upwards (OpenFX 1.4, "Coordinate Systems").
 //! Contracts see a rectangle as its four bounds, and the set of its places by the word `Holds`.
-ghost use Rattle.std.specs.Prelude.{◌≡◌, ◌↔◌, ℤ, IsTrue};
-ghost use Rattle.fx_base.specs.Bounds.{none};
-ghost use Rattle.fx_base.specs.Rect.{Holds, within, rect_of};
+ghost use Rattle.std.specs.Prelude.{◌≡◌, ◌↔◌, ℤ, pos, negsuc, ◌+ℤ◌, ◌*ℤ◌, ◌≤ℤ◌, ◌<ℤ◌, ◌&&◌, IsTrue};
+ghost use Rattle.fx_base.specs.Bounds.{Bounds, none};
+ghost use Rattle.fx_base.specs.Rect.{Holds, IsWithin, IsNear, Reaches, within, rect_of, meet, hull, grown, shifted, floor, ceiling, cover};
 
+use crate::Fix;
 use std::marker::Model;
 
 /// The pixels with `x1 <= x < x2` and `y1 <= y < y2`. The one empty rectangle is (0, 0, 0, 0).
@@ -58,4 +59,117 @@ impl Rect {
     {
         (self.x1 <= x) & (x < self.x2) & (self.y1 <= y) & (y < self.y2)
     }
+
+    /// Whether the other rectangle holds each pixel of this one. The empty one is within every one.
+    pub fn within(self, other: Rect) -> bool
+        ensures { IsTrue result ↔ IsWithin self other }
+    {
+        self.is_empty()
+            || (other.x1 <= self.x1)
+                & (self.x2 <= other.x2)
+                & (other.y1 <= self.y1)
+                & (self.y2 <= other.y2)
+    }
+
+    /// The pixels that both hold.
+    pub fn meet(self, other: Rect) -> Rect
+        ensures bounds { result ≡ meet self other }
+        ensures places { (x y : ℤ) → within result x y ≡ (within self x y && within other x y) }
+    {
+        Rect::of(
+            self.x1.max(other.x1),
+            self.y1.max(other.y1),
+            self.x2.min(other.x2),
+            self.y2.min(other.y2),
+        )
+    }
+
+    /// The smallest rectangle that holds both, which is the other one where one is empty.
+    pub fn hull(self, other: Rect) -> Rect
+        ensures bounds { result ≡ hull self other }
+        ensures holds_self { IsWithin self result }
+        ensures holds_other { IsWithin other result }
+        ensures smallest { (t : Bounds) → IsWithin self t → IsWithin other t → IsWithin result t }
+    {
+        if self.is_empty() {
+            other
+        } else if other.is_empty() {
+            self
+        } else {
+            Rect {
+                x1: self.x1.min(other.x1),
+                y1: self.y1.min(other.y1),
+                x2: self.x2.max(other.x2),
+                y2: self.y2.max(other.y2),
+            }
+        }
+    }
+
+    /// The rectangle with h more columns and v more rows on either side: the pixels that lie at most
+    /// h columns and v rows away from one of its own. The empty one stays empty.
+    pub fn grow(self, h: i64, v: i64) -> Rect
+        requires near { IsNear self }
+        requires h_low { pos 0 ≤ℤ h }
+        requires h_high { h ≤ℤ pos 1073741824 }
+        requires v_low { pos 0 ≤ℤ v }
+        requires v_high { v ≤ℤ pos 1073741824 }
+        ensures bounds { result ≡ grown self h v }
+        ensures places { (x y : ℤ) → Holds result x y ↔ Reaches self h v x y }
+    {
+        if self.is_empty() {
+            return self;
+        }
+        Rect {
+            x1: self.x1 - h,
+            y1: self.y1 - v,
+            x2: self.x2 + h,
+            y2: self.y2 + v,
+        }
+    }
+
+    /// The rectangle moved by dx columns and dy rows. The empty one stays empty.
+    pub fn shift(self, dx: i64, dy: i64) -> Rect
+        requires near { IsNear self }
+        requires dx_low { negsuc 1073741823 ≤ℤ dx }
+        requires dx_high { dx ≤ℤ pos 1073741824 }
+        requires dy_low { negsuc 1073741823 ≤ℤ dy }
+        requires dy_high { dy ≤ℤ pos 1073741824 }
+        ensures bounds { result ≡ shifted self dx dy }
+        ensures places { (x y : ℤ) → within result (x +ℤ dx) (y +ℤ dy) ≡ within self x y }
+    {
+        if self.is_empty() {
+            return self;
+        }
+        Rect {
+            x1: self.x1 + dx,
+            y1: self.y1 + dy,
+            x2: self.x2 + dx,
+            y2: self.y2 + dy,
+        }
+    }
+
+    /// The pixels of a rectangle in canonical coordinates (OpenFX 1.4, "Coordinate Systems"): those
+    /// whose squares of side 1 have a part in it.
+    pub fn cover(x1: Fix, y1: Fix, x2: Fix, y2: Fix) -> Rect
+        ensures bounds { result ≡ cover x1 y1 x2 y2 }
+        ensures places { (x y : ℤ) → Holds result x y
+            ↔ ((x1.raw <ℤ ((x +ℤ pos 1) *ℤ pos 65536))
+            × ((x *ℤ pos 65536) <ℤ x2.raw)
+            × (y1.raw <ℤ ((y +ℤ pos 1) *ℤ pos 65536))
+            × ((y *ℤ pos 65536) <ℤ y2.raw)) }
+    {
+        Rect::of(floor(x1), floor(y1), ceiling(x2), ceiling(y2))
+    }
+}
+
+fn floor(number: Fix) -> i64
+    ensures { result ≡ floor number }
+{
+    number.raw.div_euclid(65536)
+}
+
+fn ceiling(number: Fix) -> i64
+    ensures { result ≡ ceiling number }
+{
+    (-(-i128::from(number.raw)).div_euclid(65536)) as i64
 }
