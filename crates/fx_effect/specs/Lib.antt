@@ -1,5 +1,11 @@
 pub mod Tap
 pub mod Given
 pub mod Placed
-pub mod Meaning
 pub mod Rows
+pub mod Shape
+pub mod Meaning
+pub mod Default
+pub mod Sets
+pub mod Described
+pub mod Asked
+pub mod Laws

@@ -1,8 +1,10 @@
-//! What an image effect is: what each of its pixels reads and makes of what it read, and the one
-//! function that renders (OpenFX 1.4, "kOfxImageEffectActionRender"). A contract knows an effect by its
-//! meaning, which speaks of single pixels of the unbounded plane and of no window.
+//! What an image effect is: what it describes itself as, what each of its pixels reads and makes of what
+//! it read, what it answers to the actions, and what it renders (OpenFX 1.4, "Image Effect Actions"). A
+//! contract knows an effect by its meaning, which speaks of single pixels of the unbounded plane, and
+//! the laws tie the answers for windows to these pixels.
 #![tactic(auto)]
 
+mod action;
 mod effect;
 mod inputs;
 mod piece;
@@ -12,7 +14,8 @@ mod steps;
 mod tests;
 mod values;
 
-pub use effect::ImageEffect;
+pub use action::{Context, Identity, Reply, Safety};
+pub use effect::{Catalogue, ImageEffect};
 pub use inputs::Inputs;
 pub use piece::Piece;
 pub use rows::{RowKernel, fill, offset};

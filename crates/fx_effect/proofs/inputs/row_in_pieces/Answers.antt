@@ -1,4 +1,4 @@
-use Rattle.std.proofs.Common.{sym, arith, ◌∙◌, w64, FitsSigned}
+use Rattle.std.proofs.Common.{arith, ◌∙◌, w64, FitsSigned}
 use Rattle.std.proofs.lemmas.Int.{to_z-of_z}
 use Rattle.fx_effect.specs.Tap.{tap}
 use Rattle.fx_effect.proofs.PieceLaws.{first_next, row_here, if_some}

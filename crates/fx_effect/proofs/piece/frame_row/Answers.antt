@@ -1,4 +1,4 @@
-use Rattle.std.proofs.Common.{◌≡◌, [], length, refl, sym, ◌∙◌, rules, w64, FitsSigned}
+use Rattle.std.proofs.Common.{◌≡◌, length, refl, sym, ◌∙◌, rules, w64, FitsSigned}
 use Rattle.std.proofs.lemmas.Int.{to_z-of_z}
 use Rattle.fx_effect.specs.Placed.{CoversRow}
 use Rattle.fx_effect.proofs.PieceLaws.{nil_of, not_converted}

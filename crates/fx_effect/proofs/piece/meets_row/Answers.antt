@@ -1,5 +1,5 @@
-use Rattle.std.proofs.Common.{w64, FitsSigned, rules, arith}
-use Rattle.std.proofs.lemmas.Int.{ints, to_z-of_z}
+use Rattle.std.proofs.Common.{w64, FitsSigned, rules}
+use Rattle.std.proofs.lemmas.Int.{to_z-of_z}
 use Rattle.fx_effect.proofs.PieceLaws.{apart_from}
 use Rattle.fx_effect.proofs.piece.meets_row.Goals as goal
 

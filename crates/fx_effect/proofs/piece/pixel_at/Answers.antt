@@ -1,8 +1,7 @@
-use Rattle.std.proofs.Common.{◌≡◌, ap, arith, ◌∙◌, w64, to_z, of_z, FitsSigned, rules}
+use Rattle.std.proofs.Common.{◌≡◌, ap, arith, ◌∙◌, w64, FitsSigned, rules}
 use Rattle.std.specs.Int.{int_gap}
 use Rattle.std.proofs.lemmas.Int.{ints, to_z-of_z}
 use Rattle.fx_base.specs.Bounds.{Bounds}
-use Rattle.fx_image.specs.Stored.{pixel_in, pixel_size}
 use Rattle.fx_image.proofs.ImageLaws.{place_from}
 use Rattle.fx_effect.proofs.PieceLaws.{column_room}
 use Rattle.fx_effect.proofs.piece.pixel_at.Goals as goal

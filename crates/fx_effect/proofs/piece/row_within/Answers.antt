@@ -1,4 +1,4 @@
-use Rattle.std.proofs.Common.{◌≡◌, ◌≤◌, length, ap, arith, ◌∙◌, w64, FitsSigned, rules}
+use Rattle.std.proofs.Common.{length, ap, arith, ◌∙◌, w64, FitsSigned, rules}
 use Rattle.std.proofs.lemmas.Int.{ints, to_z-of_z}
 use Rattle.fx_base.specs.Bounds.{Bounds}
 use Rattle.fx_image.specs.Stored.{pixel_size, shown as shown_at}
