@@ -5,10 +5,12 @@ ghost use Rattle.fx_pixel.specs.declared.Format.TheVariants.{RgbAlpha};
 ghost use Rattle.fx_pam.specs.Text.{pam_text};
 ghost use Rattle.fx_scene.specs.Scene.{picture};
 ghost use Rattle.fx_app.specs.Run.{AreFrames, frame_refused, fault_of, source_name, frame_count, file_name, with_file, HasGained};
+ghost use Rattle.fx_app.specs.Running.{AreReady};
 ghost use Rattle.fx_app.specs.Steps.{frames_of, FetchRose, IsFillFault, IsFramesFault, IsPutFault, IsPutFaultOf, LeavesFile, LeavesFrames};
 ghost use Rattle.fx_app.specs.declared.texts.RunFault.TheVariants.{Memory as OutOfMemory};
 
 use crate::picture::picture_text;
+use crate::plugins::Plugins;
 use crate::texts::{FrameFault, RunFault};
 use fx_base::{Memory, Name};
 use fx_outside::{Depot, Library, PutFault};
@@ -93,7 +95,8 @@ pub fn frame_count(graph: &Graph) -> u64
     u64::from(graph.last()) + 1 - u64::from(graph.first())
 }
 
-/// Renders and puts each frame of the range.
+/// Takes the graph's effects through their order of life, and renders and puts each frame of the range
+/// meanwhile. Every sequence is ended and every instance destroyed, whatever failed.
 pub fn put_frames<D: Depot>(
     alloc: Global,
     graph: &Graph,
@@ -104,8 +107,26 @@ pub fn put_frames<D: Depot>(
     ensures fault { IfErr result (λ e. IsPutFault graph.now (D.faults depot.old) (D.faults depot.new) (D.last depot.new) e) }
     ensures leaves { D.tells → IfErr result (λ e. LeavesFrames graph.now (frames_of store.now) e (D.file depot.old) (D.file depot.new)) }
 {
+    let plugins = Plugins::start(alloc, graph)?;
+    let put = put_each(alloc, graph, store, &plugins, depot);
+    plugins.finish();
+    put
+}
+
+fn put_each<D: Depot>(
+    alloc: Global,
+    graph: &Graph,
+    store: &Store,
+    plugins: &Plugins,
+    depot: &mut D,
+) -> Result<(), RunFault>
+    requires ready { AreReady graph.now plugins.now }
+    ensures ok { D.tells → OnOk result (HasGained graph.now (frames_of store.now) (frame_count graph.now) (D.file depot.old) (D.file depot.new)) }
+    ensures fault { IfErr result (λ e. IsPutFault graph.now (D.faults depot.old) (D.faults depot.new) (D.last depot.new) e) }
+    ensures leaves { D.tells → IfErr result (λ e. LeavesFrames graph.now (frames_of store.now) e (D.file depot.old) (D.file depot.new)) }
+{
     for frame in graph.first()..graph.last() + 1 {
-        match put_frame(alloc, graph, store, frame, depot) {
+        match put_frame(alloc, graph, store, plugins, frame, depot) {
             Ok(()) => {}
             Err(fault) => return Err(fault),
         }
@@ -117,16 +138,19 @@ fn put_frame<D: Depot>(
     alloc: Global,
     graph: &Graph,
     store: &Store,
+    plugins: &Plugins,
     frame: u32,
     depot: &mut D,
 ) -> Result<(), RunFault>
+    requires ready { AreReady graph.now plugins.now }
+    requires frame { frame ≤ 999999 }
     ensures ok { D.tells → OnOk result (SameFiles (with_file (file_name graph.now frame) (pam_text RgbAlpha (picture graph.now (frames_of store.now) (pos frame))) (D.file depot.old)) (D.file depot.new)) }
     ensures fault { IfErr result (λ e. IsPutFaultOf (file_name graph.now frame) (D.faults depot.old) (D.faults depot.new) (D.last depot.new) e) }
     ensures leaves { D.tells → IfErr result (λ e. LeavesFile (file_name graph.now frame) e (D.file depot.old) (D.file depot.new)) }
     ensures later { D.faults depot.old ≤ D.faults depot.new }
 {
     let name = graph.file().name(alloc, frame)?;
-    let text = picture_text(alloc, graph, store, frame)?;
+    let text = picture_text(alloc, graph, store, plugins, frame)?;
     match depot.put(alloc, name.text(), &text) {
         Ok(()) => Ok(()),
         Err(PutFault::Failed) => Err(RunFault::Write(name)),

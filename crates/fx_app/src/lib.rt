@@ -9,6 +9,8 @@ mod frames;
 mod graph;
 mod json;
 mod picture;
+mod plugins;
+mod running;
 mod source;
 mod steps;
 mod tell;

@@ -3,7 +3,7 @@ ghost use Rattle.std.specs.Prelude.{◌≡◌, ◌≢◌, ◌≤◌, ◌&&◌, �
 ghost use Rattle.std.specs.Int.Signed.{le_z};
 ghost use Rattle.fx_base.specs.Rect.{columns, rows, Holds, IsNear};
 ghost use Rattle.fx_base.specs.Bounds.{none};
-ghost use Rattle.fx_effect.specs.Meaning.{IsLawful, rendered};
+ghost use Rattle.fx_effect.specs.Asked.{IsFrame};
 ghost use Rattle.fx_pixel.specs.declared.Format.TheVariants.{RgbAlpha};
 ghost use Rattle.fx_image.specs.Image.{SameImage};
 ghost use Rattle.fx_image.specs.Stored.{image_of, shown};
@@ -17,16 +17,16 @@ ghost use Rattle.fx_scene.specs.declared.graph.Start.TheVariants.{Solid as Solid
 ghost use Rattle.fx_pam.specs.Text.{pam_text};
 ghost use Rattle.fx_scene.specs.Scene.{Frames, picture};
 ghost use Rattle.fx_app.specs.Steps.{frames_of};
-ghost use Rattle.fx_app.specs.Picture.{IsFrame, IsCanvas, ShowsNode, IsFilled};
+ghost use Rattle.fx_app.specs.Running.{AreReady, instances};
+ghost use Rattle.fx_app.specs.Picture.{IsFrame as IsFrameOf, IsCanvas, ShowsNode, IsFilled};
 
 use crate::copy::copy_frame;
+use crate::plugins::Plugins;
 use fx_base::{Memory, Rect};
-use fx_effect::{Flags, ImageEffect, Inputs, Numbers, Piece, Steps, Values};
-use fx_gen::Solid;
+use fx_effect::{Flags, Inputs, Numbers, Piece, Steps, Values};
 use fx_image::Image;
 use fx_pam::write;
 use fx_pixel::{Components, Depth, Format};
-use fx_point::Invert;
 use fx_scene::{Graph, Levels, Source, Start};
 use fx_seq::Store;
 use std::alloc::Global;
@@ -36,25 +36,36 @@ pub fn picture_text(
     alloc: Global,
     graph: &Graph,
     store: &Store,
+    plugins: &Plugins,
     frame: u32,
 ) -> Result<Vec<u8>, Memory>
+    requires ready { AreReady graph.now plugins.now }
+    requires frame { frame ≤ 999999 }
     ensures { IfOk result (λ bytes. bytes.items ≡ pam_text RgbAlpha (picture graph.now (frames_of store.now) (pos frame))) }
 {
-    let image = picture(alloc, graph, store, i64::from(frame))?;
+    let image = picture(alloc, graph, store, plugins, i64::from(frame))?;
     let mut text = Vec::new(alloc);
     write(alloc, &image, Format::RgbAlpha, &mut text)?;
     Ok(text)
 }
 
 // The first node's image, inverted once for each invert behind it.
-fn picture(alloc: Global, graph: &Graph, store: &Store, frame: i64) -> Result<Image, Memory>
+fn picture(
+    alloc: Global,
+    graph: &Graph,
+    store: &Store,
+    plugins: &Plugins,
+    frame: i64,
+) -> Result<Image, Memory>
+    requires ready { AreReady graph.now plugins.now }
+    requires frame { IsFrame frame }
     ensures value { IfOk result (λ image. SameImage (image_of image) (picture graph.now (frames_of store.now) frame)) }
     ensures some_columns { IfOk result (λ image. 1 ≤ columns image.rect) }
 {
-    let mut image = first_image(alloc, graph, store, frame)?;
+    let mut image = first_image(alloc, graph, store, plugins, frame)?;
     let mut node = 0;
     while node < graph.inverts() {
-        image = inverted(alloc, graph, &image, frame)?;
+        image = inverted(alloc, graph, plugins, node, &image, frame)?;
         node += 1;
     }
     Ok(image)
@@ -70,16 +81,32 @@ fn canvas(alloc: Global, graph: &Graph) -> Result<Image, Memory>
     Ok(image)
 }
 
-fn first_image(alloc: Global, graph: &Graph, store: &Store, frame: i64) -> Result<Image, Memory>
+fn first_image(
+    alloc: Global,
+    graph: &Graph,
+    store: &Store,
+    plugins: &Plugins,
+    frame: i64,
+) -> Result<Image, Memory>
+    requires ready { AreReady graph.now plugins.now }
+    requires frame { IsFrame frame }
     ensures { IfOk result (λ image. ShowsNode graph.now (frames_of store.now) 0 frame image) }
 {
     match graph.start() {
-        Start::Solid(levels) => solid_image(alloc, graph, *levels, frame),
+        Start::Solid(levels) => solid_image(alloc, graph, plugins, *levels, frame),
         Start::Source(source) => source_image(alloc, graph, source, store, frame),
     }
 }
 
-fn solid_image(alloc: Global, graph: &Graph, levels: Levels, frame: i64) -> Result<Image, Memory>
+fn solid_image(
+    alloc: Global,
+    graph: &Graph,
+    plugins: &Plugins,
+    levels: Levels,
+    frame: i64,
+) -> Result<Image, Memory>
+    requires ready { instances plugins.now.solid ≡ 1 }
+    requires frame { IsFrame frame }
     ensures { (frames : Frames) → graph.now.start ≡ SolidNode levels → IfOk result (λ image. ShowsNode graph.now frames 0 frame image) }
 {
     let values = Values {
@@ -90,7 +117,10 @@ fn solid_image(alloc: Global, graph: &Graph, levels: Levels, frame: i64) -> Resu
     };
     let inputs = Inputs::new(alloc, Depth::Byte, Vec::new(alloc))?;
     let mut image = canvas(alloc, graph)?;
-    render_whole(alloc, &Solid, &values, &inputs, &mut image)?;
+    let Some(solid) = &plugins.solid else {
+        unreachable!()
+    };
+    solid.render(alloc, 0, &values, &inputs, &mut image)?;
     Ok(image)
 }
 
@@ -144,7 +174,7 @@ fn has_frame(source: &Source, frame: i64) -> bool
 
 // A frame, converted to bytes, as far as the project's extent goes.
 fn copied(alloc: Global, graph: &Graph, held: &Image, frame: i64) -> Result<Image, Memory>
-    ensures frame { IfOk result (λ image. IsFrame graph.now image) }
+    ensures frame { IfOk result (λ image. IsFrameOf graph.now image) }
     ensures pixels { IfOk result (λ image. (x y : ℤ) → Holds (project graph.now) x y → shown image x y ≡ convert held.now.depth Bytes RgbaSamples (shown held.now x y)) }
 {
     let inputs = inputs_of(alloc, held, frame)?;
@@ -163,25 +193,6 @@ fn copy_whole(inputs: &Inputs<'_>, frame: i64, image: &mut Image)
     copy_frame(inputs, frame, &mut part);
 }
 
-// Renders an effect over the whole of an image.
-fn render_whole<E: ImageEffect>(
-    alloc: Global,
-    effect: &E,
-    values: &Values,
-    inputs: &Inputs<'_>,
-    image: &mut Image,
-) -> Result<(), Memory>
-    requires lawful { IsLawful (E.meaning effect.now) values.now }
-    requires window { image.old.rect ≢ none }
-    requires supported { IsTrue ((E.meaning effect.now).supports image.old.depth image.old.components) }
-    requires depth { inputs.now.depth ≡ image.old.depth }
-    requires clips { inputs.now.components ≡ replicate (E.meaning effect.now).clips image.old.components }
-    ensures { OnOk result (IsFilled image.old image.new (rendered (E.meaning effect.now) values.now inputs.now image.old.depth image.old.components)) }
-{
-    let mut part = image.part(image.rect());
-    effect.render(alloc, values, inputs, &mut part)
-}
-
 // One clip of RGBA in bytes, which shows an image at a frame.
 fn inputs_of<'a>(alloc: Global, image: &'a Image, frame: i64) -> Result<Inputs<'a>, Memory>
     ensures depth { IfOk result (λ inputs. inputs.depth ≡ Bytes) }
@@ -197,8 +208,17 @@ fn inputs_of<'a>(alloc: Global, image: &'a Image, frame: i64) -> Result<Inputs<'
 }
 
 // The image of an invert over the node that an image shows.
-fn inverted(alloc: Global, graph: &Graph, before: &Image, frame: i64) -> Result<Image, Memory>
-    requires { IsFrame graph.now before.now }
+fn inverted(
+    alloc: Global,
+    graph: &Graph,
+    plugins: &Plugins,
+    place: u32,
+    before: &Image,
+    frame: i64,
+) -> Result<Image, Memory>
+    requires place { place < instances plugins.now.invert }
+    requires frame { IsFrame frame }
+    requires before { IsFrameOf graph.now before.now }
     ensures { (frames : Frames) (k : ℕ) → ShowsNode graph.now frames k frame before.now → IfOk result (λ image. ShowsNode graph.now frames (k + 1) frame image) }
 {
     let values = Values {
@@ -209,6 +229,9 @@ fn inverted(alloc: Global, graph: &Graph, before: &Image, frame: i64) -> Result<
     };
     let inputs = inputs_of(alloc, before, frame)?;
     let mut image = canvas(alloc, graph)?;
-    render_whole(alloc, &Invert, &values, &inputs, &mut image)?;
+    let Some(invert) = &plugins.invert else {
+        unreachable!()
+    };
+    invert.render(alloc, place, &values, &inputs, &mut image)?;
     Ok(image)
 }

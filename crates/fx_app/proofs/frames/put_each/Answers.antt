@@ -2,7 +2,7 @@ use Rattle.std.proofs.Common.{◌≡◌, ◌<◌, ◌+◌, ◌-◌, subst, arith
 use Rattle.fx_app.specs.Run.{frame_count, HasGained}
 use Rattle.fx_app.specs.Steps.{frames_of}
 use Rattle.fx_app.proofs.FilesLemmas.{put_fault, put_leaves, one_gained}
-use Rattle.fx_app.proofs.frames.put_frames.Goals as goal
+use Rattle.fx_app.proofs.frames.put_each.Goals as goal
 
 pub returns-in-Err-clause-fault : goal.returns-in-Err-clause-fault
 returns-in-Err-clause-fault g c =

@@ -1,7 +1,7 @@
 use Rattle.std.proofs.Common.{◌≡◌, ◌≤◌, ◌+◌, ◌-◌}
 use Rattle.fx_app.specs.Run.{HasGained}
 use Rattle.fx_app.specs.Steps.{frames_of}
-use Rattle.fx_app.proofs.frames.put_frames.Given as goal
+use Rattle.fx_app.proofs.frames.put_each.Given as goal
 
 abbrev pub invariant-loop-frame : goal.invariant-loop-frame
 invariant-loop-frame g l =
