@@ -138,7 +138,11 @@ impl<E: Catalogue + Drop> Running<E> {
             &mut ticket,
             &mut part,
         );
-        let Ticket { .. } = ticket;
+        let Ticket {
+            scene: _,
+            number: _,
+            stamped: _,
+        } = ticket;
         rendered
     }
 
@@ -154,6 +158,7 @@ impl<E: Catalogue + Drop> Running<E> {
             let instance = plugin.end(sequence);
             plugin.destroy_instance(instance);
         }
+        sequences.destroy_empty();
         plugin.unload()
     }
 }
