@@ -1,11 +1,12 @@
 //! An effect through its order of life: its instances in a graph, each in its sequence (OpenFX 1.4,
 //! "Image Effect Actions").
-ghost use Rattle.std.specs.Prelude.{◌≡◌, ◌≢◌, ◌<◌, ◌≤◌, ◌+◌, length, IfOk, OnOk, OnErr};
+ghost use Rattle.std.specs.Prelude.{◌≡◌, ◌≢◌, ◌<◌, ◌≤◌, ◌+◌, ◌++◌, [], ◌∷◌, length, IfOk, OnOk, OnErr};
 ghost use Rattle.std.specs.List.{Contains};
 ghost use Rattle.fx_base.specs.Bounds.{none};
 ghost use Rattle.fx_effect.specs.Shape.{IsLawful};
 ghost use Rattle.fx_effect.specs.Meaning.{rendered};
 ghost use Rattle.fx_effect.specs.Asked.{IsFrame, MayRender};
+ghost use Rattle.fx_life.specs.Plugin.{described};
 ghost use Rattle.fx_app.specs.Picture.{IsFilled};
 
 use fx_base::Memory;
@@ -74,7 +75,14 @@ impl<E: Catalogue + Drop> Running<E> {
         }
     }
 
-    fn begin_all(&mut self, alloc: Global, context: Context, span: Span) -> Result<(), Memory> {
+    fn begin_all(&mut self, alloc: Global, context: Context, span: Span) -> Result<(), Memory>
+        requires supported { Contains (E.meaning self.old.effect).shape.contexts context }
+        requires fresh { self.old ≡ described self.old.effect }
+        requires nodes { span.first_node + span.count ≤ 65536 }
+        requires frames { (span.first ≤ 1073741824) × (span.last ≤ 1073741824) }
+        ensures effect { self.new.effect ≡ self.old.effect }
+        ensures instances { OnOk result (length self.new.live ≡ span.count) }
+    {
         self.plugin.describe_in_context(alloc, context)?;
         for node in span.first_node..span.first_node + span.count {
             self.begin(alloc, context, node, span)?;
@@ -89,7 +97,13 @@ impl<E: Catalogue + Drop> Running<E> {
         context: Context,
         node: u32,
         span: Span,
-    ) -> Result<(), Memory> {
+    ) -> Result<(), Memory>
+        requires described { Contains self.old.contexts context }
+        requires once { Contains self.old.live node → ⊥ }
+        requires frames { (span.first ≤ 1073741824) × (span.last ≤ 1073741824) }
+        ensures effect { self.new.effect ≡ self.old.effect }
+        ensures ok { OnOk result (self.new ≡ record self.old { live = self.old.live ++ node ∷ [] }) }
+    {
         self.sequences.reserve(1)?;
         let instance = self.plugin.create_instance(alloc, node, context)?;
         match self.plugin.begin(alloc, instance, span.first, span.last) {
@@ -164,7 +178,9 @@ impl<E: Catalogue + Drop> Running<E> {
 }
 
 // The effect, loaded and described. At want of memory it is unloaded.
-fn described<E: Catalogue + Drop>(alloc: Global, effect: E) -> Result<Described<E>, Memory> {
+fn described<E: Catalogue + Drop>(alloc: Global, effect: E) -> Result<Described<E>, Memory>
+    ensures { IfOk result (λ plugin. plugin ≡ described effect) }
+{
     let loaded = match Loaded::load(alloc, effect) {
         Ok(loaded) => loaded,
         Err((_, memory)) => return Err(memory),
