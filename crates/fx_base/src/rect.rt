@@ -64,11 +64,13 @@ impl Rect {
     pub fn within(self, other: Rect) -> bool
         ensures { IsTrue result ↔ IsWithin self other }
     {
-        self.is_empty()
-            || (other.x1 <= self.x1)
-                & (self.x2 <= other.x2)
-                & (other.y1 <= self.y1)
-                & (self.y2 <= other.y2)
+        if self.is_empty() {
+            return true;
+        }
+        (other.x1 <= self.x1)
+            & (self.x2 <= other.x2)
+            & (other.y1 <= self.y1)
+            & (self.y2 <= other.y2)
     }
 
     /// The pixels that both hold.
