@@ -1,0 +1,2 @@
+pub mod Plugin
+pub mod Course
