@@ -61,6 +61,6 @@ Allows (Described contexts live phases) action t = AllowsDescribed contexts live
 Allows s action t = ⊥
 
 -- the actions are allowed one after the other, from the one state to the other
-pub data IsCourse : State → List Action → State → Type 0 where
-  rest : (s : State) → IsCourse s [] s
-  next : (s t u : State) (action : Action) (actions : List Action) → Allows s action t → IsCourse t actions u → IsCourse s (action ∷ actions) u
+abbrev pub IsCourse : State → List Action → State → Type 0
+IsCourse s [] u = s ≡ u
+IsCourse s (action ∷ actions) u = (t : State) × Allows s action t × IsCourse t actions u

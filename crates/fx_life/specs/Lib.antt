@@ -1,2 +1,3 @@
 pub mod Plugin
 pub mod Course
+pub mod Life

@@ -6,8 +6,10 @@
 
 mod described;
 mod instance;
+mod laws;
 mod loaded;
 
 pub use described::Described;
 pub use instance::{InSequence, Instance};
+pub use laws::every_life;
 pub use loaded::Loaded;
