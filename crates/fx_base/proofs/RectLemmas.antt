@@ -7,6 +7,7 @@ use Rattle.std.proofs.lemmas.Int.{ints, clamps}
 use Rattle.fx_base.specs.Bounds.{Bounds, IsRect, none}
 use Rattle.fx_base.specs.Rect.{Holds, IsWithin, Reaches, within, rect_of, is_empty, meet, hull, grown, shifted}
 
+-- a rectangle that isn't empty holds its bottom left place
 pub holds_corner : (r : Bounds) → r.x1 <ℤ r.x2 → r.y1 <ℤ r.y2 → Holds r r.x1 r.y1
 holds_corner r wide high = grind (arith, ints)
 

@@ -64,11 +64,13 @@ impl Rect {
     pub fn within(self, other: Rect) -> bool
         ensures { IsTrue result ↔ IsWithin self other }
     {
-        self.is_empty()
-            || (other.x1 <= self.x1)
-                & (self.x2 <= other.x2)
-                & (other.y1 <= self.y1)
-                & (self.y2 <= other.y2)
+        if self.is_empty() {
+            return true;
+        }
+        (other.x1 <= self.x1)
+            & (self.x2 <= other.x2)
+            & (other.y1 <= self.y1)
+            & (self.y2 <= other.y2)
     }
 
     /// The pixels that both hold.
@@ -106,7 +108,8 @@ impl Rect {
     }
 
     /// The rectangle with h more columns and v more rows on either side: the pixels that lie at most
-    /// h columns and v rows away from one of its own. The empty one stays empty.
+    /// h columns and v rows away from one of its own. The empty one stays empty. Bounds lie between
+    /// -2^30 and 2^30, and h and v between 0 and 2^30.
     pub fn grow(self, h: i64, v: i64) -> Rect
         requires near { IsNear self }
         requires h_low { pos 0 ≤ℤ h }
@@ -127,7 +130,8 @@ impl Rect {
         }
     }
 
-    /// The rectangle moved by dx columns and dy rows. The empty one stays empty.
+    /// The rectangle moved by dx columns to the right and dy rows up. The empty one stays empty.
+    /// Bounds, dx and dy lie between -2^30 and 2^30.
     pub fn shift(self, dx: i64, dy: i64) -> Rect
         requires near { IsNear self }
         requires dx_low { negsuc 1073741823 ≤ℤ dx }
@@ -148,8 +152,9 @@ impl Rect {
         }
     }
 
-    /// The pixels of a rectangle in canonical coordinates (OpenFX 1.4, "Coordinate Systems"): those
-    /// whose squares of side 1 have a part in it.
+    /// The pixels of a rectangle in canonical coordinates (OpenFX 1.4, "Coordinate Systems"): from the
+    /// floors of x1 and y1 to the ceilings of x2 and y2. Where x1 < x2 and y1 < y2, those are the
+    /// pixels whose squares, one unit wide and high, have a part in it.
     pub fn cover(x1: Fix, y1: Fix, x2: Fix, y2: Fix) -> Rect
         ensures bounds { result ≡ cover x1 y1 x2 y2 }
         ensures places { (x y : ℤ) → Holds result x y

@@ -29,7 +29,7 @@ impl Status {
         ensures value { result ≡ code self }
 
         // No two statuses have one number.
-        ensures apart { (other : Status) → code other ≡ result → other ≡ self }
+        ensures apart { (other : Status) → code self ≡ code other → self ≡ other }
     {
         match self {
             Status::Ok => 0,

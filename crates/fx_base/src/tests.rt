@@ -1,4 +1,4 @@
-use crate::{Fix, Name, Names, Pattern, Rect};
+use crate::{Fix, Name, Names, Pattern, Rect, Status};
 use std::test::Fail;
 
 #[test]
@@ -96,5 +96,113 @@ fn rectangles_are_half_open(rt: HostRuntime) {
     for none in [Rect::of(3, 0, 3, 9), Rect::of(0, 5, 9, 4)] {
         assert!(rt; none.is_empty());
         assert_eq!(rt; none, Rect::of(0, 0, 0, 0));
+    }
+}
+
+#[test]
+fn rectangles_lie_within(rt: HostRuntime) {
+    let none = Rect::of(0, 0, 0, 0);
+    let outer = Rect::of(-2, -1, 3, 4);
+    for (inner, other, held) in [
+        (outer, outer, true),
+        (Rect::of(-1, 0, 2, 3), outer, true),
+        (Rect::of(-3, 0, 2, 3), outer, false),
+        (Rect::of(-1, 0, 4, 3), outer, false),
+        (Rect::of(-1, -2, 2, 3), outer, false),
+        (Rect::of(-1, 0, 2, 5), outer, false),
+        (none, outer, true),
+        (none, Rect::of(5, 5, 6, 6), true),
+        (none, none, true),
+        (outer, none, false),
+    ] {
+        assert_eq!(rt; inner.within(other), held, "at {inner:?} {other:?}");
+    }
+}
+
+#[test]
+fn rectangles_meet_and_join(rt: HostRuntime) {
+    let none = Rect::of(0, 0, 0, 0);
+    let base = Rect::of(0, 0, 4, 4);
+    for (other, meet, hull) in [
+        (
+            Rect::of(2, -1, 6, 3),
+            Rect::of(2, 0, 4, 3),
+            Rect::of(0, -1, 6, 4),
+        ),
+        (Rect::of(1, 1, 2, 3), Rect::of(1, 1, 2, 3), base),
+        (Rect::of(4, 0, 5, 4), none, Rect::of(0, 0, 5, 4)),
+        (Rect::of(-9, 6, -8, 7), none, Rect::of(-9, 0, 4, 7)),
+        (none, none, base),
+    ] {
+        assert_eq!(rt; base.meet(other), meet, "at {other:?}");
+        assert_eq!(rt; other.meet(base), meet, "at {other:?}");
+        assert_eq!(rt; base.hull(other), hull, "at {other:?}");
+        assert_eq!(rt; other.hull(base), hull, "at {other:?}");
+    }
+    let far = Rect::of(7, 7, 8, 8);
+    assert_eq!(rt; none.hull(far), far);
+    assert_eq!(rt; far.hull(none), far);
+}
+
+#[test]
+fn rectangles_grow_and_move(rt: HostRuntime) {
+    let none = Rect::of(0, 0, 0, 0);
+    let wide = Rect::of(1, 2, 4, 3);
+    assert_eq!(rt; wide.grow(5, 1), Rect::of(-4, 1, 9, 4));
+    assert_eq!(rt; wide.grow(0, 0), wide);
+    assert_eq!(rt; none.grow(5, 1), none);
+    assert_eq!(rt; wide.shift(-3, 4), Rect::of(-2, 6, 1, 7));
+    assert_eq!(rt; none.shift(-3, 4), none);
+}
+
+#[test]
+fn canonical_rectangles_are_covered(rt: HostRuntime) {
+    let none = Rect::of(0, 0, 0, 0);
+    let limit = 140737488355328;
+    for (x1, y1, x2, y2, pixels) in [
+        (32768, -32768, 98304, 131072, Rect::of(0, -1, 2, 2)),
+        (0, 65536, 65536, 196608, Rect::of(0, 1, 1, 3)),
+        (-131073, -65536, -65537, -1, Rect::of(-3, -1, -1, 0)),
+        (1, 1, 2, 2, Rect::of(0, 0, 1, 1)),
+        (65536, 0, 65536, 65536, none),
+        (98304, 0, 32768, 65536, none),
+        (
+            i64::MIN,
+            i64::MIN,
+            i64::MAX,
+            i64::MAX,
+            Rect::of(-limit, -limit, limit, limit),
+        ),
+    ] {
+        let covered = Rect::cover(
+            Fix { raw: x1 },
+            Fix { raw: y1 },
+            Fix { raw: x2 },
+            Fix { raw: y2 },
+        );
+        assert_eq!(rt; covered, pixels, "at {x1} {y1} {x2} {y2}");
+    }
+}
+
+#[test]
+fn statuses_have_their_codes(rt: HostRuntime) {
+    for (status, code) in [
+        (Status::Ok, 0),
+        (Status::Failed, 1),
+        (Status::ErrFatal, 2),
+        (Status::ErrUnknown, 3),
+        (Status::ErrMissingHostFeature, 4),
+        (Status::ErrUnsupported, 5),
+        (Status::ErrExists, 6),
+        (Status::ErrFormat, 7),
+        (Status::ErrMemory, 8),
+        (Status::ErrBadHandle, 9),
+        (Status::ErrBadIndex, 10),
+        (Status::ErrValue, 11),
+        (Status::ReplyYes, 12),
+        (Status::ReplyNo, 13),
+        (Status::ReplyDefault, 14),
+    ] {
+        assert_eq!(rt; status.code(), code, "at {status:?}");
     }
 }

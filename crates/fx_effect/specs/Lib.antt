@@ -9,3 +9,5 @@ pub mod Sets
 pub mod Described
 pub mod Asked
 pub mod Laws
+pub mod DefaultLaws
+pub mod ShapeLaws

@@ -4,8 +4,8 @@ use Rattle.std.proofs.lemmas.Int.{to_z-of_z}
 use Rattle.fx_base.proofs.RectLemmas.{IsProper, IsProper-from_rect, Encloses-from_within, IsWithin-enclosed, Encloses-from_test, test-encloses}
 use Rattle.fx_base.proofs.rect.Rect.within.Goals as goal
 
-pub returns-else-is_empty : goal.returns-else-is_empty
-returns-else-is_empty c =
+pub returns : goal.returns
+returns c =
     let s = c.self.inside in
     let o = c.other.inside in
     let proper : IsProper c.args.self = IsProper-from_rect c.args.self (rw (← c.self.view_is) c.self.invariant) (λ e. both_ways _ c.if-is_empty.false (c.is_empty.ensures.bounds.1 e)) in

@@ -1,0 +1,138 @@
+//! The property sets that actions are handed.
+ghost use Rattle.std.specs.Prelude.{◌≡◌, ◌^◌, ◌<◌, ◌∷◌, [], All, IfOk, vec_len, codes};
+ghost use Rattle.fx_props.specs.declared.value.PropKind.TheVariants as kind;
+ghost use Rattle.fx_props.specs.Value.{kind_of};
+ghost use Rattle.fx_props.specs.Property.{property_made, IsLawfulDef};
+ghost use Rattle.fx_effect.specs.Shape.{Shape};
+ghost use Rattle.fx_effect.specs.Sets.{AwaitEntries, blank, whole};
+ghost use Rattle.fx_effect.specs.Described.{description};
+ghost use Rattle.fx_effect.specs.Asked.{IsFrame, HasTime, HasWindow, AsksSequence};
+ghost use Rattle.fx_actions.specs.Args.{HasRange, HasStep};
+
+use fx_base::{Fix, Memory, Name, Names, Rect};
+use fx_props::{PropDef, PropKind, PropList, PropSet, PropValue};
+use std::alloc::Global;
+
+/// The arguments of a render and of is_identity: the frame as the time, and the window in pixels
+/// (kOfxImageEffectActionRender, kOfxImageEffectActionIsIdentity).
+pub fn window_args(alloc: Global, frame: i64, window: Rect) -> Result<PropSet, Memory>
+    requires { IsFrame frame }
+    ensures time { IfOk result (λ set. HasTime set frame) }
+    ensures window { IfOk result (λ set. HasWindow set window) }
+{
+    let bounds = vec![in alloc;
+        PropValue::Int(window.x1),
+        PropValue::Int(window.y1),
+        PropValue::Int(window.x2),
+        PropValue::Int(window.y2),
+    ]?;
+    let defs = vec![in alloc;
+        time(alloc, frame)?,
+        given(
+            alloc,
+            "OfxImageEffectPropRenderWindow",
+            PropKind::Int,
+            bounds
+        )?,
+    ]?;
+    PropSet::new(alloc, defs)
+}
+
+/// The arguments of begin and end of a sequence: its first and its last frame, and 1 as the step from one
+/// to the next (kOfxImageEffectActionBeginSequenceRender, kOfxImageEffectActionEndSequenceRender).
+pub fn sequence_args(alloc: Global, first: i64, last: i64) -> Result<PropSet, Memory>
+    requires first { IsFrame first }
+    requires last { IsFrame last }
+    ensures asks { IfOk result AsksSequence }
+    ensures range { IfOk result (λ set. HasRange set first last) }
+    ensures step { IfOk result HasStep }
+{
+    let range = vec![in alloc; whole(first), whole(last)]?;
+    let step = vec![in alloc; whole(1)]?;
+    let defs = vec![in alloc;
+        given(alloc, "OfxImageEffectPropFrameRange", PropKind::Fix, range)?,
+        given(alloc, "OfxImageEffectPropFrameStep", PropKind::Fix, step)?,
+    ]?;
+    PropSet::new(alloc, defs)
+}
+
+/// The set that `describe` is handed: a property for each that it writes, with no value yet
+/// (kOfxActionDescribe).
+pub fn descriptor(alloc: Global) -> Result<PropSet, Memory>
+    ensures { (s : Shape) → IfOk result (λ set. AwaitEntries set (description s)) }
+{
+    let defs = vec![in alloc;
+        blank(alloc, "OfxPropLabel", PropKind::Text)?,
+        blank(alloc, "OfxImageEffectPropSupportedContexts", PropKind::Text)?,
+        blank(
+            alloc,
+            "OfxImageEffectPropSupportedPixelDepths",
+            PropKind::Text
+        )?,
+        blank(alloc, "OfxImageEffectPropTemporalClipAccess", PropKind::Int)?,
+        blank(alloc, "OfxImageEffectPropSupportsTiles", PropKind::Int)?,
+        blank(
+            alloc,
+            "OfxImageEffectPluginRenderThreadSafety",
+            PropKind::Text
+        )?,
+    ]?;
+    PropSet::new(alloc, defs)
+}
+
+// The time of a frame.
+fn time(alloc: Global, frame: i64) -> Result<PropDef, Memory>
+    requires { IsFrame frame }
+    ensures lawful { IfOk result (λ def. IsLawfulDef def) }
+    ensures name { IfOk result (λ def. def.name ≡ codes "OfxPropTime") }
+    ensures kind { IfOk result (λ def. def.kind ≡ kind.Fix) }
+    ensures start { IfOk result (λ def. def.start ≡ whole frame ∷ []) }
+{
+    let values = vec![in alloc; whole(frame)]?;
+    given(alloc, "OfxPropTime", PropKind::Fix, values)
+}
+
+// A property that has these values, and at most as many.
+fn given(
+    alloc: Global,
+    name: &str,
+    kind: PropKind,
+    values: Vec<PropValue>,
+) -> Result<PropDef, Memory>
+    requires kinds { All (λ v. kind_of v ≡ kind) values.items }
+    requires few { vec_len values < 2 ^ 32 }
+    ensures lawful { IfOk result (λ def. IsLawfulDef def) }
+    ensures name { IfOk result (λ def. def.name ≡ name.now) }
+    ensures kind { IfOk result (λ def. def.kind ≡ kind) }
+    ensures start { IfOk result (λ def. def.start ≡ values.items) }
+{
+    Ok(PropDef {
+        name: Name::of(String::from_str(alloc, name)?),
+        kind,
+        most: values.len() as u32,
+        allowed: Names::of(Vec::new(alloc)),
+        start: PropList::of(values),
+    })
+}
+
+// A property that waits to be written.
+fn blank(alloc: Global, name: &str, kind: PropKind) -> Result<PropDef, Memory>
+    ensures lawful { IfOk result (λ def. IsLawfulDef def) }
+    ensures name { IfOk result (λ def. def.name ≡ name.now) }
+    ensures made { IfOk result (λ def. property_made def ≡ blank kind) }
+{
+    Ok(PropDef {
+        name: Name::of(String::from_str(alloc, name)?),
+        kind,
+        most: u32::MAX,
+        allowed: Names::of(Vec::new(alloc)),
+        start: PropList::of(Vec::new(alloc)),
+    })
+}
+
+fn whole(n: i64) -> PropValue
+    requires { IsFrame n }
+    ensures { result ≡ whole n }
+{
+    PropValue::Fix(Fix::of_whole(n))
+}

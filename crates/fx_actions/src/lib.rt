@@ -1,0 +1,7 @@
+//! The actions as the host asks them: it puts the arguments in property sets, calls the action, and reads
+//! what the effect answered or takes the default (OpenFX 1.4, "Image Effect Actions").
+#![tactic(auto)]
+
+mod args;
+
+pub use args::{descriptor, sequence_args, window_args};

@@ -1,0 +1,3 @@
+pub mod Plugin
+pub mod Course
+pub mod Life

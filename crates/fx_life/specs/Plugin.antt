@@ -1,0 +1,37 @@
+-- What contracts see of a plug-in that is described, of its instances, and of its gates.
+use Rattle.std.specs.Prelude.{ℕ, ◌+◌, ◌==◌, not, List, [], filter, Option, Some, None}
+use Rattle.fx_effect.specs.declared.action.Context.{Context}
+use Rattle.fx_effect.specs.declared.action.Safety.{Safety}
+use Rattle.fx_effect.specs.declared.action.Safety.TheVariants as safety
+
+-- a plug-in, the contexts in which it was described, and the nodes of its live instances
+pub record Plugin (E : Type 0) : Type 0 where
+  pub effect : E
+  pub contexts : List Context
+  pub live : List ℕ
+
+-- an instance: the number of its plug-in, and its node
+pub record MadeFor : Type 0 where
+  pub plugin : ℕ
+  pub node : ℕ
+
+-- an instance in a sequence of renders, from the first frame to the last
+pub record Rendering : Type 0 where
+  pub plugin : ℕ
+  pub node : ℕ
+  pub first : ℕ
+  pub last : ℕ
+
+-- the plug-in as it is once it is described
+abbrev pub described : {E : Type 0} → E → Plugin E
+described effect = record { effect = effect; contexts = []; live = [] }
+
+-- the nodes that are left without this one
+abbrev pub without : ℕ → List ℕ → List ℕ
+without node nodes = filter (λ n. not (n == node)) nodes
+
+-- the gate that a render holds: the plug-in's own, the instance's own, or none
+abbrev pub gate_of : Safety → ℕ → ℕ → Option ℕ
+gate_of safety.Unsafe number node = Some number
+gate_of safety.InstanceSafe number node = Some (64 + node)
+gate_of safety.FullySafe number node = None

@@ -1,0 +1,15 @@
+//! The order of a plug-in's life (OpenFX 1.4, "The Actions"): a plug-in is loaded, described, and described
+//! in its contexts; instances are made in these, each of which begins and ends sequences of renders; and it
+//! is unloaded once no instance is left. Each state has its type, whose calls are the actions that OpenFX
+//! allows there, and no value can be dropped: an instance has to be destroyed and a plug-in unloaded.
+#![tactic(auto)]
+
+mod described;
+mod instance;
+mod laws;
+mod loaded;
+
+pub use described::Described;
+pub use instance::{InSequence, Instance};
+pub use laws::every_life;
+pub use loaded::Loaded;
