@@ -5,3 +5,4 @@ pub mod FillLemmas
 pub mod StepsLemmas
 pub mod PictureLemmas
 mod RunningLemmas
+mod EffectLemmas

@@ -7,3 +7,4 @@ pub mod Texts
 pub mod Steps
 pub mod Picture
 pub mod Running
+pub mod Ready

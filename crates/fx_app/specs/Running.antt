@@ -1,10 +1,6 @@
 -- The instances of an effect that a run has, each in its sequence.
 use Rattle.std.specs.Prelude.{◌≡◌, ◌≢◌, ℕ, List, length, map, All, AllPairs, Option, Some, None}
 use Rattle.fx_life.specs.Plugin.{Plugin, Rendering}
-use Rattle.fx_scene.specs.Graph.{Graph}
-use Rattle.fx_scene.specs.declared.graph.Start.{Start}
-use Rattle.fx_scene.specs.declared.graph.Start.TheVariants as start
-use Rattle.fx_app.specs.declared.plugins.Plugins.{Plugins}
 
 -- the live instances are in these sequences, and each is of the plug-in's number
 pub record AreSequences (number : ℕ) (live : List ℕ) (sequences : List Rendering) : Type 0 where
@@ -17,12 +13,3 @@ abbrev pub instances : {E : Type 0} → Option (Plugin E) → ℕ
 instances None = 0
 instances (Some p) = length p.live
 
--- how many solids the first node is
-abbrev pub solids : Start → ℕ
-solids (start.Solid levels) = 1
-solids (start.Source s) = 0
-
--- each node of the graph that is an effect has its instance
-pub record AreReady (g : Graph) (plugins : Plugins) : Type 0 where
-  pub solid : instances plugins.solid ≡ solids g.start
-  pub invert : instances plugins.invert ≡ g.inverts

@@ -5,7 +5,7 @@ ghost use Rattle.fx_pixel.specs.declared.Format.TheVariants.{RgbAlpha};
 ghost use Rattle.fx_pam.specs.Text.{pam_text};
 ghost use Rattle.fx_scene.specs.Scene.{picture};
 ghost use Rattle.fx_app.specs.Run.{AreFrames, frame_refused, fault_of, source_name, frame_count, file_name, with_file, HasGained};
-ghost use Rattle.fx_app.specs.Running.{AreReady};
+ghost use Rattle.fx_app.specs.Ready.{AreReady};
 ghost use Rattle.fx_app.specs.Steps.{frames_of, FetchRose, IsFillFault, IsFramesFault, IsPutFault, IsPutFaultOf, LeavesFile, LeavesFrames};
 ghost use Rattle.fx_app.specs.declared.texts.RunFault.TheVariants.{Memory as OutOfMemory};
 

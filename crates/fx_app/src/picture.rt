@@ -1,9 +1,12 @@
 //! The picture of a frame, node by node, and its text.
-ghost use Rattle.std.specs.Prelude.{◌≡◌, ◌≢◌, ◌≤◌, ◌&&◌, ◌+◌, ℕ, ℤ, pos, [], ◌∷◌, IfOk, OnOk, IsTrue, replicate};
+ghost use Rattle.std.specs.Prelude.{◌≡◌, ◌≢◌, ◌<◌, ◌≤◌, ◌&&◌, ◌+◌, ℕ, ℤ, pos, [], ◌∷◌, IfOk, OnOk, IsTrue, replicate};
+ghost use Rattle.std.specs.List.{AllZip};
 ghost use Rattle.std.specs.Int.Signed.{le_z};
 ghost use Rattle.fx_base.specs.Rect.{columns, rows, Holds, IsNear};
 ghost use Rattle.fx_base.specs.Bounds.{none};
+ghost use Rattle.fx_effect.specs.Shape.{InRange, IsProject};
 ghost use Rattle.fx_effect.specs.Asked.{IsFrame};
+ghost use Rattle.fx_gen.specs.Solid.{levels as of_solid};
 ghost use Rattle.fx_pixel.specs.declared.Format.TheVariants.{RgbAlpha};
 ghost use Rattle.fx_image.specs.Image.{SameImage};
 ghost use Rattle.fx_image.specs.Stored.{image_of, shown};
@@ -17,7 +20,8 @@ ghost use Rattle.fx_scene.specs.declared.graph.Start.TheVariants.{Solid as Solid
 ghost use Rattle.fx_pam.specs.Text.{pam_text};
 ghost use Rattle.fx_scene.specs.Scene.{Frames, picture};
 ghost use Rattle.fx_app.specs.Steps.{frames_of};
-ghost use Rattle.fx_app.specs.Running.{AreReady, instances};
+ghost use Rattle.fx_app.specs.Ready.{AreReady};
+ghost use Rattle.fx_app.specs.Running.{instances};
 ghost use Rattle.fx_app.specs.Picture.{IsFrame as IsFrameOf, IsCanvas, ShowsNode, IsFilled};
 
 use crate::copy::copy_frame;
@@ -125,7 +129,8 @@ fn solid_image(
 }
 
 fn numbers_of(alloc: Global, levels: Levels) -> Result<Vec<i64>, Memory>
-    ensures { IfOk result (λ numbers. numbers.items ≡ pos levels.r ∷ pos levels.g ∷ pos levels.b ∷ pos levels.a ∷ []) }
+    ensures value { IfOk result (λ numbers. numbers.items ≡ pos levels.r ∷ pos levels.g ∷ pos levels.b ∷ pos levels.a ∷ []) }
+    ensures range { IfOk result (λ numbers. AllZip InRange of_solid numbers.items) }
 {
     let numbers = vec![in alloc;
         i64::from(levels.r.raw()),
@@ -139,6 +144,7 @@ fn numbers_of(alloc: Global, levels: Levels) -> Result<Vec<i64>, Memory>
 // The project's extent.
 fn project_of(graph: &Graph) -> Rect
     ensures value { result ≡ project graph.now }
+    ensures extent { IsProject result }
     ensures near { IsNear result }
     ensures window { result ≢ none }
     ensures some_columns { 1 ≤ columns result }

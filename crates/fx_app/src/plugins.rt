@@ -1,7 +1,8 @@
 //! The effects of a graph, through their order of life.
 ghost use Rattle.std.specs.Prelude.{◌≡◌, ◌<◌, ◌≤◌, ◌+◌, IfOk};
 ghost use Rattle.std.specs.List.{Contains};
-ghost use Rattle.fx_app.specs.Running.{instances, solids, AreReady};
+ghost use Rattle.fx_app.specs.Running.{instances};
+ghost use Rattle.fx_app.specs.Ready.{solids, AreReady};
 
 use crate::running::{Running, Span};
 use fx_base::Memory;

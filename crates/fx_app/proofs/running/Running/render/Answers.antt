@@ -1,4 +1,4 @@
-use Rattle.std.proofs.Common.{◌≡◌, ◌<◌, length, rules, subst, sym}
+use Rattle.std.proofs.Common.{rules}
 use Rattle.fx_app.proofs.RunningLemmas.{place_sequence}
 use Rattle.fx_app.proofs.running.Running.render.Goals as goal
 
