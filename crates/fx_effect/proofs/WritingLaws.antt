@@ -26,7 +26,7 @@ use Rattle.fx_effect.specs.declared.action.Safety.{Safety}
 use Rattle.fx_pixel.specs.declared.Depth.{Depth}
 use Rattle.fx_pixel.specs.declared.Components.{Components}
 use Rattle.fx_effect.specs.Described.{description_of, clip_description}
-use Rattle.fx_effect.specs.Entries.{IsEntry, HaveNames, def_of, blank_entry, texts_of, IsModerate}
+use Rattle.fx_effect.specs.Entries.{IsEntry, NamesDiffer, def_of, blank_entry, texts_of, IsModerate}
 use Rattle.fx_effect.proofs.PieceLaws.{fits_between}
 
 -- ---- a property of a kind
@@ -108,18 +108,18 @@ last_of P xs y all = subst P (get_or-append_seam xs y [] y) (all (length xs) y (
 pub wrote_none : (set : Set) → Wrote [] set set
 wrote_none set = record { there = All-nil _; rest = λ n others. refl }
 
-next_apart : (entries : List Entry) (i : ℕ) (e : Entry) → HaveNames entries → i < length entries → e ≡ get_or entries i e → All (λ a. a.name ≢ e.name) (take i entries)
+next_apart : (entries : List Entry) (i : ℕ) (e : Entry) → NamesDiffer entries → i < length entries → e ≡ get_or entries i e → All (λ a. a.name ≢ e.name) (take i entries)
 next_apart entries i e apart inside is =
     All-from_get_or (λ a. a.name ≢ e.name) (take i entries) e
     (λ k low. let low_i : k < i = omega (arith, simp length-take at low) in
-      rw (get_or-take i entries k e low_i) (λ same. apart k i e low_i inside (same ∙ ap (λ b. b.name) is)))
+    rw (get_or-take i entries k e low_i) (λ same. apart k i e low_i inside (same ∙ ap (λ b. b.name) is)))
 
-pub awaits_next : (entries : List Entry) (i : ℕ) (e : Entry) (old mid : Set) → HaveNames entries → AwaitEntries old entries → i < length entries → e ≡ get_or entries i e → Wrote (take i entries) old mid → IsBlank mid e.kind e.name
+pub awaits_next : (entries : List Entry) (i : ℕ) (e : Entry) (old mid : Set) → NamesDiffer entries → AwaitEntries old entries → i < length entries → e ≡ get_or entries i e → Wrote (take i entries) old mid → IsBlank mid e.kind e.name
 awaits_next entries i e old mid apart await inside is wrote =
     wrote.rest e.name (All-weaker (λ a. a.name ≢ e.name) (λ a. e.name ≢ a.name) (λ a ne same. ne (sym same)) (take i entries) (next_apart entries i e apart inside is))
     ∙ subst (λ b. IsBlank old b.kind b.name) (sym is) (await i e inside)
 
-pub wrote_more : (entries : List Entry) (i : ℕ) (e : Entry) (old mid new : Set) → HaveNames entries → i < length entries → e ≡ get_or entries i e → Wrote (take i entries) old mid → Wrote (e ∷ []) mid new → Wrote (take (i + 1) entries) old new
+pub wrote_more : (entries : List Entry) (i : ℕ) (e : Entry) (old mid new : Set) → NamesDiffer entries → i < length entries → e ≡ get_or entries i e → Wrote (take i entries) old mid → Wrote (e ∷ []) mid new → Wrote (take (i + 1) entries) old new
 wrote_more entries i e old mid new apart inside is was now =
     let before = next_apart entries i e apart inside is in
     let kept : All (λ a. property new a.name ≡ Some (with_values (blank a.kind) a.values)) (take i entries)
@@ -128,8 +128,8 @@ wrote_more entries i e old mid new apart inside is was now =
     rw more (record {
       there = All-push (λ a. property new a.name ≡ Some (with_values (blank a.kind) a.values)) (take i entries) e kept (now.there 0 e (omega arith));
       rest = λ n others.
-        now.rest n (All-cons (λ a. n ≢ a.name) e [] (last_of (λ a. n ≢ a.name) (take i entries) e others) (All-nil _))
-        ∙ was.rest n (front_of (λ a. n ≢ a.name) (take i entries) e others);
+          now.rest n (All-cons (λ a. n ≢ a.name) e [] (last_of (λ a. n ≢ a.name) (take i entries) e others) (All-nil _))
+          ∙ was.rest n (front_of (λ a. n ≢ a.name) (take i entries) e others);
     })
 
 -- ---- a set of entries
@@ -140,16 +140,16 @@ no_entry = record { name = []; kind = kind.Text; values = [] }
 at_def : (entries : List Entry) (i : ℕ) (d : PropDef) → i < length entries → get_or (map def_of entries) i d ≡ def_of (get_or entries i no_entry)
 at_def entries i d low = get_or-map def_of entries i no_entry d low
 
-pub apart_defs : (entries : List Entry) → HaveNames entries → AreApart (map def_of entries)
+pub apart_defs : (entries : List Entry) → NamesDiffer entries → AreApart (map def_of entries)
 apart_defs entries apart i j d below inside =
     let low_j : j < length entries = omega (arith, simp length-map at inside) in
     let low_i : i < length entries = omega arith in
     rw (at_def entries i d low_i, at_def entries j d low_j) (apart i j no_entry below low_j)
 
-apart_rest : (e : Entry) (entries : List Entry) → HaveNames (e ∷ entries) → HaveNames entries
+apart_rest : (e : Entry) (entries : List Entry) → NamesDiffer (e ∷ entries) → NamesDiffer entries
 apart_rest e entries apart i j d below inside = apart (suc i) (suc j) d (omega arith) (omega arith)
 
-made_at : (entries : List Entry) (k : ℕ) (d : Entry) → HaveNames entries → k < length entries → made (map def_of entries) (get_or entries k d).name ≡ Some (property_made (def_of (get_or entries k d)))
+made_at : (entries : List Entry) (k : ℕ) (d : Entry) → NamesDiffer entries → k < length entries → made (map def_of entries) (get_or entries k d).name ≡ Some (property_made (def_of (get_or entries k d)))
 made_at [] k d apart inside = absurd (omega arith)
 made_at (e ∷ entries) zero d apart inside = cond-true _ _ _ ((bytes_eq-Decides e.name e.name).1 refl)
 made_at (e ∷ entries) (suc k) d apart inside =
@@ -161,15 +161,15 @@ made_at (e ∷ entries) (suc k) d apart inside =
 abbrev pub IsMadeOf : List Entry → Set → Type 0
 IsMadeOf entries set = (name : List ℕ) → property set name ≡ made (map def_of entries) name
 
-property_there : (entries : List Entry) (set : Set) → HaveNames entries → IsMadeOf entries set → All (λ e. property set e.name ≡ Some (property_made (def_of e))) entries
+property_there : (entries : List Entry) (set : Set) → NamesDiffer entries → IsMadeOf entries set → All (λ e. property set e.name ≡ Some (property_made (def_of e))) entries
 property_there entries set apart is k d inside = is _ ∙ made_at entries k d apart inside
 
-pub has_values : (entries : List Entry) (set : Set) → HaveNames entries → IsMadeOf entries set → All (HasValues set) entries
+pub has_values : (entries : List Entry) (set : Set) → NamesDiffer entries → IsMadeOf entries set → All (HasValues set) entries
 has_values entries set apart is k d inside =
     let e = get_or entries k d in
     values_are set e.kind e.name (property_made (def_of e)) (property_there entries set apart is k d inside) refl
 
-pub are_blank : (entries : List Entry) (set : Set) → HaveNames entries → IsMadeOf entries set → All (λ e. e.values ≡ [] → IsBlank set e.kind e.name) entries
+pub are_blank : (entries : List Entry) (set : Set) → NamesDiffer entries → IsMadeOf entries set → All (λ e. e.values ≡ [] → IsBlank set e.kind e.name) entries
 are_blank entries set apart is k d inside none =
     property_there entries set apart is k d inside
     ∙ ap (λ vs. Some (property_made (def_of (record (get_or entries k d) { values = vs })))) none
@@ -198,23 +198,23 @@ others_of name [] h = All-nil _
 others_of name (e ∷ entries) h =
     let none = neither_of _ _ h in
     All-cons (λ a. name ≢ a.name) e entries
-      (λ same. false≢true (sym none.0 ∙ (bytes_eq-Decides name e.name).1 same))
-      (others_of name entries none.1)
+    (λ same. false≢true (sym none.0 ∙ (bytes_eq-Decides name e.name).1 same))
+    (others_of name entries none.1)
 
-pub apart_if : (entries : List Entry) → differ entries ≡ true → HaveNames entries
+pub apart_if : (entries : List Entry) → differ entries ≡ true → NamesDiffer entries
 apart_if [] h = λ i j d below inside. absurd (omega arith)
 apart_if (e ∷ entries) h =
     let both = both_of _ _ h in
     AllPairs-cons (λ a b. a.name ≢ b.name) e entries (others_of e.name entries (not_true _ both.0)) (apart_if entries both.1)
 
-blank_names : (prefix : List ℕ) (k : PropKind) (names : List (List ℕ)) → AllPairs (λ a b. a ≢ b) names → HaveNames (map (blank_entry prefix k) names)
+blank_names : (prefix : List ℕ) (k : PropKind) (names : List (List ℕ)) → AllPairs (λ a b. a ≢ b) names → NamesDiffer (map (blank_entry prefix k) names)
 blank_names prefix k names apart i j d below inside =
     let low_j : j < length names = omega (arith, simp length-map at inside) in
     let low_i : i < length names = omega arith in
     rw (get_or-map (blank_entry prefix k) names i [] d low_i, get_or-map (blank_entry prefix k) names j [] d low_j)
-      (λ same. apart i j [] below low_j (append_cancel_left prefix _ _ same))
+    (λ same. apart i j [] below low_j (append_cancel_left prefix _ _ same))
 
-pub clip_names_apart : (entries : List Entry) (prefix : List ℕ) (k : PropKind) (names : List (List ℕ)) → entries ≡ map (blank_entry prefix k) names → AllPairs (λ a b. a ≢ b) names → HaveNames entries
+pub clip_names_apart : (entries : List Entry) (prefix : List ℕ) (k : PropKind) (names : List (List ℕ)) → entries ≡ map (blank_entry prefix k) names → AllPairs (λ a b. a ≢ b) names → NamesDiffer entries
 clip_names_apart entries prefix k names is apart = rw is (blank_names prefix k names apart)
 
 pub clips_blank : (entries : List Entry) (prefix : List ℕ) (k : PropKind) (names : List (List ℕ)) (set : Set) → entries ≡ map (blank_entry prefix k) names → All (λ e. e.values ≡ [] → IsBlank set e.kind e.name) entries → AreBlank set prefix k names
@@ -224,10 +224,10 @@ clips_blank entries prefix k names set is blanks i d inside =
 
 -- ---- what is described
 
-pub description_apart : (label : List ℕ) (contexts : List Context) (depths : List Depth) (temporal tiles : Bool) (s : Safety) → HaveNames (description_of label contexts depths temporal tiles s)
+pub description_apart : (label : List ℕ) (contexts : List Context) (depths : List Depth) (temporal tiles : Bool) (s : Safety) → NamesDiffer (description_of label contexts depths temporal tiles s)
 description_apart label contexts depths temporal tiles s = apart_if (description_of label contexts depths temporal tiles s) refl
 
-pub clip_description_apart : (clip : Clip) (cs : List Components) → HaveNames (clip_description clip cs)
+pub clip_description_apart : (clip : Clip) (cs : List Components) → NamesDiffer (clip_description clip cs)
 clip_description_apart clip cs = apart_if (clip_description clip cs) refl
 
 -- ---- properties of clips
@@ -238,7 +238,7 @@ clip_entries_push prefix kd values k [] name = ap (λ n. record { name = prefix 
 clip_entries_push prefix kd values k (n ∷ names) name =
     ap (λ es. record { name = prefix ++ n; kind = kd; values = values k } ∷ es)
     (clip_entries_push prefix kd values (suc k) names name
-     ∙ ap (λ m. clip_entries_from prefix kd values (suc k) names ++ record { name = prefix ++ name; kind = kd; values = values m } ∷ []) (omega arith))
+    ∙ ap (λ m. clip_entries_from prefix kd values (suc k) names ++ record { name = prefix ++ name; kind = kd; values = values m } ∷ []) (omega arith))
 
 clips_more : (clips : List (Bor (List ℕ))) (k : ℕ) (d : Bor (List ℕ)) → k < length clips → texts_of (take (k + 1) clips) ≡ texts_of (take k clips) ++ (get_or clips k d).now ∷ []
 clips_more clips k d inside = map_more (λ (n : Bor (List ℕ)). n.now) clips k d inside
@@ -268,12 +268,12 @@ clip_entries_long : (prefix : List ℕ) (kd : PropKind) (values : ℕ → List P
 clip_entries_long prefix kd values from [] = refl
 clip_entries_long prefix kd values from (n ∷ names) = ap suc (clip_entries_long prefix kd values (suc from) names)
 
-pub clip_entries_apart : (entries : List Entry) (prefix : List ℕ) (kd : PropKind) (values : ℕ → List PropValue) (names : List (List ℕ)) → entries ≡ clip_entries prefix kd values names → AllPairs (λ a b. a ≢ b) names → HaveNames entries
+pub clip_entries_apart : (entries : List Entry) (prefix : List ℕ) (kd : PropKind) (values : ℕ → List PropValue) (names : List (List ℕ)) → entries ≡ clip_entries prefix kd values names → AllPairs (λ a b. a ≢ b) names → NamesDiffer entries
 clip_entries_apart entries prefix kd values names is apart i j d below inside =
     let low_j : j < length names = omega (arith, inside, ap length is, clip_entries_long prefix kd values 0 names) in
     let low_i : i < length names = omega arith in
     rw (is, at_clip prefix kd values 0 names i d [] low_i, at_clip prefix kd values 0 names j d [] low_j)
-      (λ same. apart i j [] below low_j (append_cancel_left prefix _ _ same))
+    (λ same. apart i j [] below low_j (append_cancel_left prefix _ _ same))
 
 pub clip_entries_await : (entries : List Entry) (prefix : List ℕ) (kd : PropKind) (values : ℕ → List PropValue) (names : List (List ℕ)) (set : Set) → entries ≡ clip_entries prefix kd values names → AreBlank set prefix kd names → AwaitEntries set entries
 clip_entries_await entries prefix kd values names set is blanks i d inside =
@@ -312,3 +312,17 @@ if_ok (Err e) P Q h p = tt
 
 pub four_of : (kd : PropKind) (a b c d : PropValue) → kind_of a ≡ kd → kind_of b ≡ kd → kind_of c ≡ kd → kind_of d ≡ kd → All (λ v. kind_of v ≡ kd) (a ∷ b ∷ c ∷ d ∷ [])
 four_of kd a b c d pa pb pc pd = All-from_recursion (λ v. kind_of v ≡ kd) (a ∷ b ∷ c ∷ d ∷ []) (pa, (pb, (pc, (pd, tt))))
+
+-- ---- what waits to be written
+
+abbrev pub emptied : Entry → Entry
+emptied e = record e { values = [] }
+
+pub awaits_all : (entries blanks : List Entry) (set : Set) → blanks ≡ map emptied entries → All (λ e. e.values ≡ [] → IsBlank set e.kind e.name) blanks → AwaitEntries set entries
+awaits_all entries blanks set is all k d inside =
+    let there : All (λ e. e.values ≡ [] → IsBlank set e.kind e.name) (map emptied entries) = subst (λ (es : List Entry). All (λ e. e.values ≡ [] → IsBlank set e.kind e.name) es) is all in
+    (rw (get_or-map emptied entries k d d inside) at (there k d (simp length-map inside))) refl
+
+-- one name differs from each other
+pub one_apart : {X : Type 0} (R : X → X → Type 0) (x : X) → AllPairs R (x ∷ [])
+one_apart R x i j d below inside = absurd (omega arith)

@@ -12,8 +12,8 @@ pub record IsEntry (e : Entry) : Type 0 where
   pub few : length e.values ≤ 4294967295
 
 -- no two have one name
-abbrev pub HaveNames : List Entry → Type 0
-HaveNames entries = AllPairs (λ a b. a.name ≢ b.name) entries
+abbrev pub NamesDiffer : List Entry → Type 0
+NamesDiffer entries = AllPairs (λ a b. a.name ≢ b.name) entries
 
 -- the definition that starts with these values, and that takes any number of any values
 abbrev pub def_of : Entry → PropDef

@@ -6,7 +6,6 @@ ghost use Rattle.fx_props.specs.declared.value.PropValue.TheVariants as value;
 ghost use Rattle.fx_effect.specs.Sets.{flag, AwaitEntries, HasValues, Wrote};
 ghost use Rattle.fx_effect.specs.Described.{context_text, depth_text, components_text, safety_text, texts, description_entries, clip_description};
 
-
 use crate::sets::{PropEntry, name_of, set_of, write_entries};
 use crate::{Context, Safety};
 use fx_base::Memory;
@@ -45,7 +44,11 @@ impl Description<'_> {
             words_entry(alloc, "OfxImageEffectPropSupportedPixelDepths", self.depths)?,
             flag_entry(alloc, "OfxImageEffectPropTemporalClipAccess", self.temporal)?,
             flag_entry(alloc, "OfxImageEffectPropSupportsTiles", self.tiles)?,
-            text_entry(alloc, "OfxImageEffectPluginRenderThreadSafety", self.safety.text())?,
+            text_entry(
+                alloc,
+                "OfxImageEffectPluginRenderThreadSafety",
+                self.safety.text()
+            )?,
         ]?;
         Ok(entries)
     }

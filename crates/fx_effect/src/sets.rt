@@ -12,7 +12,7 @@ ghost use Rattle.fx_effect.specs.Default.{region_of};
 ghost use Rattle.fx_effect.specs.Asked.{interest_prefix, frames_prefix, interest, frame_ranges};
 ghost use Rattle.fx_effect.specs.Laws.{IsUpTo};
 ghost use Rattle.fx_effect.specs.Sets.{whole, region_values, range_values};
-ghost use Rattle.fx_effect.specs.Entries.{IsModerate, AreModerate, texts_of, spans_of, HaveNames, def_of, blank_entry};
+ghost use Rattle.fx_effect.specs.Entries.{IsModerate, AreModerate, texts_of, spans_of, NamesDiffer, def_of, blank_entry};
 
 use fx_base::{Fix, Memory, Name, Names, Rect};
 use fx_props::{PropDef, PropFault, PropKind, PropList, PropSet, PropValue};
@@ -33,11 +33,11 @@ impl Model for PropEntry {
     ghost Value = { Entry };
 
     ghost use Rattle.fx_props.specs.declared.value.PropKind.TheVariants as kind;
-ghost use Rattle.fx_effect.specs.Default.{region_of};
-ghost use Rattle.fx_effect.specs.Asked.{interest_prefix, frames_prefix, interest, frame_ranges};
-ghost use Rattle.fx_effect.specs.Laws.{IsUpTo};
-ghost use Rattle.fx_effect.specs.Sets.{whole, region_values, range_values};
-ghost use Rattle.fx_effect.specs.Entries.{IsModerate, AreModerate, texts_of, spans_of, IsEntry};
+    ghost use Rattle.fx_effect.specs.Default.{region_of};
+    ghost use Rattle.fx_effect.specs.Asked.{interest_prefix, frames_prefix, interest, frame_ranges};
+    ghost use Rattle.fx_effect.specs.Laws.{IsUpTo};
+    ghost use Rattle.fx_effect.specs.Sets.{whole, region_values, range_values};
+    ghost use Rattle.fx_effect.specs.Entries.{IsModerate, AreModerate, texts_of, spans_of, IsEntry};
 
     ghost view = { λ e. record { name = e.name; kind = e.kind; values = e.values.items } };
 
@@ -85,7 +85,7 @@ impl PropEntry {
 
 /// The set of these entries. One that has no value waits to be written.
 pub fn set_of(alloc: Global, entries: Vec<PropEntry>) -> Result<PropSet, Memory>
-    requires { HaveNames entries.items }
+    requires { NamesDiffer entries.items }
     ensures values { IfOk result (λ set. All (HasValues set) entries.items) }
     ensures blank { IfOk result (λ set. All (λ e. e.values ≡ [] → IsBlank set e.kind e.name) entries.items) }
 {
@@ -152,12 +152,8 @@ pub(crate) fn name_of(alloc: Global, text: &str) -> Result<Name, Memory>
 
 /// Gives the blank properties of a set the values of these entries. At want of memory they hold
 /// anything.
-pub fn write_entries(
-    alloc: Global,
-    set: &mut PropSet,
-    entries: &[PropEntry],
-) -> Result<(), Memory>
-    requires names { HaveNames entries.now }
+pub fn write_entries(alloc: Global, set: &mut PropSet, entries: &[PropEntry]) -> Result<(), Memory>
+    requires names { NamesDiffer entries.now }
     requires blank { AwaitEntries set.old entries.now }
     ensures { OnOk result (Wrote entries.now set.old set.new) }
 {

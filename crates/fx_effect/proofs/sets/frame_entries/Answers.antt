@@ -18,6 +18,6 @@ loop-k-preserved c =
     let low : k < length spans = omega (arith, c.requires.same_number) in
     let span : (get_or spans k none).now ≡ spans_of spans k = sym (get_or-map (λ (s : Bor (List (ℤ × ℤ))). s.now) spans k none [] low) in
     let new = entry_is c.in_ok-new.field-0 kind.Fix c.in_ok-name.name (frames_prefix ++ (get_or c.args.clips.now k d).now) c.in_ok-values.values.items (range_values (spans_of spans k))
-      c.in_ok-new.ensures c.in_ok-name.ensures (c.in_ok-values.ensures.values ∙ ap range_values span) in
+    c.in_ok-new.ensures c.in_ok-name.ensures (c.in_ok-values.ensures.values ∙ ap range_values span) in
     c.in_ok-push.ensures.items
     ∙ clip_entries_more frames_prefix kind.Fix (λ clip. range_values (spans_of spans clip)) c.args.clips.now k d c.loop-k.entries.items c.in_ok-new.field-0 inside c.loop-k.invariant new

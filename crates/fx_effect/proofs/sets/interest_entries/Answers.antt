@@ -18,6 +18,6 @@ loop-k-preserved c =
     let low : k < length regions = omega (arith, c.requires.same_number) in
     let region : c.index-regions-k.result ≡ region_of regions k = c.index-regions-k.is ∙ get_or_default regions k c.index-regions-k.result none low in
     let new = entry_is c.in_ok-new.field-0 kind.Fix c.in_ok-name.name (interest_prefix ++ (get_or c.args.clips.now k d).now) c.in_ok-values.values.items (region_values (region_of regions k))
-      c.in_ok-new.ensures c.in_ok-name.ensures (c.in_ok-values.ensures.values ∙ ap region_values region) in
+    c.in_ok-new.ensures c.in_ok-name.ensures (c.in_ok-values.ensures.values ∙ ap region_values region) in
     c.in_ok-push.ensures.items
     ∙ clip_entries_more interest_prefix kind.Fix (λ clip. region_values (region_of regions clip)) c.args.clips.now k d c.loop-k.entries.items c.in_ok-new.field-0 inside c.loop-k.invariant new

@@ -19,7 +19,7 @@ loop-first-preserved c =
     let last : c.whole-in-loop-first.result ≡ whole span.1 = c.whole-in-loop-first.ensures.value ∙ ap whole (to_z-of_z w64 span.1 (moderate_fits span.1 near.1)) in
     record {
       same = ranges_more c.args.spans.now i d c.loop-first.values.items c.push.new.self.items c.push-in-loop-first.new.self.items c.whole.result c.whole-in-loop-first.result
-        inside c.loop-first.invariant.same c.in_ok-push.ensures.items c.in_ok-push-2.ensures.items first last;
+          inside c.loop-first.invariant.same c.in_ok-push.ensures.items c.in_ok-push-2.ensures.items first last;
       of_kind = rw (c.in_ok-push-2.ensures.items, c.in_ok-push.ensures.items)
-        (All-push (λ v. kind_of v ≡ kind.Fix) _ _ (All-push (λ v. kind_of v ≡ kind.Fix) _ _ c.loop-first.invariant.of_kind c.whole.ensures.of_kind) c.whole-in-loop-first.ensures.of_kind);
+          (All-push (λ v. kind_of v ≡ kind.Fix) _ _ (All-push (λ v. kind_of v ≡ kind.Fix) _ _ c.loop-first.invariant.of_kind c.whole.ensures.of_kind) c.whole-in-loop-first.ensures.of_kind);
     }

@@ -12,8 +12,8 @@ pub loop-entry-preserved : goal.loop-entry-preserved
 loop-entry-preserved c =
     record {
       same =
-        c.in_ok-push.ensures.items
-        ∙ rw (c.loop-entry.invariant.same, c.into_def.ensures.def) (sym (map-append def_of c.loop-entry.yielded (c.in-Some.entry ∷ [])));
+          c.in_ok-push.ensures.items
+          ∙ rw (c.loop-entry.invariant.same, c.into_def.ensures.def) (sym (map-append def_of c.loop-entry.yielded (c.in-Some.entry ∷ [])));
       lawful = rw c.in_ok-push.ensures.items (All-push IsLawfulDef c.loop-entry.defs.items c.into_def.result c.loop-entry.invariant.lawful c.into_def.ensures.lawful);
     }
 
