@@ -1,4 +1,4 @@
-ghost use Rattle.std.specs.Prelude.{◌≡◌, ◌≢◌, [], ◌∷◌, true, pos, IfOk, codes};
+ghost use Rattle.std.specs.Prelude.{◌≡◌, ◌≢◌, [], ◌∷◌, true, pos, negsuc, ◌≤ℤ◌, IfOk, All, codes};
 ghost use Rattle.std.specs.List.{Contains};
 ghost use Rattle.fx_base.specs.Bounds.{none};
 ghost use Rattle.fx_base.specs.Rect.{IsNear};
@@ -6,24 +6,25 @@ ghost use Rattle.fx_pixel.specs.Pixel.{IsOfDepth, components_of};
 ghost use Rattle.fx_pixel.specs.declared.Components.TheVariants.{Rgba as RgbaSamples};
 ghost use Rattle.fx_image.specs.Part.{IsPart};
 ghost use Rattle.fx_props.specs.declared.value.PropKind.TheVariants as kind;
+ghost use Rattle.fx_props.specs.Value.{kind_of};
 ghost use Rattle.fx_effect.specs.declared.action.Context.{Context as Contexts};
 ghost use Rattle.fx_effect.specs.Shape.{Shape, clip_names};
-ghost use Rattle.fx_effect.specs.Sets.{AreBlank, AwaitEntries, IsBlank};
+ghost use Rattle.fx_effect.specs.Sets.{AreBlank, AwaitEntries, IsBlank, whole};
 ghost use Rattle.fx_effect.specs.Described.{description};
 ghost use Rattle.fx_effect.specs.Asked.{IsFrame, IsAsked, HasTime, HasRegion, HasWindow, AreRegions, AsksRegion, AsksWindow, AsksSequence, MayRender, depth_prefix, components_prefix, interest_prefix, frames_prefix, region_name};
 
 use crate::Invert;
-use fx_base::{Memory, Rect};
+use fx_base::{Fix, Memory, Name, Rect};
 use fx_core::Ticket;
 use fx_effect::{
-    Catalogue, Context, Flags, Identity, ImageEffect, Inputs, Numbers, Piece, Reply, Safety, Steps,
-    Values,
+    Catalogue, Context, Flags, Identity, ImageEffect, Inputs, Numbers, Piece, PropEntry, Reply,
+    Safety, Steps, Values, set_of,
 };
 use fx_gate::Gates;
 use fx_image::{Image, Part};
 use fx_params::ParamDef;
 use fx_pixel::{Components, Depth, Pixel};
-use fx_props::PropSet;
+use fx_props::{PropKind, PropSet, PropValue};
 use std::alloc::Global;
 use std::process::Abort;
 use std::test::Fail;
@@ -35,10 +36,38 @@ struct Answers {
     identity: Identity,
 }
 
-fn blank_descriptor(_alloc: Global) -> Result<PropSet, Memory>
+// A property with these values. One with none waits to be written.
+fn entry(
+    alloc: Global,
+    name: &str,
+    kind: PropKind,
+    values: Vec<PropValue>,
+) -> Result<PropEntry, Memory>
+    requires { All (λ v. kind_of v ≡ kind) values.items }
+    ensures { IfOk result (λ e. e ≡ record { name = name.now; kind = kind; values = values.items }) }
+{
+    let name = Name::of(String::from_str(alloc, name)?);
+    PropEntry::new(name, kind, values)
+}
+
+fn blank(alloc: Global, name: &str, kind: PropKind) -> Result<PropEntry, Memory>
+    ensures { IfOk result (λ e. e ≡ record { name = name.now; kind = kind; values = [] }) }
+{
+    entry(alloc, name, kind, vec![in alloc;]?)
+}
+
+fn blank_descriptor(alloc: Global) -> Result<PropSet, Memory>
     ensures { (s : Shape) → IfOk result (λ set. AwaitEntries set (description s)) }
 {
-    Err(Memory)
+    let entries = vec![in alloc;
+        blank(alloc, "OfxPropLabel", PropKind::Text)?,
+        blank(alloc, "OfxImageEffectPropSupportedContexts", PropKind::Text)?,
+        blank(alloc, "OfxImageEffectPropSupportedPixelDepths", PropKind::Text)?,
+        blank(alloc, "OfxImageEffectPropTemporalClipAccess", PropKind::Int)?,
+        blank(alloc, "OfxImageEffectPropSupportsTiles", PropKind::Int)?,
+        blank(alloc, "OfxImageEffectPluginRenderThreadSafety", PropKind::Text)?,
+    ]?;
+    set_of(alloc, entries)
 }
 
 fn described<E: ImageEffect>(alloc: Global, effect: &E) -> Result<PropSet, Memory> {
@@ -61,18 +90,32 @@ fn in_context<E: ImageEffect>(
 }
 
 // Blank properties for each action that writes.
-fn blanks(_alloc: Global) -> Result<PropSet, Memory>
+fn blanks(alloc: Global) -> Result<PropSet, Memory>
     ensures depths { IfOk result (λ set. AreBlank set depth_prefix kind.Text (codes "Source" ∷ [])) }
     ensures components { IfOk result (λ set. AreBlank set components_prefix kind.Text (codes "Source" ∷ [])) }
     ensures interest { IfOk result (λ set. AreBlank set interest_prefix kind.Fix (codes "Source" ∷ [])) }
     ensures frames { IfOk result (λ set. AreBlank set frames_prefix kind.Fix (codes "Source" ∷ [])) }
     ensures region { IfOk result (λ set. IsBlank set kind.Fix region_name) }
 {
-    Err(Memory)
+    let entries = vec![in alloc;
+        blank(alloc, "OfxImageClipPropDepth_Source", PropKind::Text)?,
+        blank(alloc, "OfxImageClipPropComponents_Source", PropKind::Text)?,
+        blank(alloc, "OfxImageClipPropRoI_Source", PropKind::Fix)?,
+        blank(alloc, "OfxImageClipPropFrameRange_Source", PropKind::Fix)?,
+        blank(alloc, "OfxImageEffectPropRegionOfDefinition", PropKind::Fix)?,
+    ]?;
+    set_of(alloc, entries)
+}
+
+fn whole(n: i64) -> PropValue
+    requires { (negsuc 1073741823 ≤ℤ n) × (n ≤ℤ pos 1073741824) }
+    ensures { result ≡ whole n }
+{
+    PropValue::Fix(Fix::of_whole(n))
 }
 
 // A time, and a region and a window that are one rectangle, and a sequence of frames 0 to 9.
-fn in_args(_alloc: Global, frame: i64, window: Rect) -> Result<PropSet, Memory>
+fn in_args(alloc: Global, frame: i64, window: Rect) -> Result<PropSet, Memory>
     requires frame { IsFrame frame }
     requires window { IsNear window }
     ensures time { IfOk result (λ set. HasTime set frame) }
@@ -80,7 +123,25 @@ fn in_args(_alloc: Global, frame: i64, window: Rect) -> Result<PropSet, Memory>
     ensures window { IfOk result (λ set. HasWindow set window) }
     ensures sequence { IfOk result (λ set. AsksSequence set) }
 {
-    Err(Memory)
+    let Rect { x1, y1, x2, y2 } = window;
+    let time = vec![in alloc; whole(frame)]?;
+    let region = vec![in alloc; whole(x1), whole(y1), whole(x2), whole(y2)]?;
+    let window = vec![in alloc;
+        PropValue::Int(x1),
+        PropValue::Int(y1),
+        PropValue::Int(x2),
+        PropValue::Int(y2),
+    ]?;
+    let range = vec![in alloc; whole(0), whole(9)]?;
+    let step = vec![in alloc; whole(1)]?;
+    let entries = vec![in alloc;
+        entry(alloc, "OfxPropTime", PropKind::Fix, time)?,
+        entry(alloc, "OfxImageEffectPropRegionOfInterest", PropKind::Fix, region)?,
+        entry(alloc, "OfxImageEffectPropRenderWindow", PropKind::Int, window)?,
+        entry(alloc, "OfxImageEffectPropFrameRange", PropKind::Fix, range)?,
+        entry(alloc, "OfxImageEffectPropFrameStep", PropKind::Fix, step)?,
+    ]?;
+    set_of(alloc, entries)
 }
 
 fn answered<E: ImageEffect>(
