@@ -10,7 +10,8 @@ use crate::paint::paint;
 use fx_base::{Memory, Name, Names, Rect};
 use fx_core::Ticket;
 use fx_effect::{
-    Catalogue, Context, Identity, ImageEffect, Inputs, Reply, RowKernel, Safety, Values, fill, offset,
+    Catalogue, Context, Description, Identity, ImageEffect, Inputs, Reply, RowKernel, Safety, Values,
+    fill, offset, write_region,
 };
 use fx_gate::Hold;
 use fx_image::Part;
@@ -38,7 +39,16 @@ impl ImageEffect for Solid {
     }
 
     fn describe(&self, alloc: Global, descriptor: &mut PropSet) -> Result<Reply, Memory> {
-        Err(Memory)
+        let description = Description {
+            label: "solid",
+            contexts: &[Context::Generator, Context::General],
+            depths: &[Depth::Byte, Depth::Short],
+            temporal: false,
+            tiles: true,
+            safety: Safety::FullySafe,
+        };
+        description.write(alloc, descriptor)?;
+        Ok(Reply::Ok)
     }
 
     fn describe_in_context(
@@ -80,7 +90,9 @@ impl ImageEffect for Solid {
         _in_args: &PropSet,
         out_args: &mut PropSet,
     ) -> Result<Reply, Memory> {
-        Err(Memory)
+        let name = "OfxImageEffectPropRegionOfDefinition";
+        write_region(alloc, out_args, name, values.project)?;
+        Ok(Reply::Ok)
     }
 
     fn get_regions_of_interest(

@@ -14,7 +14,8 @@ ghost use Rattle.fx_point.specs.InvertLaws.{invert_laws};
 use fx_base::{Memory, Rect};
 use fx_core::Ticket;
 use fx_effect::{
-    Catalogue, Context, Identity, ImageEffect, Inputs, Reply, RowKernel, Safety, Values, fill, offset,
+    Catalogue, Context, Description, Identity, ImageEffect, Inputs, Reply, RowKernel, Safety, Values,
+    clip_set, fill, offset,
 };
 use fx_gate::Hold;
 use fx_image::Part;
@@ -46,7 +47,16 @@ impl ImageEffect for Invert {
     }
 
     fn describe(&self, alloc: Global, descriptor: &mut PropSet) -> Result<Reply, Memory> {
-        Err(Memory)
+        let description = Description {
+            label: "invert",
+            contexts: &[Context::Filter, Context::General],
+            depths: &[Depth::Byte, Depth::Short],
+            temporal: false,
+            tiles: true,
+            safety: Safety::FullySafe,
+        };
+        description.write(alloc, descriptor)?;
+        Ok(Reply::Ok)
     }
 
     fn describe_in_context(
@@ -56,7 +66,8 @@ impl ImageEffect for Invert {
         clips: &mut Vec<PropSet>,
         _params: &mut Vec<ParamDef>,
     ) -> Result<Reply, Memory> {
-        Err(Memory)
+        clips.push(clip_set(alloc, "Source", false, &[Components::Rgba])?)?;
+        Ok(Reply::Ok)
     }
 
     fn create_instance(&self, _alloc: Global) -> Result<Reply, Memory> {
