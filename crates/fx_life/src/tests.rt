@@ -1,0 +1,10 @@
+use crate::toy::Toy;
+use crate::{InSequence, Loaded};
+use fx_base::{Memory, Rect};
+use fx_core::Ticket;
+use fx_effect::{Context, Flags, Inputs, Numbers, Safety, Values};
+use fx_gate::Gates;
+use fx_image::Image;
+use fx_pixel::{Components, Depth, Pixel};
+use std::sync::atomic::{AtomicU64, Ordering};
+use std::test::Fail;
