@@ -1,7 +1,7 @@
 -- An effect of the tests: a generator of zero, of a thread safety that is chosen.
-use Rattle.std.specs.Prelude.{◌≡◌, ◌≤◌, ◌<◌, ◌+◌, ℕ, ℤ, true, false, List, [], ◌∷◌, length, codes, All, refl}
+use Rattle.std.specs.Prelude.{◌≡◌, ◌+◌, ℕ, true, false, List, [], ◌∷◌, length, codes, refl}
 use Rattle.std.specs.List.{Contains}
-use Rattle.std.proofs.Common.{zero as none, suc, arith, inr}
+use Rattle.std.proofs.Common.{zero as none, suc, ap, arith, inr}
 use Rattle.std.proofs.lemmas.Int.{ints}
 use Rattle.std.proofs.lemmas.List.Elements.{All-nil}
 use Rattle.fx_base.specs.Bounds.{Bounds, IsRect}
@@ -10,8 +10,7 @@ use Rattle.fx_pixel.specs.declared.Depth.TheVariants as depths
 use Rattle.fx_pixel.specs.declared.Components.{Components}
 use Rattle.fx_pixel.specs.declared.Components.TheVariants as components
 use Rattle.fx_pixel.specs.Pixel.{zero, IsOfDepth, components_of}
-use Rattle.fx_params.specs.declared.def.ParamDef.{ParamDef}
-use Rattle.fx_effect.specs.Shape.{Shape, Clip, IsShape, IsContext, IsParam, IsProject, IsLabel, IsLawfulIn}
+use Rattle.fx_effect.specs.Shape.{Shape, Clip, IsShape, IsContext, IsParam, IsProject, IsLabel}
 use Rattle.fx_effect.specs.Meaning.{Meaning}
 use Rattle.fx_effect.specs.Default.{default_rod, default_spans}
 use Rattle.fx_effect.specs.DefaultLaws.{default_spans_near, first_near, second_near}
@@ -61,7 +60,7 @@ toy_number safety.Unsafe = 3
 toy_number safety.InstanceSafe = 5
 toy_number safety.FullySafe = 7
 
-pub same_kind : (a b : Safety) → toy_number a ≡ toy_number b → a ≡ b
+same_kind : (a b : Safety) → toy_number a ≡ toy_number b → a ≡ b
 same_kind safety.Unsafe safety.Unsafe e = refl
 same_kind safety.InstanceSafe safety.InstanceSafe e = refl
 same_kind safety.FullySafe safety.FullySafe e = refl
@@ -71,6 +70,12 @@ same_kind safety.InstanceSafe safety.Unsafe e = absurd (omega (arith, e))
 same_kind safety.InstanceSafe safety.FullySafe e = absurd (omega (arith, e))
 same_kind safety.FullySafe safety.Unsafe e = absurd (omega (arith, e))
 same_kind safety.FullySafe safety.InstanceSafe e = absurd (omega (arith, e))
+
+pub one_toy_name : (a b : Safety) → toy_number a ≡ toy_number b → toy_name a ≡ toy_name b
+one_toy_name a b e = ap toy_name (same_kind a b e)
+
+pub one_toy_meaning : (a b : Safety) → toy_number a ≡ toy_number b → toy a ≡ toy b
+one_toy_meaning a b e = ap toy (same_kind a b e)
 
 -- ---- its laws
 

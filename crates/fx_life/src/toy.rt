@@ -1,13 +1,13 @@
 //! An effect of the tests, which notes the actions that come to it.
-ghost use Rattle.std.specs.Prelude.{◌≡◌, ap};
+ghost use Rattle.std.specs.Prelude.{◌≡◌};
 ghost use Rattle.fx_pixel.specs.Pixel.{zero};
-ghost use Rattle.fx_life.specs.Toy.{toy, toy_name, toy_number, toy_laws, same_kind};
+ghost use Rattle.fx_life.specs.Toy.{toy, toy_name, toy_number, toy_laws, one_toy_name, one_toy_meaning};
 
 use fx_base::{Memory, Rect};
 use fx_core::Ticket;
 use fx_effect::{
-    Catalogue, Context, Description, Identity, ImageEffect, Inputs, Reply, RowKernel, Safety, Values,
-    fill, offset,
+    Catalogue, Context, Description, Identity, ImageEffect, Inputs, Reply, RowKernel, Safety,
+    Values, fill, offset,
 };
 use fx_gate::Hold;
 use fx_image::Part;
@@ -29,7 +29,10 @@ impl Toy<'_> {
     fn note(&self, digit: u64) {
         if let Some(notes) = self.notes {
             let earlier = notes.load(Ordering::SeqCst);
-            notes.store(earlier.wrapping_mul(10).wrapping_add(digit), Ordering::SeqCst);
+            notes.store(
+                earlier.wrapping_mul(10).wrapping_add(digit),
+                Ordering::SeqCst,
+            );
         }
     }
 }
@@ -160,9 +163,9 @@ impl Catalogue for Toy<'_> {
 
     ghost number_of = { λ t. toy_number t.safety };
 
-    ghost one_name = { λ a b e. ap toy_name (same_kind a.safety b.safety e) };
+    ghost one_name = { λ a b e. one_toy_name a.safety b.safety e };
 
-    ghost one_meaning = { λ a b e. ap toy (same_kind a.safety b.safety e) };
+    ghost one_meaning = { λ a b e. one_toy_meaning a.safety b.safety e };
 
     fn named(name: &str) -> Option<Self> {
         let safety = match name {
