@@ -1,3 +1,4 @@
 pub mod Plugin
 pub mod Course
 pub mod Life
+pub mod Toy

@@ -8,6 +8,10 @@ mod described;
 mod instance;
 mod laws;
 mod loaded;
+#[cfg(test)]
+mod tests;
+#[cfg(test)]
+mod toy;
 
 pub use described::Described;
 pub use instance::{InSequence, Instance};
