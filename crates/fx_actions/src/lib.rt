@@ -3,5 +3,10 @@
 #![tactic(auto)]
 
 mod args;
+mod is_identity;
+mod read;
+mod region;
 
 pub use args::{descriptor, sequence_args, window_args};
+pub use is_identity::identity;
+pub use region::region_of_definition;
