@@ -6,6 +6,7 @@ pub mod Shape
 pub mod Meaning
 pub mod Default
 pub mod Sets
+pub mod Entries
 pub mod Described
 pub mod Asked
 pub mod Laws

@@ -5,19 +5,23 @@
 #![tactic(auto)]
 
 mod action;
+mod describe;
 mod effect;
 mod inputs;
 mod piece;
 mod rows;
+mod sets;
 mod steps;
 #[cfg(test)]
 mod tests;
 mod values;
 
 pub use action::{Context, Identity, Reply, Safety};
+pub use describe::{Description, clip_set};
 pub use effect::{Catalogue, ImageEffect};
 pub use inputs::Inputs;
 pub use piece::Piece;
 pub use rows::{RowKernel, fill, offset};
+pub use sets::{PropEntry, blank, clip_blanks, clip_set_of_blanks, composed, set_of, write_entries};
 pub use steps::{Step, Steps};
 pub use values::{Flags, Numbers, Values};

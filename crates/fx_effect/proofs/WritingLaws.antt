@@ -1,0 +1,235 @@
+-- Entries that are put into sets.
+use Rattle.std.proofs.Common.{◌≡◌, ◌≢◌, ◌≤◌, ◌<◌, ℕ, zero, suc, ◌+◌, Bool, true, false, not, ltb, ◌&&◌, ◌||◌, List, [], ◌∷◌, ◌++◌, map, take, length, get_or, All, AllPairs, Some, None, Result, Ok, Err, IfOk, refl, sym, ap, subst, ◌∙◌, arith}
+use Rattle.std.specs.List.{list_any}
+use Rattle.std.specs.Option.{option_map, option_and_then}
+use Rattle.std.specs.Str.{bytes_eq}
+use Rattle.std.proofs.lemmas.Bool.{cond-true, cond-false, false_from_ne_true, false≢true}
+use Rattle.std.proofs.lemmas.Bool.Decides.{nat_tests}
+use Rattle.std.proofs.Math.ListN.{get_or-append}
+use Rattle.std.proofs.Math.Seq.{get_or-append_seam}
+use Rattle.std.proofs.lemmas.List.{length-take, length-append, length-map, get_or-map, take_more, take_all, get_or-take, append_cancel_left}
+use Rattle.std.proofs.lemmas.List.Elements.{All-nil, All-cons, All-push, All-weaker, All-from_get_or}
+use Rattle.std.proofs.lemmas.List.Kept.{AllPairs-cons}
+use Rattle.std.proofs.lemmas.Slice.Eq.{bytes_eq-Decides}
+use Rattle.fx_props.specs.declared.value.PropKind.{PropKind}
+use Rattle.fx_props.specs.declared.value.PropKind.TheVariants as kind
+use Rattle.fx_props.specs.declared.value.PropValue.{PropValue}
+use Rattle.fx_props.specs.declared.def.PropDef.{PropDef}
+use Rattle.fx_props.specs.Value.{kind_of, same_kind}
+use Rattle.fx_props.specs.Property.{Property, property_made, with_values, placed, of_kind, takes_at}
+use Rattle.fx_props.specs.Set.{Set, property, property_of, values_of, made, AreApart, refusal, Puts}
+use Rattle.fx_effect.specs.Sets.{Entry, blank, IsBlank, AreBlank, AwaitEntries, HasValues, Wrote}
+use Rattle.fx_effect.specs.Shape.{Clip}
+use Rattle.fx_effect.specs.declared.action.Context.{Context}
+use Rattle.fx_effect.specs.declared.action.Safety.{Safety}
+use Rattle.fx_pixel.specs.declared.Depth.{Depth}
+use Rattle.fx_pixel.specs.declared.Components.{Components}
+use Rattle.fx_effect.specs.Described.{description_of, clip_description}
+use Rattle.fx_effect.specs.Entries.{IsEntry, HaveNames, def_of, blank_entry}
+
+-- ---- a property of a kind
+
+same_kind_is : (k : PropKind) → same_kind k k ≡ true
+same_kind_is kind.Int = refl
+same_kind_is kind.Fix = refl
+same_kind_is kind.Text = refl
+
+of_own_kind : (p : Property) → of_kind p.kind p ≡ Some p
+of_own_kind p = cond-true _ _ _ (same_kind_is p.kind)
+
+property_is : (set : Set) (k : PropKind) (name : List ℕ) (p : Property) → property set name ≡ Some p → p.kind ≡ k → property_of set k name ≡ Some p
+property_is set k name p there same = ap (option_and_then (of_kind k)) there ∙ subst (λ j. of_kind j p ≡ Some p) same (of_own_kind p)
+
+values_are : (set : Set) (k : PropKind) (name : List ℕ) (p : Property) → property set name ≡ Some p → p.kind ≡ k → values_of set k name ≡ Some p.values
+values_are set k name p there same = ap (option_map (λ q. q.values)) (property_is set k name p there same)
+
+-- ---- a blank property that is given one value after another
+
+pub record Begun (name : List ℕ) (k : PropKind) (values : List PropValue) (old new : Set) : Type 0 where
+  pub there : property new name ≡ Some (with_values (blank k) values)
+  pub rest : (n : List ℕ) → n ≢ name → property new n ≡ property old n
+
+pub begun : (set : Set) (k : PropKind) (name : List ℕ) → IsBlank set k name → Begun name k [] set set
+begun set k name is = record { there = is; rest = λ n other. refl }
+
+takes_next : (k : PropKind) (values : List PropValue) (index : ℕ) → index ≡ length values → index < 4294967295 → takes_at (with_values (blank k) values) index ≡ true
+takes_next k values index is few = grind (arith, nat_tests)
+
+pub not_refused : (set : Set) (name : List ℕ) (k : PropKind) (values : List PropValue) (index : ℕ) (v : PropValue) → property set name ≡ Some (with_values (blank k) values) → index ≡ length values → index < 4294967295 → kind_of v ≡ k → refusal set name index v ≡ None
+not_refused set name k values index v there is few same =
+    rw (property_is set (kind_of v) name (with_values (blank k) values) there (sym same), takes_next k values index is few) refl
+
+placed_next : (values : List PropValue) (index : ℕ) (v : PropValue) → index ≡ length values → placed values index v ≡ values ++ v ∷ []
+placed_next values index v is = let low : ltb index (length values) ≡ false = grind (arith, nat_tests) in cond-false _ _ _ low
+
+pub begun_more : (name : List ℕ) (k : PropKind) (values : List PropValue) (old mid new : Set) (index : ℕ) (v : PropValue) → Begun name k values old mid → index ≡ length values → kind_of v ≡ k → Puts mid new name index v → Begun name k (values ++ v ∷ []) old new
+begun_more name k values old mid new index v was is same puts =
+    let p = with_values (blank k) values in
+    let replaces = puts values (values_are mid (kind_of v) name p was.there (sym same)) in
+    record {
+      there = replaces.there ∙ ap (option_map (λ q. with_values q (placed values index v))) was.there ∙ ap (λ vs. Some (with_values (blank k) vs)) (placed_next values index v is);
+      rest = λ n other. replaces.rest n other ∙ was.rest n other;
+    }
+
+pub wrote_one : (e : Entry) (old new : Set) → Begun e.name e.kind e.values old new → Wrote (e ∷ []) old new
+wrote_one e old new done = record {
+  there = All-cons (λ a. property new a.name ≡ Some (with_values (blank a.kind) a.values)) e [] done.there (All-nil _);
+  rest = λ n others. done.rest n (others 0 e (omega arith));
+}
+
+value_kind : (e : Entry) (i : ℕ) (v : PropValue) → IsEntry e → i < length e.values → v ≡ get_or e.values i v → kind_of v ≡ e.kind
+value_kind e i v fine inside is = ap kind_of is ∙ fine.of_kind i v inside
+
+taken : (e : Entry) (i index : ℕ) → i < length e.values → index ≡ i → index ≡ length (take i e.values)
+taken e i index inside place = rw length-take (omega arith)
+
+pub entry_not_refused : (e : Entry) (i index : ℕ) (v : PropValue) (old mid : Set) → IsEntry e → i < length e.values → v ≡ get_or e.values i v → index ≡ i → Begun e.name e.kind (take i e.values) old mid → refusal mid e.name index v ≡ None
+entry_not_refused e i index v old mid fine inside is place was =
+    not_refused mid e.name e.kind (take i e.values) index v was.there (taken e i index inside place) (omega (arith, fine.few)) (value_kind e i v fine inside is)
+
+pub entry_more : (e : Entry) (i index : ℕ) (v : PropValue) (old mid new : Set) → IsEntry e → i < length e.values → v ≡ get_or e.values i v → index ≡ i → Begun e.name e.kind (take i e.values) old mid → Puts mid new e.name index v → Begun e.name e.kind (take (i + 1) e.values) old new
+entry_more e i index v old mid new fine inside is place was puts =
+    let more : take (i + 1) e.values ≡ take i e.values ++ v ∷ [] = take_more e.values i v inside ∙ ap (λ w. take i e.values ++ w ∷ []) (sym is) in
+    rw more (begun_more e.name e.kind (take i e.values) old mid new index v was (taken e i index inside place) (value_kind e i v fine inside is) puts)
+
+pub entry_whole : (e : Entry) (i : ℕ) (old new : Set) → length e.values ≤ i → Begun e.name e.kind (take i e.values) old new → Wrote (e ∷ []) old new
+entry_whole e i old new past done = wrote_one e old new (rw (take_all i e.values past) at done)
+
+-- ---- entries one after another
+
+front_of : (P : Entry → Type 0) (xs : List Entry) (y : Entry) → All P (xs ++ y ∷ []) → All P xs
+front_of P xs y all k d low = subst P (get_or-append xs (y ∷ []) d k low) (all k d (rw length-append (omega arith)))
+
+last_of : (P : Entry → Type 0) (xs : List Entry) (y : Entry) → All P (xs ++ y ∷ []) → P y
+last_of P xs y all = subst P (get_or-append_seam xs y [] y) (all (length xs) y (rw length-append (omega arith)))
+
+pub wrote_none : (set : Set) → Wrote [] set set
+wrote_none set = record { there = All-nil _; rest = λ n others. refl }
+
+next_apart : (entries : List Entry) (i : ℕ) (e : Entry) → HaveNames entries → i < length entries → e ≡ get_or entries i e → All (λ a. a.name ≢ e.name) (take i entries)
+next_apart entries i e apart inside is =
+    All-from_get_or (λ a. a.name ≢ e.name) (take i entries) e
+    (λ k low. let low_i : k < i = omega (arith, simp length-take at low) in
+      rw (get_or-take i entries k e low_i) (λ same. apart k i e low_i inside (same ∙ ap (λ b. b.name) is)))
+
+pub awaits_next : (entries : List Entry) (i : ℕ) (e : Entry) (old mid : Set) → HaveNames entries → AwaitEntries old entries → i < length entries → e ≡ get_or entries i e → Wrote (take i entries) old mid → IsBlank mid e.kind e.name
+awaits_next entries i e old mid apart await inside is wrote =
+    wrote.rest e.name (All-weaker (λ a. a.name ≢ e.name) (λ a. e.name ≢ a.name) (λ a ne same. ne (sym same)) (take i entries) (next_apart entries i e apart inside is))
+    ∙ subst (λ b. IsBlank old b.kind b.name) (sym is) (await i e inside)
+
+pub wrote_more : (entries : List Entry) (i : ℕ) (e : Entry) (old mid new : Set) → HaveNames entries → i < length entries → e ≡ get_or entries i e → Wrote (take i entries) old mid → Wrote (e ∷ []) mid new → Wrote (take (i + 1) entries) old new
+wrote_more entries i e old mid new apart inside is was now =
+    let before = next_apart entries i e apart inside is in
+    let kept : All (λ a. property new a.name ≡ Some (with_values (blank a.kind) a.values)) (take i entries)
+    = λ k d low. now.rest (get_or (take i entries) k d).name (All-cons (λ a. (get_or (take i entries) k d).name ≢ a.name) e [] (before k d low) (All-nil _)) ∙ was.there k d low in
+    let more : take (i + 1) entries ≡ take i entries ++ e ∷ [] = take_more entries i e inside ∙ ap (λ b. take i entries ++ b ∷ []) (sym is) in
+    rw more (record {
+      there = All-push (λ a. property new a.name ≡ Some (with_values (blank a.kind) a.values)) (take i entries) e kept (now.there 0 e (omega arith));
+      rest = λ n others.
+        now.rest n (All-cons (λ a. n ≢ a.name) e [] (last_of (λ a. n ≢ a.name) (take i entries) e others) (All-nil _))
+        ∙ was.rest n (front_of (λ a. n ≢ a.name) (take i entries) e others);
+    })
+
+-- ---- a set of entries
+
+no_entry : Entry
+no_entry = record { name = []; kind = kind.Text; values = [] }
+
+at_def : (entries : List Entry) (i : ℕ) (d : PropDef) → i < length entries → get_or (map def_of entries) i d ≡ def_of (get_or entries i no_entry)
+at_def entries i d low = get_or-map def_of entries i no_entry d low
+
+pub apart_defs : (entries : List Entry) → HaveNames entries → AreApart (map def_of entries)
+apart_defs entries apart i j d below inside =
+    let low_j : j < length entries = omega (arith, simp length-map at inside) in
+    let low_i : i < length entries = omega arith in
+    rw (at_def entries i d low_i, at_def entries j d low_j) (apart i j no_entry below low_j)
+
+apart_rest : (e : Entry) (entries : List Entry) → HaveNames (e ∷ entries) → HaveNames entries
+apart_rest e entries apart i j d below inside = apart (suc i) (suc j) d (omega arith) (omega arith)
+
+made_at : (entries : List Entry) (k : ℕ) (d : Entry) → HaveNames entries → k < length entries → made (map def_of entries) (get_or entries k d).name ≡ Some (property_made (def_of (get_or entries k d)))
+made_at [] k d apart inside = absurd (omega arith)
+made_at (e ∷ entries) zero d apart inside = cond-true _ _ _ ((bytes_eq-Decides e.name e.name).1 refl)
+made_at (e ∷ entries) (suc k) d apart inside =
+    let other : (get_or entries k d).name ≢ e.name = λ same. apart 0 (suc k) d (omega arith) inside (sym same) in
+    cond-false _ _ _ (false_from_ne_true _ (λ t. other ((bytes_eq-Decides (get_or entries k d).name e.name).0 t)))
+    ∙ made_at entries k d (apart_rest e entries apart) (omega arith)
+
+-- the set makes the property of each entry
+abbrev pub IsMadeOf : List Entry → Set → Type 0
+IsMadeOf entries set = (name : List ℕ) → property set name ≡ made (map def_of entries) name
+
+property_there : (entries : List Entry) (set : Set) → HaveNames entries → IsMadeOf entries set → All (λ e. property set e.name ≡ Some (property_made (def_of e))) entries
+property_there entries set apart is k d inside = is _ ∙ made_at entries k d apart inside
+
+pub has_values : (entries : List Entry) (set : Set) → HaveNames entries → IsMadeOf entries set → All (HasValues set) entries
+has_values entries set apart is k d inside =
+    let e = get_or entries k d in
+    values_are set e.kind e.name (property_made (def_of e)) (property_there entries set apart is k d inside) refl
+
+pub are_blank : (entries : List Entry) (set : Set) → HaveNames entries → IsMadeOf entries set → All (λ e. e.values ≡ [] → IsBlank set e.kind e.name) entries
+are_blank entries set apart is k d inside none =
+    property_there entries set apart is k d inside
+    ∙ ap (λ vs. Some (property_made (def_of (record (get_or entries k d) { values = vs })))) none
+
+-- ---- names that differ
+
+-- whether each name differs from each later one
+abbrev pub differ : List Entry → Bool
+differ [] = true
+differ (e ∷ entries) = not (list_any (λ a. bytes_eq e.name a.name) entries) && differ entries
+
+both_of : (a b : Bool) → a && b ≡ true → (a ≡ true) × (b ≡ true)
+both_of true b h = (refl, h)
+both_of false b h = absurd cc
+
+not_true : (b : Bool) → not b ≡ true → b ≡ false
+not_true true h = absurd cc
+not_true false h = refl
+
+neither_of : (a b : Bool) → a || b ≡ false → (a ≡ false) × (b ≡ false)
+neither_of true b h = absurd cc
+neither_of false b h = (refl, h)
+
+others_of : (name : List ℕ) (entries : List Entry) → list_any (λ a. bytes_eq name a.name) entries ≡ false → All (λ a. name ≢ a.name) entries
+others_of name [] h = All-nil _
+others_of name (e ∷ entries) h =
+    let none = neither_of _ _ h in
+    All-cons (λ a. name ≢ a.name) e entries
+      (λ same. false≢true (sym none.0 ∙ (bytes_eq-Decides name e.name).1 same))
+      (others_of name entries none.1)
+
+pub apart_if : (entries : List Entry) → differ entries ≡ true → HaveNames entries
+apart_if [] h = λ i j d below inside. absurd (omega arith)
+apart_if (e ∷ entries) h =
+    let both = both_of _ _ h in
+    AllPairs-cons (λ a b. a.name ≢ b.name) e entries (others_of e.name entries (not_true _ both.0)) (apart_if entries both.1)
+
+blank_names : (prefix : List ℕ) (k : PropKind) (names : List (List ℕ)) → AllPairs (λ a b. a ≢ b) names → HaveNames (map (blank_entry prefix k) names)
+blank_names prefix k names apart i j d below inside =
+    let low_j : j < length names = omega (arith, simp length-map at inside) in
+    let low_i : i < length names = omega arith in
+    rw (get_or-map (blank_entry prefix k) names i [] d low_i, get_or-map (blank_entry prefix k) names j [] d low_j)
+      (λ same. apart i j [] below low_j (append_cancel_left prefix _ _ same))
+
+pub clip_names_apart : (entries : List Entry) (prefix : List ℕ) (k : PropKind) (names : List (List ℕ)) → entries ≡ map (blank_entry prefix k) names → AllPairs (λ a b. a ≢ b) names → HaveNames entries
+clip_names_apart entries prefix k names is apart = rw is (blank_names prefix k names apart)
+
+pub clips_blank : (entries : List Entry) (prefix : List ℕ) (k : PropKind) (names : List (List ℕ)) (set : Set) → entries ≡ map (blank_entry prefix k) names → All (λ e. e.values ≡ [] → IsBlank set e.kind e.name) entries → AreBlank set prefix k names
+clips_blank entries prefix k names set is blanks i d inside =
+    let there : All (λ e. e.values ≡ [] → IsBlank set e.kind e.name) (map (blank_entry prefix k) names) = rw is at blanks in
+    (rw (get_or-map (blank_entry prefix k) names i d no_entry inside) at (there i no_entry (simp length-map inside))) refl
+
+-- ---- what is described
+
+pub description_apart : (label : List ℕ) (contexts : List Context) (depths : List Depth) (temporal tiles : Bool) (s : Safety) → HaveNames (description_of label contexts depths temporal tiles s)
+description_apart label contexts depths temporal tiles s = apart_if (description_of label contexts depths temporal tiles s) refl
+
+pub clip_description_apart : (clip : Clip) (cs : List Components) → HaveNames (clip_description clip cs)
+clip_description_apart clip cs = apart_if (clip_description clip cs) refl
+
+-- ---- a result that is handed on
+
+pub if_ok : {A E : Type 0} (r : Result A E) (P Q : A → Type 0) → ((a : A) → P a → Q a) → IfOk r P → IfOk r Q
+if_ok (Ok a) P Q h p = h a p
+if_ok (Err e) P Q h p = tt
