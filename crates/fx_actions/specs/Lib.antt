@@ -1,2 +1,3 @@
 pub mod Args
 pub mod Read
+pub mod Clips

@@ -10,6 +10,7 @@ ghost use Rattle.fx_effect.specs.Asked.{IsFrame, IsWindow, HasTime, HasRegion, H
 ghost use Rattle.fx_actions.specs.Args.{HasRange, HasStep};
 
 use fx_base::{Fix, Memory, Name, Names, Rect};
+use fx_effect::blank;
 use fx_props::{PropDef, PropKind, PropList, PropSet, PropValue};
 use std::alloc::Global;
 
@@ -150,21 +151,6 @@ fn given(
         most: values.len() as u32,
         allowed: Names::of(Vec::new(alloc)),
         start: PropList::of(values),
-    })
-}
-
-// A property that waits to be written.
-fn blank(alloc: Global, name: &str, kind: PropKind) -> Result<PropDef, Memory>
-    ensures lawful { IfOk result (λ def. IsLawfulDef def) }
-    ensures name { IfOk result (λ def. def.name ≡ name.now) }
-    ensures made { IfOk result (λ def. property_made def ≡ blank kind) }
-{
-    Ok(PropDef {
-        name: Name::of(String::from_str(alloc, name)?),
-        kind,
-        most: u32::MAX,
-        allowed: Names::of(Vec::new(alloc)),
-        start: PropList::of(Vec::new(alloc)),
     })
 }
 
