@@ -1,5 +1,6 @@
 -- Entries that are put into sets.
-use Rattle.std.proofs.Common.{◌≡◌, ◌≢◌, ◌≤◌, ◌<◌, ℕ, zero, suc, ◌+◌, Bool, true, false, not, ltb, ◌&&◌, ◌||◌, List, [], ◌∷◌, ◌++◌, map, take, length, get_or, All, AllPairs, Some, None, Result, Ok, Err, IfOk, refl, sym, ap, subst, ◌∙◌, arith}
+use Rattle.std.proofs.Common.{◌≡◌, ◌≢◌, ◌≤◌, ◌<◌, ℕ, zero, suc, ℤ, pos, neg_ℤ, FitsSigned, w64, rules, append_assoc, ◌+◌, Bool, true, false, not, ltb, ◌&&◌, ◌||◌, List, [], ◌∷◌, ◌++◌, map, take, length, get_or, All, AllPairs, Some, None, Result, Ok, Err, IfOk, refl, sym, ap, subst, ◌∙◌, arith}
+use Rattle.std.specs.Borrow.{Bor}
 use Rattle.std.specs.List.{list_any}
 use Rattle.std.specs.Option.{option_map, option_and_then}
 use Rattle.std.specs.Str.{bytes_eq}
@@ -7,8 +8,8 @@ use Rattle.std.proofs.lemmas.Bool.{cond-true, cond-false, false_from_ne_true, fa
 use Rattle.std.proofs.lemmas.Bool.Decides.{nat_tests}
 use Rattle.std.proofs.Math.ListN.{get_or-append}
 use Rattle.std.proofs.Math.Seq.{get_or-append_seam}
-use Rattle.std.proofs.lemmas.List.{length-take, length-append, length-map, get_or-map, take_more, take_all, get_or-take, append_cancel_left}
-use Rattle.std.proofs.lemmas.List.Elements.{All-nil, All-cons, All-push, All-weaker, All-from_get_or}
+use Rattle.std.proofs.lemmas.List.{length-take, length-append, length-map, get_or-map, take_more, take_all, map_more, get_or-take, append_cancel_left}
+use Rattle.std.proofs.lemmas.List.Elements.{All-from_recursion, All-nil, All-cons, All-push, All-weaker, All-from_get_or}
 use Rattle.std.proofs.lemmas.List.Kept.{AllPairs-cons}
 use Rattle.std.proofs.lemmas.Slice.Eq.{bytes_eq-Decides}
 use Rattle.fx_props.specs.declared.value.PropKind.{PropKind}
@@ -18,14 +19,15 @@ use Rattle.fx_props.specs.declared.def.PropDef.{PropDef}
 use Rattle.fx_props.specs.Value.{kind_of, same_kind}
 use Rattle.fx_props.specs.Property.{Property, property_made, with_values, placed, of_kind, takes_at}
 use Rattle.fx_props.specs.Set.{Set, property, property_of, values_of, made, AreApart, refusal, Puts}
-use Rattle.fx_effect.specs.Sets.{Entry, blank, IsBlank, AreBlank, AwaitEntries, HasValues, Wrote}
+use Rattle.fx_effect.specs.Sets.{Entry, blank, IsBlank, AreBlank, AwaitEntries, HasValues, Wrote, whole, range_values, clip_entries, clip_entries_from}
 use Rattle.fx_effect.specs.Shape.{Clip}
 use Rattle.fx_effect.specs.declared.action.Context.{Context}
 use Rattle.fx_effect.specs.declared.action.Safety.{Safety}
 use Rattle.fx_pixel.specs.declared.Depth.{Depth}
 use Rattle.fx_pixel.specs.declared.Components.{Components}
 use Rattle.fx_effect.specs.Described.{description_of, clip_description}
-use Rattle.fx_effect.specs.Entries.{IsEntry, HaveNames, def_of, blank_entry}
+use Rattle.fx_effect.specs.Entries.{IsEntry, HaveNames, def_of, blank_entry, texts_of, IsModerate}
+use Rattle.fx_effect.proofs.PieceLaws.{fits_between}
 
 -- ---- a property of a kind
 
@@ -228,8 +230,85 @@ description_apart label contexts depths temporal tiles s = apart_if (description
 pub clip_description_apart : (clip : Clip) (cs : List Components) → HaveNames (clip_description clip cs)
 clip_description_apart clip cs = apart_if (clip_description clip cs) refl
 
+-- ---- properties of clips
+
+clip_entries_push : (prefix : List ℕ) (kd : PropKind) (values : ℕ → List PropValue) (k : ℕ) (names : List (List ℕ)) (name : List ℕ)
+    → clip_entries_from prefix kd values k (names ++ name ∷ []) ≡ clip_entries_from prefix kd values k names ++ record { name = prefix ++ name; kind = kd; values = values (k + length names) } ∷ []
+clip_entries_push prefix kd values k [] name = ap (λ n. record { name = prefix ++ name; kind = kd; values = values n } ∷ []) (omega arith)
+clip_entries_push prefix kd values k (n ∷ names) name =
+    ap (λ es. record { name = prefix ++ n; kind = kd; values = values k } ∷ es)
+    (clip_entries_push prefix kd values (suc k) names name
+     ∙ ap (λ m. clip_entries_from prefix kd values (suc k) names ++ record { name = prefix ++ name; kind = kd; values = values m } ∷ []) (omega arith))
+
+clips_more : (clips : List (Bor (List ℕ))) (k : ℕ) (d : Bor (List ℕ)) → k < length clips → texts_of (take (k + 1) clips) ≡ texts_of (take k clips) ++ (get_or clips k d).now ∷ []
+clips_more clips k d inside = map_more (λ (n : Bor (List ℕ)). n.now) clips k d inside
+
+clips_before : (clips : List (Bor (List ℕ))) (k : ℕ) → k < length clips → k ≡ 0 + length (texts_of (take k clips))
+clips_before clips k inside = rw (length-map, length-take) (omega arith)
+
+-- the entries of the clips so far, and the next
+pub clip_entries_more : (prefix : List ℕ) (kd : PropKind) (values : ℕ → List PropValue) (clips : List (Bor (List ℕ))) (k : ℕ) (d : Bor (List ℕ)) (entries : List Entry) (e : Entry)
+    → k < length clips → entries ≡ clip_entries prefix kd values (texts_of (take k clips)) → e ≡ record { name = prefix ++ (get_or clips k d).now; kind = kd; values = values k }
+    → entries ++ e ∷ [] ≡ clip_entries prefix kd values (texts_of (take (k + 1) clips))
+clip_entries_more prefix kd values clips k d entries e inside same new =
+    let before = texts_of (take k clips) in
+    let clip = (get_or clips k d).now in
+    ap (λ es. es ++ e ∷ []) same
+    ∙ ap (λ x. clip_entries prefix kd values before ++ x ∷ []) (new ∙ ap (λ n. record { name = prefix ++ clip; kind = kd; values = values n }) (clips_before clips k inside))
+    ∙ sym (clip_entries_push prefix kd values 0 before clip)
+    ∙ ap (clip_entries prefix kd values) (sym (clips_more clips k d inside))
+
+at_clip : (prefix : List ℕ) (kd : PropKind) (values : ℕ → List PropValue) (from : ℕ) (names : List (List ℕ)) (i : ℕ) (d : Entry) (e : List ℕ) → i < length names → get_or (clip_entries_from prefix kd values from names) i d ≡ record { name = prefix ++ get_or names i e; kind = kd; values = values (from + i) }
+at_clip prefix kd values from [] i d e inside = absurd (omega arith)
+at_clip prefix kd values from (n ∷ names) zero d e inside = ap (λ m. record { name = prefix ++ n; kind = kd; values = values m }) (omega arith)
+at_clip prefix kd values from (n ∷ names) (suc i) d e inside =
+    at_clip prefix kd values (suc from) names i d e (omega arith) ∙ ap (λ m. record { name = prefix ++ get_or names i e; kind = kd; values = values m }) (omega arith)
+
+clip_entries_long : (prefix : List ℕ) (kd : PropKind) (values : ℕ → List PropValue) (from : ℕ) (names : List (List ℕ)) → length (clip_entries_from prefix kd values from names) ≡ length names
+clip_entries_long prefix kd values from [] = refl
+clip_entries_long prefix kd values from (n ∷ names) = ap suc (clip_entries_long prefix kd values (suc from) names)
+
+pub clip_entries_apart : (entries : List Entry) (prefix : List ℕ) (kd : PropKind) (values : ℕ → List PropValue) (names : List (List ℕ)) → entries ≡ clip_entries prefix kd values names → AllPairs (λ a b. a ≢ b) names → HaveNames entries
+clip_entries_apart entries prefix kd values names is apart i j d below inside =
+    let low_j : j < length names = omega (arith, inside, ap length is, clip_entries_long prefix kd values 0 names) in
+    let low_i : i < length names = omega arith in
+    rw (is, at_clip prefix kd values 0 names i d [] low_i, at_clip prefix kd values 0 names j d [] low_j)
+      (λ same. apart i j [] below low_j (append_cancel_left prefix _ _ same))
+
+pub clip_entries_await : (entries : List Entry) (prefix : List ℕ) (kd : PropKind) (values : ℕ → List PropValue) (names : List (List ℕ)) (set : Set) → entries ≡ clip_entries prefix kd values names → AreBlank set prefix kd names → AwaitEntries set entries
+clip_entries_await entries prefix kd values names set is blanks i d inside =
+    let low : i < length names = omega (arith, inside, ap length is, clip_entries_long prefix kd values 0 names) in
+    rw (is, at_clip prefix kd values 0 names i d [] low) (blanks i [] low)
+
+-- ---- frames
+
+pub range_values_push : (spans : List (ℤ × ℤ)) (span : ℤ × ℤ) → range_values (spans ++ span ∷ []) ≡ range_values spans ++ whole span.0 ∷ whole span.1 ∷ []
+range_values_push [] span = refl
+range_values_push (s ∷ spans) span = ap (λ vs. whole s.0 ∷ whole s.1 ∷ vs) (range_values_push spans span)
+
+pub ranges_more : (spans : List (ℤ × ℤ)) (i : ℕ) (d : ℤ × ℤ) (was mid new : List PropValue) (a b : PropValue) → i < length spans → was ≡ range_values (take i spans) → mid ≡ was ++ a ∷ [] → new ≡ mid ++ b ∷ [] → a ≡ whole (get_or spans i d).0 → b ≡ whole (get_or spans i d).1 → new ≡ range_values (take (i + 1) spans)
+ranges_more spans i d was mid new a b inside same first second a_is b_is =
+    let before = range_values (take i spans) in
+    second
+    ∙ ap (λ v. v ++ b ∷ []) (first ∙ ap (λ v. v ++ a ∷ []) same)
+    ∙ append_assoc before (a ∷ []) (b ∷ [])
+    ∙ ap (λ v. before ++ v ∷ b ∷ []) a_is
+    ∙ ap (λ v. before ++ whole (get_or spans i d).0 ∷ v ∷ []) b_is
+    ∙ sym (range_values_push (take i spans) (get_or spans i d))
+    ∙ ap range_values (sym (take_more spans i d inside))
+
+pub moderate_fits : (n : ℤ) → IsModerate n → FitsSigned w64 n
+moderate_fits n near = fits_between (neg_ℤ (pos 2147483648)) n (pos 2147483648) (search rules) (search rules) near.0 near.1
+
+-- what an entry was made of
+pub entry_is : (e : Entry) (kd : PropKind) (name named : List ℕ) (values given : List PropValue) → e ≡ record { name = name; kind = kd; values = values } → name ≡ named → values ≡ given → e ≡ record { name = named; kind = kd; values = given }
+entry_is e kd name named values given is n v = is ∙ ap (λ m. record { name = m; kind = kd; values = values }) n ∙ ap (λ vs. record { name = named; kind = kd; values = vs }) v
+
 -- ---- a result that is handed on
 
 pub if_ok : {A E : Type 0} (r : Result A E) (P Q : A → Type 0) → ((a : A) → P a → Q a) → IfOk r P → IfOk r Q
 if_ok (Ok a) P Q h p = h a p
 if_ok (Err e) P Q h p = tt
+
+pub four_of : (kd : PropKind) (a b c d : PropValue) → kind_of a ≡ kd → kind_of b ≡ kd → kind_of c ≡ kd → kind_of d ≡ kd → All (λ v. kind_of v ≡ kd) (a ∷ b ∷ c ∷ d ∷ [])
+four_of kd a b c d pa pb pc pd = All-from_recursion (λ v. kind_of v ≡ kd) (a ∷ b ∷ c ∷ d ∷ []) (pa, (pb, (pc, (pd, tt))))

@@ -1,5 +1,6 @@
 -- Properties with their values, as they come into a set.
-use Rattle.std.specs.Prelude.{◌≡◌, ◌≤◌, ◌≢◌, ℕ, List, [], ◌++◌, length, All, AllPairs}
+use Rattle.std.specs.Prelude.{◌≡◌, ◌≤◌, ◌≢◌, ℕ, ℤ, pos, neg_ℤ, ◌≤ℤ◌, List, [], ◌++◌, map, length, slice_index_or, All, AllPairs}
+use Rattle.std.specs.Borrow.{Bor}
 use Rattle.fx_props.specs.declared.value.PropKind.{PropKind}
 use Rattle.fx_props.specs.declared.def.PropDef.{PropDef}
 use Rattle.fx_props.specs.Value.{kind_of}
@@ -21,3 +22,20 @@ def_of e = record { name = e.name; kind = e.kind; most = 4294967295; allowed = [
 -- a property with no value yet, of the prefix and a name
 abbrev pub blank_entry : List ℕ → PropKind → List ℕ → Entry
 blank_entry prefix kind name = record { name = prefix ++ name; kind = kind; values = [] }
+
+-- ---- what is handed in to be written
+
+-- a whole number of magnitude at most 2^31, whose fixed-point number fits
+abbrev pub IsModerate : ℤ → Type 0
+IsModerate n = (neg_ℤ (pos 2147483648) ≤ℤ n) × (n ≤ℤ pos 2147483648)
+
+abbrev pub AreModerate : ℤ × ℤ → Type 0
+AreModerate span = IsModerate span.0 × IsModerate span.1
+
+-- the texts of a list
+abbrev pub texts_of : List (Bor (List ℕ)) → List (List ℕ)
+texts_of clips = map (λ n. n.now) clips
+
+-- the pairs of a clip
+abbrev pub spans_of : List (Bor (List (ℤ × ℤ))) → ℕ → List (ℤ × ℤ)
+spans_of spans clip = slice_index_or (map (λ s. s.now) spans) clip []

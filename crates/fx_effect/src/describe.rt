@@ -7,9 +7,9 @@ ghost use Rattle.fx_effect.specs.Sets.{flag, AwaitEntries, HasValues, Wrote};
 ghost use Rattle.fx_effect.specs.Described.{context_text, depth_text, components_text, safety_text, texts, description_entries, clip_description};
 
 
-use crate::sets::{PropEntry, set_of, write_entries};
+use crate::sets::{PropEntry, name_of, set_of, write_entries};
 use crate::{Context, Safety};
-use fx_base::{Memory, Name};
+use fx_base::Memory;
 use fx_pixel::{Components, Depth};
 use fx_props::{PropKind, PropSet, PropValue};
 use std::alloc::Global;
@@ -122,12 +122,6 @@ impl Word for Safety {
             Safety::FullySafe => "OfxImageEffectRenderFullySafe",
         }
     }
-}
-
-fn name_of(alloc: Global, text: &str) -> Result<Name, Memory>
-    ensures { IfOk result (λ name. name ≡ text.now) }
-{
-    Ok(Name::of(String::from_str(alloc, text)?))
 }
 
 fn text_entry(alloc: Global, name: &str, text: &str) -> Result<PropEntry, Memory>

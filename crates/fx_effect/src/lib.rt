@@ -22,6 +22,6 @@ pub use effect::{Catalogue, ImageEffect};
 pub use inputs::Inputs;
 pub use piece::Piece;
 pub use rows::{RowKernel, fill, offset};
-pub use sets::{PropEntry, blank, clip_blanks, clip_set_of_blanks, composed, set_of, write_entries};
+pub use sets::{PropEntry, blank, clip_blanks, clip_set_of_blanks, composed, set_of, write_entries, write_frames, write_interest, write_region};
 pub use steps::{Step, Steps};
 pub use values::{Flags, Numbers, Values};

@@ -7,9 +7,14 @@ ghost use Rattle.fx_props.specs.Property.{IsLawfulDef, property_made, IsAnswer};
 ghost use Rattle.fx_props.specs.Set.{refusal, Puts};
 ghost use Rattle.fx_props.specs.Value.{kind_of};
 ghost use Rattle.fx_effect.specs.Sets.{flag, blank, IsBlank, AreBlank, AwaitEntries, HasValues, Wrote};
-ghost use Rattle.fx_effect.specs.Entries.{HaveNames, def_of, blank_entry};
+ghost use Rattle.fx_props.specs.declared.value.PropKind.TheVariants as kind;
+ghost use Rattle.fx_effect.specs.Default.{region_of};
+ghost use Rattle.fx_effect.specs.Asked.{interest_prefix, frames_prefix, interest, frame_ranges};
+ghost use Rattle.fx_effect.specs.Laws.{IsUpTo};
+ghost use Rattle.fx_effect.specs.Sets.{whole, region_values, range_values};
+ghost use Rattle.fx_effect.specs.Entries.{IsModerate, AreModerate, texts_of, spans_of, HaveNames, def_of, blank_entry};
 
-use fx_base::{Memory, Name, Names};
+use fx_base::{Fix, Memory, Name, Names, Rect};
 use fx_props::{PropDef, PropFault, PropKind, PropList, PropSet, PropValue};
 use std::alloc::Global;
 use std::marker::Model;
@@ -27,7 +32,12 @@ impl Model for PropEntry {
 
     ghost Value = { Entry };
 
-    ghost use Rattle.fx_effect.specs.Entries.{IsEntry};
+    ghost use Rattle.fx_props.specs.declared.value.PropKind.TheVariants as kind;
+ghost use Rattle.fx_effect.specs.Default.{region_of};
+ghost use Rattle.fx_effect.specs.Asked.{interest_prefix, frames_prefix, interest, frame_ranges};
+ghost use Rattle.fx_effect.specs.Laws.{IsUpTo};
+ghost use Rattle.fx_effect.specs.Sets.{whole, region_values, range_values};
+ghost use Rattle.fx_effect.specs.Entries.{IsModerate, AreModerate, texts_of, spans_of, IsEntry};
 
     ghost view = { λ e. record { name = e.name; kind = e.kind; values = e.values.items } };
 
@@ -92,8 +102,7 @@ pub fn blank(alloc: Global, name: &str, kind: PropKind) -> Result<PropDef, Memor
     ensures name { IfOk result (λ def. def.name ≡ name.now) }
     ensures made { IfOk result (λ def. property_made def ≡ blank kind) }
 {
-    let name = Name::of(String::from_str(alloc, name)?);
-    Ok(PropEntry::blank(alloc, name, kind).into_def(alloc))
+    Ok(PropEntry::blank(alloc, name_of(alloc, name)?, kind).into_def(alloc))
 }
 
 /// The name of a clip's own property: the prefix and then the clip's name.
@@ -133,6 +142,12 @@ pub fn clip_set_of_blanks(
     ensures { IfOk result (λ set. AreBlank set prefix.now kind clips.now) }
 {
     set_of(alloc, clip_blanks(alloc, prefix, kind, clips)?)
+}
+
+pub(crate) fn name_of(alloc: Global, text: &str) -> Result<Name, Memory>
+    ensures { IfOk result (λ name. name ≡ text.now) }
+{
+    Ok(Name::of(String::from_str(alloc, text)?))
 }
 
 /// Gives the blank properties of a set the values of these entries. At want of memory they hold
@@ -200,4 +215,125 @@ fn put(
         PropValue::Fix(fix) => set.set_fix(alloc, name, index, *fix),
         PropValue::Text(text) => set.set_text(alloc, name, index, text.text()),
     }
+}
+
+/// Writes a region: x1, y1, x2 and y2 as fixed-point numbers, which are four zeros where it is empty.
+/// At want of memory the property holds anything.
+pub fn write_region(
+    alloc: Global,
+    out_args: &mut PropSet,
+    name: &str,
+    region: Rect,
+) -> Result<(), Memory>
+    requires blank { IsBlank out_args.old kind.Fix name.now }
+    requires near { IsUpTo 2147483648 region }
+    ensures { OnOk result (Wrote (record { name = name.now; kind = kind.Fix; values = region_values region } ∷ []) out_args.old out_args.new) }
+{
+    let values = region_list(alloc, region)?;
+    let entry = PropEntry::new(name_of(alloc, name)?, PropKind::Fix, values)?;
+    write_entry(alloc, out_args, &entry)
+}
+
+/// Writes each clip's region of interest under its composed name.
+pub fn write_interest(
+    alloc: Global,
+    out_args: &mut PropSet,
+    clips: &[&str],
+    regions: &[Rect],
+) -> Result<(), Memory>
+    requires same_number { length regions.now ≡ length clips.now }
+    requires names { AllPairs (λ a b. a ≢ b) (texts_of clips.now) }
+    requires blank { AreBlank out_args.old interest_prefix kind.Fix (texts_of clips.now) }
+    requires near { All (IsUpTo 2147483648) regions.now }
+    ensures { OnOk result (Wrote (interest (texts_of clips.now) (region_of regions.now)) out_args.old out_args.new) }
+{
+    write_entries(alloc, out_args, &interest_entries(alloc, clips, regions)?)
+}
+
+/// Writes each clip's frames under its composed name: pairs of a first and a last frame.
+pub fn write_frames(
+    alloc: Global,
+    out_args: &mut PropSet,
+    clips: &[&str],
+    spans: &[&[(i64, i64)]],
+) -> Result<(), Memory>
+    requires same_number { length spans.now ≡ length clips.now }
+    requires names { AllPairs (λ a b. a ≢ b) (texts_of clips.now) }
+    requires blank { AreBlank out_args.old frames_prefix kind.Fix (texts_of clips.now) }
+    requires near { All (λ s. All AreModerate s.now) spans.now }
+    ensures { OnOk result (Wrote (frame_ranges (texts_of clips.now) (spans_of spans.now)) out_args.old out_args.new) }
+{
+    write_entries(alloc, out_args, &frame_entries(alloc, clips, spans)?)
+}
+
+fn interest_entries(
+    alloc: Global,
+    clips: &[&str],
+    regions: &[Rect],
+) -> Result<Vec<PropEntry>, Memory>
+    requires same_number { length regions.now ≡ length clips.now }
+    requires near { All (IsUpTo 2147483648) regions.now }
+    ensures { IfOk result (λ entries. entries.items ≡ interest (texts_of clips.now) (region_of regions.now)) }
+{
+    let mut entries = Vec::new(alloc);
+    for (k, clip) in clips.iter().enumerate() {
+        let values = region_list(alloc, regions[k])?;
+        let name = composed(alloc, "OfxImageClipPropRoI_", clip)?;
+        entries.push(PropEntry::new(name, PropKind::Fix, values)?)?;
+    }
+    Ok(entries)
+}
+
+fn frame_entries(
+    alloc: Global,
+    clips: &[&str],
+    spans: &[&[(i64, i64)]],
+) -> Result<Vec<PropEntry>, Memory>
+    requires same_number { length spans.now ≡ length clips.now }
+    requires near { All (λ s. All AreModerate s.now) spans.now }
+    ensures { IfOk result (λ entries. entries.items ≡ frame_ranges (texts_of clips.now) (spans_of spans.now)) }
+{
+    let mut entries = Vec::new(alloc);
+    for (k, clip) in clips.iter().enumerate() {
+        let values = range_list(alloc, spans[k])?;
+        let name = composed(alloc, "OfxImageClipPropFrameRange_", clip)?;
+        entries.push(PropEntry::new(name, PropKind::Fix, values)?)?;
+    }
+    Ok(entries)
+}
+
+fn region_list(alloc: Global, region: Rect) -> Result<Vec<PropValue>, Memory>
+    requires { IsUpTo 2147483648 region }
+    ensures values { IfOk result (λ values. values.items ≡ region_values region) }
+    ensures of_kind { IfOk result (λ values. All (λ v. kind_of v ≡ kind.Fix) values.items) }
+{
+    let values = vec![in alloc;
+        whole(region.x1),
+        whole(region.y1),
+        whole(region.x2),
+        whole(region.y2),
+    ]?;
+    Ok(values)
+}
+
+fn range_list(alloc: Global, spans: &[(i64, i64)]) -> Result<Vec<PropValue>, Memory>
+    requires { All AreModerate spans.now }
+    ensures values { IfOk result (λ values. values.items ≡ range_values spans.now) }
+    ensures of_kind { IfOk result (λ values. All (λ v. kind_of v ≡ kind.Fix) values.items) }
+{
+    let mut values = Vec::new(alloc);
+    for (first, last) in spans {
+        values.push(whole(*first))?;
+        values.push(whole(*last))?;
+    }
+    Ok(values)
+}
+
+// A whole number as a fixed-point one.
+fn whole(n: i64) -> PropValue
+    requires { IsModerate n }
+    ensures value { result ≡ whole n }
+    ensures of_kind { kind_of result ≡ kind.Fix }
+{
+    PropValue::Fix(Fix { raw: n * 65536 })
 }
