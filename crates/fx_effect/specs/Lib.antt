@@ -10,3 +10,5 @@ pub mod Entries
 pub mod Described
 pub mod Asked
 pub mod Laws
+pub mod DefaultLaws
+pub mod ShapeLaws

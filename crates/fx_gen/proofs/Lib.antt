@@ -1,2 +1,2 @@
 pub mod PaintLaws
-pub mod SolidLaws
+pub mod ColumnLaws

@@ -1,5 +1,5 @@
 //! The effect invert.
-ghost use Rattle.std.specs.Prelude.{◌≡◌, ◌≤◌, ◌+◌, ◌*◌, ℕ, [], ◌∷◌, length};
+ghost use Rattle.std.specs.Prelude.{◌≡◌, ◌≤◌, ◌+◌, ◌*◌, ℕ, [], ◌∷◌, length, codes, refl};
 ghost use Rattle.fx_pixel.specs.declared.Depth.TheVariants.{Byte as BytesDepth, Short as ShortDepth};
 ghost use Rattle.fx_pixel.specs.declared.Depth.{Depth};
 ghost use Rattle.fx_pixel.specs.declared.Components.TheVariants.{Rgba as RgbaSamples};
@@ -9,16 +9,24 @@ ghost use Rattle.fx_effect.specs.Tap.{tap};
 ghost use Rattle.fx_effect.specs.Given.{input_pixel};
 ghost use Rattle.fx_effect.specs.Rows.{IsRow, ShowsRow};
 ghost use Rattle.fx_point.specs.Invert.{invert, inverted};
+ghost use Rattle.fx_point.specs.InvertLaws.{invert_laws};
 
 use fx_base::{Memory, Rect};
-use fx_effect::{ImageEffect, Inputs, RowKernel, Values, fill, offset};
+use fx_core::Ticket;
+use fx_effect::{
+    Catalogue, Context, Description, Identity, ImageEffect, Inputs, Reply, RowKernel, Safety, Values,
+    clip_set, fill, offset,
+};
+use fx_gate::Hold;
 use fx_image::Part;
 use fx_image::samples::{pixel, set_pixel};
+use fx_params::ParamDef;
 use fx_pixel::{Components, Depth, Pixel};
+use fx_props::PropSet;
 use std::alloc::Global;
 
-/// Takes each of r, g and b from a, down to 0, and keeps a. It has one clip, Source, and no parameters,
-/// and is for RGBA.
+/// Takes each of r, g and b from a, down to 0, and keeps a: a filter for RGBA. It has one clip, Source,
+/// and no parameters.
 #[derive(Clone, Copy, Debug, PartialEq, Eq)]
 pub struct Invert;
 
@@ -28,16 +36,136 @@ const SOURCE: u32 = 0;
 impl ImageEffect for Invert {
     ghost meaning = { λ _. invert };
 
+    ghost laws = { λ _. invert_laws };
+
+    fn load(&self, _alloc: Global) -> Result<Reply, Memory> {
+        Ok(Reply::Default)
+    }
+
+    fn unload(&self) -> Reply {
+        Reply::Default
+    }
+
+    fn describe(&self, alloc: Global, descriptor: &mut PropSet) -> Result<Reply, Memory> {
+        let description = Description {
+            label: "invert",
+            contexts: &[Context::Filter, Context::General],
+            depths: &[Depth::Byte, Depth::Short],
+            temporal: false,
+            tiles: true,
+            safety: Safety::FullySafe,
+        };
+        description.write(alloc, descriptor)?;
+        Ok(Reply::Ok)
+    }
+
+    fn describe_in_context(
+        &self,
+        alloc: Global,
+        _context: Context,
+        clips: &mut Vec<PropSet>,
+        _params: &mut Vec<ParamDef>,
+    ) -> Result<Reply, Memory> {
+        clips.push(clip_set(alloc, "Source", false, &[Components::Rgba])?)?;
+        Ok(Reply::Ok)
+    }
+
+    fn create_instance(&self, _alloc: Global) -> Result<Reply, Memory> {
+        Ok(Reply::Default)
+    }
+
+    fn destroy_instance(&self) -> Reply {
+        Reply::Default
+    }
+
+    fn get_clip_preferences(
+        &self,
+        _alloc: Global,
+        _values: &Values,
+        _out_args: &mut PropSet,
+    ) -> Result<Reply, Memory> {
+        Ok(Reply::Default)
+    }
+
+    fn get_region_of_definition(
+        &self,
+        _alloc: Global,
+        _values: &Values,
+        _regions: &[Rect],
+        _in_args: &PropSet,
+        _out_args: &mut PropSet,
+    ) -> Result<Reply, Memory> {
+        Ok(Reply::Default)
+    }
+
+    fn get_regions_of_interest(
+        &self,
+        _alloc: Global,
+        _values: &Values,
+        _in_args: &PropSet,
+        _out_args: &mut PropSet,
+    ) -> Result<Reply, Memory> {
+        Ok(Reply::Default)
+    }
+
+    fn get_frames_needed(
+        &self,
+        _alloc: Global,
+        _values: &Values,
+        _in_args: &PropSet,
+        _out_args: &mut PropSet,
+    ) -> Result<Reply, Memory> {
+        Ok(Reply::Default)
+    }
+
+    fn is_identity(&self, _values: &Values, _in_args: &PropSet) -> Identity {
+        Identity::No
+    }
+
+    fn begin_sequence_render(&self, _alloc: Global, _in_args: &PropSet) -> Result<Reply, Memory> {
+        Ok(Reply::Default)
+    }
+
     fn render(
         &self,
         _alloc: Global,
         values: &Values,
+        _in_args: &PropSet,
         inputs: &Inputs<'_>,
+        _hold: &mut Hold,
+        ticket: &mut Ticket,
         out: &mut Part<'_>,
     ) -> Result<(), Memory> {
         let frame = values.frame;
         fill(&InvertedRows { frame, inputs }, out);
+        ticket.stamped = true;
         Ok(())
+    }
+
+    fn end_sequence_render(&self, _in_args: &PropSet) -> Reply {
+        Reply::Default
+    }
+}
+
+impl Catalogue for Invert {
+    ghost called = { λ _. codes "invert" };
+
+    ghost number_of = { λ _. 4 };
+
+    ghost one_name = { λ _ _ _. refl };
+
+    ghost one_meaning = { λ _ _ _. refl };
+
+    fn named(name: &str) -> Option<Self> {
+        if name == "invert" { Some(Invert) } else { None }
+    }
+
+    fn number(&self) -> u32 {
+        4
+    }
+
+    fn safety(&self) -> Safety {
+        Safety::FullySafe
     }
 }
 

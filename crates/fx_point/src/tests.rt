@@ -1,14 +1,217 @@
+ghost use Rattle.std.specs.Prelude.{◌≡◌, ◌≢◌, [], ◌∷◌, true, pos, IfOk, codes};
+ghost use Rattle.std.specs.List.{Contains};
+ghost use Rattle.fx_base.specs.Bounds.{none};
+ghost use Rattle.fx_base.specs.Rect.{IsNear};
 ghost use Rattle.fx_pixel.specs.Pixel.{IsOfDepth, components_of};
 ghost use Rattle.fx_pixel.specs.declared.Components.TheVariants.{Rgba as RgbaSamples};
-ghost use Rattle.std.specs.Prelude.{◌≡◌};
+ghost use Rattle.fx_image.specs.Part.{IsPart};
+ghost use Rattle.fx_props.specs.declared.value.PropKind.TheVariants as kind;
+ghost use Rattle.fx_effect.specs.declared.action.Context.{Context as Contexts};
+ghost use Rattle.fx_effect.specs.Shape.{Shape, clip_names};
+ghost use Rattle.fx_effect.specs.Sets.{AreBlank, AwaitEntries, IsBlank};
+ghost use Rattle.fx_effect.specs.Described.{description};
+ghost use Rattle.fx_effect.specs.Asked.{IsFrame, IsAsked, HasTime, HasRegion, HasWindow, AreRegions, AsksRegion, AsksWindow, AsksSequence, MayRender, depth_prefix, components_prefix, interest_prefix, frames_prefix, region_name};
 
 use crate::Invert;
 use fx_base::{Memory, Rect};
-use fx_effect::{Flags, ImageEffect, Inputs, Numbers, Piece, Steps, Values};
-use fx_image::Image;
+use fx_core::Ticket;
+use fx_effect::{
+    Catalogue, Context, Flags, Identity, ImageEffect, Inputs, Numbers, Piece, Reply, Safety, Steps,
+    Values,
+};
+use fx_gate::Gates;
+use fx_image::{Image, Part};
+use fx_params::ParamDef;
 use fx_pixel::{Components, Depth, Pixel};
+use fx_props::PropSet;
 use std::alloc::Global;
+use std::process::Abort;
 use std::test::Fail;
+
+// What an effect with the clip Source says to the actions that ask an instance.
+#[derive(Drop)]
+struct Answers {
+    replies: Vec<Reply>,
+    identity: Identity,
+}
+
+fn blank_descriptor(_alloc: Global) -> Result<PropSet, Memory>
+    ensures { (s : Shape) → IfOk result (λ set. AwaitEntries set (description s)) }
+{
+    Err(Memory)
+}
+
+fn described<E: ImageEffect>(alloc: Global, effect: &E) -> Result<PropSet, Memory> {
+    let mut descriptor = blank_descriptor(alloc)?;
+    effect.describe(alloc, &mut descriptor)?;
+    Ok(descriptor)
+}
+
+fn in_context<E: ImageEffect>(
+    alloc: Global,
+    effect: &E,
+    context: Context,
+) -> Result<(Vec<PropSet>, Vec<ParamDef>), Memory>
+    requires { Contains (E.meaning effect.now).shape.contexts context }
+{
+    let mut clips = Vec::new(alloc);
+    let mut params = Vec::new(alloc);
+    effect.describe_in_context(alloc, context, &mut clips, &mut params)?;
+    Ok((clips, params))
+}
+
+// Blank properties for each action that writes.
+fn blanks(_alloc: Global) -> Result<PropSet, Memory>
+    ensures depths { IfOk result (λ set. AreBlank set depth_prefix kind.Text (codes "Source" ∷ [])) }
+    ensures components { IfOk result (λ set. AreBlank set components_prefix kind.Text (codes "Source" ∷ [])) }
+    ensures interest { IfOk result (λ set. AreBlank set interest_prefix kind.Fix (codes "Source" ∷ [])) }
+    ensures frames { IfOk result (λ set. AreBlank set frames_prefix kind.Fix (codes "Source" ∷ [])) }
+    ensures region { IfOk result (λ set. IsBlank set kind.Fix region_name) }
+{
+    Err(Memory)
+}
+
+// A time, and a region and a window that are one rectangle, and a sequence of frames 0 to 9.
+fn in_args(_alloc: Global, frame: i64, window: Rect) -> Result<PropSet, Memory>
+    requires frame { IsFrame frame }
+    requires window { IsNear window }
+    ensures time { IfOk result (λ set. HasTime set frame) }
+    ensures region { IfOk result (λ set. HasRegion set window) }
+    ensures window { IfOk result (λ set. HasWindow set window) }
+    ensures sequence { IfOk result (λ set. AsksSequence set) }
+{
+    Err(Memory)
+}
+
+fn answered<E: ImageEffect>(
+    alloc: Global,
+    effect: &E,
+    values: &Values,
+    regions: &[Rect],
+    in_args: &PropSet,
+) -> Result<Answers, Memory>
+    requires clips { (c : Contexts) → clip_names (E.meaning effect.now).shape c ≡ codes "Source" ∷ [] }
+    requires asked { IsAsked (E.meaning effect.now).shape values.now in_args.now }
+    requires regions { AreRegions values.now regions.now }
+    requires region { AsksRegion in_args.now }
+    requires window { AsksWindow in_args.now }
+    requires sequence { AsksSequence in_args.now }
+{
+    let replies = vec![in alloc;
+        effect.load(alloc)?,
+        effect.create_instance(alloc)?,
+        effect.get_clip_preferences(alloc, values, &mut blanks(alloc)?)?,
+        effect.get_region_of_definition(alloc, values, regions, in_args, &mut blanks(alloc)?)?,
+        effect.get_regions_of_interest(alloc, values, in_args, &mut blanks(alloc)?)?,
+        effect.get_frames_needed(alloc, values, in_args, &mut blanks(alloc)?)?,
+        effect.begin_sequence_render(alloc, in_args)?,
+        effect.end_sequence_render(in_args),
+        effect.destroy_instance(),
+        effect.unload(),
+    ]?;
+    let identity = effect.is_identity(values, in_args);
+    Ok(Answers { replies, identity })
+}
+
+// Renders, and says whether the ticket was stamped.
+fn rendered<E: ImageEffect>(
+    alloc: Global,
+    effect: &E,
+    values: &Values,
+    in_args: &PropSet,
+    inputs: &Inputs<'_>,
+    out: &mut Part<'_>,
+) -> Result<bool, Memory>
+    requires asked { IsAsked (E.meaning effect.now).shape values.now in_args.now }
+    requires part { IsPart out.old }
+    requires some_window { out.old.rect ≢ none }
+    requires window { HasWindow in_args.now out.old.rect }
+    requires may { MayRender (E.meaning effect.now).shape values.now inputs.now out.old.image.now.depth out.old.image.now.components }
+{
+    let mut hold = Gates::free(alloc);
+    let mut ticket = Ticket {
+        scene: 1,
+        number: 2,
+        stamped: false,
+    };
+    let outcome = effect.render(alloc, values, in_args, inputs, &mut hold, &mut ticket, out);
+    let Ticket {
+        scene: _,
+        number: _,
+        stamped,
+    } = ticket;
+    outcome?;
+    Ok(stamped)
+}
+
+// The values of an instance on a project of five pixels.
+fn values_at(alloc: Global, frame: i64) -> Result<Values, Memory>
+    ensures { IfOk result (λ v. v ≡ record { frame = frame; numbers = []; connected = true ∷ []; project = record { x1 = pos 0; y1 = pos 0; x2 = pos 5; y2 = pos 1 } }) }
+{
+    Ok(Values {
+        frame,
+        numbers: Numbers::of(vec![in alloc;]?),
+        connected: Flags::of(vec![in alloc; true]?),
+        project: Rect::of(0, 0, 5, 1),
+    })
+}
+
+#[test]
+fn invert_is_described(rt: HostRuntime) -> Result<(), Fail> {
+    let alloc = rt.alloc();
+    let descriptor = described(alloc, &Invert)?;
+    let contexts = "OfxImageEffectPropSupportedContexts";
+    let depths = "OfxImageEffectPropSupportedPixelDepths";
+    let safety = "OfxImageEffectPluginRenderThreadSafety";
+    for (name, index, text) in [
+        ("OfxPropLabel", 0, "invert"),
+        (contexts, 0, "OfxImageEffectContextFilter"),
+        (contexts, 1, "OfxImageEffectContextGeneral"),
+        (depths, 0, "OfxBitDepthByte"),
+        (depths, 1, "OfxBitDepthShort"),
+        (safety, 0, "OfxImageEffectRenderFullySafe"),
+    ] {
+        assert_eq!(rt; descriptor.get_text(name, index)?, text);
+    }
+    assert_eq!(rt; descriptor.dimension(contexts)?, 2);
+    assert_eq!(rt; descriptor.dimension(depths)?, 2);
+    let temporal = descriptor.get_int("OfxImageEffectPropTemporalClipAccess", 0)?;
+    let tiles = descriptor.get_int("OfxImageEffectPropSupportsTiles", 0)?;
+    assert_eq!(rt; (temporal, tiles), (0, 1));
+    Ok(())
+}
+
+#[test]
+fn invert_has_a_source_and_no_parameters(rt: HostRuntime) -> Result<(), Fail> {
+    let alloc = rt.alloc();
+    let (clips, params) = in_context(alloc, &Invert, Context::Filter)?;
+    assert_eq!(rt; (clips.len(), params.len()), (1, 0));
+    let components = "OfxImageEffectPropSupportedComponents";
+    assert_eq!(rt; clips[0].get_text("OfxPropName", 0)?, "Source");
+    assert_eq!(rt; clips[0].get_int("OfxImageClipPropOptional", 0)?, 0);
+    assert_eq!(rt; clips[0].get_text(components, 0)?, "OfxImageComponentRGBA");
+    assert_eq!(rt; clips[0].dimension(components)?, 1);
+    Ok(())
+}
+
+#[test]
+fn invert_leaves_answers_to_the_host(rt: HostRuntime) -> Result<(), Fail> {
+    let alloc = rt.alloc();
+    let values = values_at(alloc, 7)?;
+    let window = Rect::of(0, 0, 3, 1);
+    let in_args = in_args(alloc, 7, window)?;
+    let answers = answered(alloc, &Invert, &values, &[window], &in_args)?;
+    assert_eq!(rt; answers.replies.as_slice(), [Reply::Default; 10].as_slice());
+    assert_eq!(rt; answers.identity, Identity::No);
+    Ok(())
+}
+
+#[test]
+fn invert_is_found_by_its_name(rt: HostRuntime) {
+    assert_eq!(rt; Invert::named("invert"), Some(Invert));
+    assert_eq!(rt; Invert::named("solid"), None);
+    assert_eq!(rt; (Invert.number(), Invert.safety()), (4, Safety::FullySafe));
+}
 
 const SOURCE: Pixel = Pixel::Rgba {
     r: 10,
@@ -44,9 +247,9 @@ fn pixels_are_inverted(rt: HostRuntime) -> Result<(), Fail> {
     let alloc = rt.alloc();
     let rgba = Components::Rgba;
     let zero = Pixel::zero(rgba);
-    let of_bytes = inverted_row(alloc, Depth::Byte, Depth::Byte, SOURCE)?;
-    let of_shorts = inverted_row(alloc, Depth::Short, Depth::Short, SOURCE)?;
-    let converted = inverted_row(alloc, Depth::Short, Depth::Byte, SHORT)?;
+    let of_bytes = inverted_row(&rt, alloc, Depth::Byte, Depth::Byte, SOURCE)?;
+    let of_shorts = inverted_row(&rt, alloc, Depth::Short, Depth::Short, SOURCE)?;
+    let converted = inverted_row(&rt, alloc, Depth::Short, Depth::Byte, SHORT)?;
     for (image, inverted) in [
         (&of_bytes, INVERTED),
         (&of_shorts, INVERTED),
@@ -60,16 +263,17 @@ fn pixels_are_inverted(rt: HostRuntime) -> Result<(), Fail> {
 
 // A row of five pixels, of which the source has that at 2 and that at 3. Its window is rendered in two
 // parts: the source has the whole of the first and not of the second.
-fn inverted_row(alloc: Global, from: Depth, to: Depth, source: Pixel) -> Result<Image, Memory>
+fn inverted_row(
+    rt: &impl Abort,
+    alloc: Global,
+    from: Depth,
+    to: Depth,
+    source: Pixel,
+) -> Result<Image, Memory>
     requires depth { IsOfDepth from source }
     requires components { components_of source ≡ RgbaSamples }
 {
-    let values = Values {
-        frame: 7,
-        numbers: Numbers::of(vec![in alloc;]?),
-        connected: Flags::of(vec![in alloc; true]?),
-        project: Rect::of(0, 0, 5, 1),
-    };
+    let values = values_at(alloc, 7)?;
     let rgba = Components::Rgba;
     let mut frame = Image::new(alloc, Rect::of(0, 0, 4, 1), from, rgba, 32)?;
     frame.put(2, 0, source);
@@ -79,9 +283,11 @@ fn inverted_row(alloc: Global, from: Depth, to: Depth, source: Pixel) -> Result<
     let view = frame.view(frame.rect());
     inputs.push(0, 7, Piece::Frame { view, through })?;
     let mut image = Image::new(alloc, Rect::of(0, 0, 5, 1), to, rgba, 40)?;
-    let mut part = image.part(Rect::of(1, 0, 3, 1));
-    Invert.render(alloc, &values, &inputs, &mut part)?;
-    let mut part = image.part(Rect::of(3, 0, 5, 1));
-    Invert.render(alloc, &values, &inputs, &mut part)?;
+    for (left, right) in [(1, 3), (3, 5)] {
+        let window = Rect::of(left, 0, right, 1);
+        let in_args = in_args(alloc, 7, window)?;
+        let mut part = image.part(window);
+        assert!(rt; rendered(alloc, &Invert, &values, &in_args, &inputs, &mut part)?);
+    }
     Ok(image)
 }

@@ -3,7 +3,7 @@ use Rattle.std.specs.Int.{int_gap, int_max, int_min}
 use Rattle.std.proofs.lemmas.Int.{ints, to_z-of_z}
 use Rattle.fx_image.proofs.ImageLaws.{gap_up_to}
 use Rattle.fx_effect.proofs.PieceLaws.{is_wide}
-use Rattle.fx_gen.proofs.SolidLaws.{Sides, left_low, right_high, ordered, in_project, out_of_project, out_below, out_above}
+use Rattle.fx_gen.proofs.ColumnLaws.{Sides, left_low, right_high, ordered, in_project, out_of_project, out_below, out_above}
 use Rattle.fx_gen.proofs.solid.columns_within.Goals as goal
 use Rattle.fx_gen.proofs.solid.columns_within.Goals.{then-y-project-via-then-y-project, then-y-project-via-else-y-project+then-project-y}
 

@@ -6,7 +6,7 @@ use Rattle.fx_pixel.specs.Pixel.{greatest}
 use Rattle.fx_image.specs.Stored.{pixel_in}
 use Rattle.fx_image.proofs.ImageLaws.{gap_below, place_from}
 use Rattle.fx_gen.specs.Solid.{colour}
-use Rattle.fx_gen.proofs.SolidLaws.{in_three}
+use Rattle.fx_gen.proofs.ColumnLaws.{in_three}
 use Rattle.fx_gen.proofs.solid.SolidRowsRowKernel.fill_row.Goals as goal
 
 pub returns : goal.returns

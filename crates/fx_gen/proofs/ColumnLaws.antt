@@ -1,4 +1,4 @@
--- The levels of lawful values, and the columns of a row that lie in the project.
+-- The columns of a row that lie in the project.
 use Rattle.std.proofs.Common.{◌≡◌, ◌≤◌, ◌<◌, ◌⊎◌, inl, inr, ℕ, ℤ, pos, ◌≤ℤ◌, ◌<ℤ◌, Bool, true, false, List, [], ◌∷◌, slice_index_or, if◌then◌else◌, zero, suc, refl, arith, ◌∙◌}
 use Rattle.std.specs.List.{AllZip}
 use Rattle.std.specs.Int.{int_gap, int_max, int_min}
@@ -8,40 +8,6 @@ use Rattle.fx_base.specs.Bounds.{Bounds}
 use Rattle.fx_base.specs.Rect.{within}
 use Rattle.fx_pixel.specs.declared.Pixel.{Pixel}
 use Rattle.fx_image.proofs.ImageLaws.{gap_is, place_from, place_to}
-use Rattle.fx_effect.specs.Meaning.{InRange}
-use Rattle.fx_gen.specs.Solid.{level, HasLevels}
-
-high_four : (n : ℕ) → suc (suc (suc (suc n))) < 4 → ⊥
-high_four n h = omega arith
-
-above_from : (r g b a : ℤ) → pos 0 ≤ℤ r → pos 0 ≤ℤ g → pos 0 ≤ℤ b → pos 0 ≤ℤ a → (k : ℕ) → k < 4 → pos 0 ≤ℤ slice_index_or (r ∷ g ∷ b ∷ a ∷ []) k (pos 0)
-above_from r g b a p q s t zero low = p
-above_from r g b a p q s t (suc zero) low = q
-above_from r g b a p q s t (suc (suc zero)) low = s
-above_from r g b a p q s t (suc (suc (suc zero))) low = t
-above_from r g b a p q s t (suc (suc (suc (suc n)))) low = absurd (high_four n low)
-
-below_from : (r g b a : ℤ) → r ≤ℤ pos 65536 → g ≤ℤ pos 65536 → b ≤ℤ pos 65536 → a ≤ℤ pos 65536 → (k : ℕ) → k < 4 → slice_index_or (r ∷ g ∷ b ∷ a ∷ []) k (pos 0) ≤ℤ pos 65536
-below_from r g b a p q s t zero low = p
-below_from r g b a p q s t (suc zero) low = q
-below_from r g b a p q s t (suc (suc zero)) low = s
-below_from r g b a p q s t (suc (suc (suc zero))) low = t
-below_from r g b a p q s t (suc (suc (suc (suc n)))) low = absurd (high_four n low)
-
-pub levels_from : (numbers : List ℤ) → AllZip InRange (level ∷ level ∷ level ∷ level ∷ []) numbers → HasLevels numbers
-levels_from [] h = elim h [ ]
-levels_from (r ∷ []) h = elim h.1 [ ]
-levels_from (r ∷ (g ∷ [])) h = elim h.1.1 [ ]
-levels_from (r ∷ (g ∷ (b ∷ []))) h = elim h.1.1.1 [ ]
-levels_from (r ∷ (g ∷ (b ∷ (a ∷ [])))) h =
-    record {
-      four = refl;
-      above = above_from r g b a h.0.0 h.1.0.0 h.1.1.0.0 h.1.1.1.0.0;
-      below = below_from r g b a h.0.1 h.1.0.1 h.1.1.0.1 h.1.1.1.0.1;
-    }
-levels_from (r ∷ (g ∷ (b ∷ (a ∷ (x ∷ xs))))) h = elim h.1.1.1.1 [ ]
-
--- ---- columns
 
 up_to_back : (a b c : ℤ) → a ≤ℤ b → a ≤ℤ c → int_gap a b ≤ int_gap a c → b ≤ℤ c
 up_to_back a b c h k low = omega (arith, ints, gap_is a b h, gap_is a c k)
