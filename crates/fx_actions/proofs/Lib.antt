@@ -1,0 +1,4 @@
+pub mod AnswerLemmas
+pub mod HullLemmas
+pub mod ReadLemmas
+pub mod WindowLemmas

@@ -1,1 +1,4 @@
 pub mod Args
+pub mod Read
+pub mod Clips
+pub mod Toys

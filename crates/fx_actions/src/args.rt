@@ -4,12 +4,13 @@ ghost use Rattle.fx_props.specs.declared.value.PropKind.TheVariants as kind;
 ghost use Rattle.fx_props.specs.Value.{kind_of};
 ghost use Rattle.fx_props.specs.Property.{property_made, IsLawfulDef};
 ghost use Rattle.fx_effect.specs.Shape.{Shape};
-ghost use Rattle.fx_effect.specs.Sets.{AwaitEntries, blank, whole};
+ghost use Rattle.fx_effect.specs.Sets.{AwaitEntries, IsBlank, blank, whole, region_values};
 ghost use Rattle.fx_effect.specs.Described.{description};
-ghost use Rattle.fx_effect.specs.Asked.{IsFrame, HasTime, HasWindow, AsksSequence};
+ghost use Rattle.fx_effect.specs.Asked.{IsFrame, IsWindow, HasTime, HasRegion, HasWindow, AsksSequence, region_name};
 ghost use Rattle.fx_actions.specs.Args.{HasRange, HasStep};
 
 use fx_base::{Fix, Memory, Name, Names, Rect};
+use fx_effect::blank;
 use fx_props::{PropDef, PropKind, PropList, PropSet, PropValue};
 use std::alloc::Global;
 
@@ -80,6 +81,44 @@ pub fn descriptor(alloc: Global) -> Result<PropSet, Memory>
     PropSet::new(alloc, defs)
 }
 
+/// The arguments of an action that is told the frame alone.
+pub(crate) fn time_args(alloc: Global, frame: i64) -> Result<PropSet, Memory>
+    requires { IsFrame frame }
+    ensures { IfOk result (λ set. HasTime set frame) }
+{
+    let defs = vec![in alloc; time(alloc, frame)?]?;
+    PropSet::new(alloc, defs)
+}
+
+/// The arguments of get_regions_of_interest: the frame as the time, and the region that is asked for.
+pub(crate) fn interest_args(alloc: Global, frame: i64, region: Rect) -> Result<PropSet, Memory>
+    requires frame { IsFrame frame }
+    requires region { IsWindow region }
+    ensures time { IfOk result (λ set. HasTime set frame) }
+    ensures region { IfOk result (λ set. HasRegion set region) }
+{
+    let values = whole_bounds(alloc, region)?;
+    let defs = vec![in alloc;
+        time(alloc, frame)?,
+        given(
+            alloc,
+            "OfxImageEffectPropRegionOfInterest",
+            PropKind::Fix,
+            values
+        )?,
+    ]?;
+    PropSet::new(alloc, defs)
+}
+
+/// The set that get_region_of_definition writes to.
+pub(crate) fn region_answer(alloc: Global) -> Result<PropSet, Memory>
+    ensures { IfOk result (λ set. IsBlank set kind.Fix region_name) }
+{
+    let region = blank(alloc, "OfxImageEffectPropRegionOfDefinition", PropKind::Fix)?;
+    let defs = vec![in alloc; region]?;
+    PropSet::new(alloc, defs)
+}
+
 // The time of a frame.
 fn time(alloc: Global, frame: i64) -> Result<PropDef, Memory>
     requires { IsFrame frame }
@@ -115,19 +154,18 @@ fn given(
     })
 }
 
-// A property that waits to be written.
-fn blank(alloc: Global, name: &str, kind: PropKind) -> Result<PropDef, Memory>
-    ensures lawful { IfOk result (λ def. IsLawfulDef def) }
-    ensures name { IfOk result (λ def. def.name ≡ name.now) }
-    ensures made { IfOk result (λ def. property_made def ≡ blank kind) }
+// A region as fixed-point numbers.
+fn whole_bounds(alloc: Global, region: Rect) -> Result<Vec<PropValue>, Memory>
+    requires { IsWindow region }
+    ensures { IfOk result (λ values. values.items ≡ region_values region) }
 {
-    Ok(PropDef {
-        name: Name::of(String::from_str(alloc, name)?),
-        kind,
-        most: u32::MAX,
-        allowed: Names::of(Vec::new(alloc)),
-        start: PropList::of(Vec::new(alloc)),
-    })
+    let values = vec![in alloc;
+        whole(region.x1),
+        whole(region.y1),
+        whole(region.x2),
+        whole(region.y2),
+    ]?;
+    Ok(values)
 }
 
 fn whole(n: i64) -> PropValue

@@ -3,5 +3,14 @@
 #![tactic(auto)]
 
 mod args;
+mod frames;
+mod interest;
+mod is_identity;
+mod read;
+mod region;
 
 pub use args::{descriptor, sequence_args, window_args};
+pub use frames::frames_needed;
+pub use interest::regions_of_interest;
+pub use is_identity::identity;
+pub use region::region_of_definition;

@@ -1,0 +1,70 @@
+//! Which frames of each input clip are needed.
+ghost use Rattle.std.specs.Prelude.{◌≡◌, ℕ, ℤ, List, ◌++◌, IfOk, map};
+ghost use Rattle.fx_effect.specs.Default.{default_spans};
+ghost use Rattle.fx_effect.specs.Sets.{HasValues};
+ghost use Rattle.fx_effect.specs.Asked.{IsFrame, frames_prefix};
+ghost use Rattle.fx_actions.specs.Clips.{NamesClips, each_clip};
+ghost use Rattle.fx_actions.specs.Read.{AreFrames, ShowsAllFrames, ShowsFrames, frames_entry};
+
+use crate::args::time_args;
+use crate::read::frames_at;
+use fx_base::{Memory, Names};
+use fx_effect::{ImageEffect, Reply, Values, clip_set_of_blanks, composed};
+use fx_props::{PropKind, PropSet};
+use std::alloc::Global;
+
+/// The frames of each input clip that the effect needs, as pairs of a first and a last one. The names are
+/// those of the clips. An effect that leaves it to the host needs the current frame of each clip
+/// (kOfxImageEffectActionGetFramesNeeded).
+pub fn frames_needed<E: ImageEffect>(
+    alloc: Global,
+    effect: &E,
+    names: &Names,
+    values: &Values,
+) -> Result<Vec<Vec<(i64, i64)>>, Memory>
+    requires names { NamesClips (E.meaning effect.now).shape values.now names.now }
+    requires frame { IsFrame values.now.frame }
+    ensures { IfOk result (λ frames. map (λ spans. spans.items) frames.items ≡ each_clip names.now ((E.meaning effect.now).spans values.now)) }
+{
+    let in_args = time_args(alloc, values.frame)?;
+    let prefix = "OfxImageClipPropFrameRange_";
+    let mut out_args = clip_set_of_blanks(alloc, prefix, PropKind::Fix, names)?;
+    match effect.get_frames_needed(alloc, values, &in_args, &mut out_args)? {
+        Reply::Ok => frames_in(alloc, &out_args, names),
+        Reply::Default => current_frames(alloc, values, names),
+    }
+}
+
+fn frames_in(alloc: Global, set: &PropSet, names: &Names) -> Result<Vec<Vec<(i64, i64)>>, Memory>
+    requires { ShowsAllFrames set.now names.now }
+    ensures { (spans : ℕ → List (ℤ × ℤ)) → AreFrames set.now names.now spans → IfOk result (λ found. map (λ s. s.items) found.items ≡ each_clip names.now spans) }
+{
+    let mut frames = Vec::new(alloc);
+    for name in names.items() {
+        frames.push(frames_of(alloc, set, name.text())?)?;
+    }
+    Ok(frames)
+}
+
+// The frames of one clip.
+fn frames_of(alloc: Global, set: &PropSet, clip: &str) -> Result<Vec<(i64, i64)>, Memory>
+    requires { ShowsFrames set.now (frames_prefix ++ clip.now) }
+    ensures { (spans : List (ℤ × ℤ)) → HasValues set.now (frames_entry (frames_prefix ++ clip.now) spans) → IfOk result (λ found. found.items ≡ spans) }
+{
+    let property = composed(alloc, "OfxImageClipPropFrameRange_", clip)?;
+    frames_at(alloc, set, property.text())
+}
+
+fn current_frames(
+    alloc: Global,
+    values: &Values,
+    names: &Names,
+) -> Result<Vec<Vec<(i64, i64)>>, Memory>
+    ensures { IfOk result (λ frames. map (λ s. s.items) frames.items ≡ each_clip names.now (default_spans values.now)) }
+{
+    let mut frames = Vec::new(alloc);
+    for _ in 0..names.items().len() {
+        frames.push(vec![in alloc; (values.frame, values.frame)]?)?;
+    }
+    Ok(frames)
+}
