@@ -1,16 +1,15 @@
 -- The effects of a graph may render its nodes.
-use Rattle.std.proofs.Common.{◌≡◌, ◌≤◌, ◌≤ℤ◌, ℕ, ℤ, pos, true, false, List, [], ◌∷◌, refl, ap, subst, sym, arith}
-use Rattle.std.specs.List.{AllZip, Contains}
+use Rattle.std.proofs.Common.{◌≡◌, ◌≤◌, ℕ, ℤ, pos, true, List, [], ◌∷◌, refl, arith}
+use Rattle.std.specs.List.{AllZip}
 use Rattle.std.proofs.lemmas.Int.{ints}
 use Rattle.fx_base.specs.Bounds.{Bounds}
 use Rattle.fx_pixel.specs.declared.Depth.{Depth}
 use Rattle.fx_pixel.specs.declared.Depth.TheVariants.{Byte}
 use Rattle.fx_pixel.specs.declared.Components.{Components}
 use Rattle.fx_pixel.specs.declared.Components.TheVariants.{Rgba}
-use Rattle.fx_effect.specs.declared.values.Values.{Values}
 use Rattle.fx_effect.specs.declared.action.Context.TheVariants as context
 use Rattle.fx_effect.specs.Given.{Given}
-use Rattle.fx_effect.specs.Shape.{InRange, IsProject, IsLawfulIn}
+use Rattle.fx_effect.specs.Shape.{InRange, IsProject}
 use Rattle.fx_effect.specs.Asked.{MayRender}
 use Rattle.fx_gen.specs.Solid.{level, levels, solid_shape}
 use Rattle.fx_point.specs.Invert.{invert_shape}

@@ -1,5 +1,5 @@
 -- The live instances of a plug-in and their sequences.
-use Rattle.std.proofs.Common.{◌≡◌, ◌≢◌, ◌<◌, ◌+◌, ◌++◌, ℕ, ◌==◌, not, Bool, true, false, Some, List, [], ◌∷◌, slice_index_or, map, length, refl, sym, ap, subst, ◌∙◌, arith, rules, All, AllPairs}
+use Rattle.std.proofs.Common.{◌≡◌, ◌≢◌, ◌<◌, ◌++◌, ℕ, ◌==◌, not, Bool, true, false, Some, List, [], ◌∷◌, slice_index_or, map, length, refl, sym, ap, subst, ◌∙◌, arith, All, AllPairs}
 use Rattle.std.specs.List.{Contains}
 use Rattle.std.proofs.lemmas.List.{append-nil, map-append, length-append, length-map, get_or-map, get_or_append_left, get_or_push}
 use Rattle.std.proofs.lemmas.List.Elements.{filter-append, Contains-append_right, Contains-push, Contains-get_or, All-contains, All-push, All-pop}

@@ -12,4 +12,3 @@ pub record AreSequences (number : ℕ) (live : List ℕ) (sequences : List Rende
 abbrev pub instances : {E : Type 0} → Option (Plugin E) → ℕ
 instances None = 0
 instances (Some p) = length p.live
-

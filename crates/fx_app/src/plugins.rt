@@ -24,8 +24,18 @@ impl Plugins {
     pub(crate) fn start(alloc: Global, graph: &Graph) -> Result<Plugins, Memory>
         ensures { IfOk result (λ plugins. AreReady graph.now plugins) }
     {
-        let solid = running(alloc, Solid, Context::Generator, span(graph, 0, solids(graph)))?;
-        match running(alloc, Invert, Context::Filter, span(graph, 1, graph.inverts())) {
+        let solid = running(
+            alloc,
+            Solid,
+            Context::Generator,
+            span(graph, 0, solids(graph)),
+        )?;
+        match running(
+            alloc,
+            Invert,
+            Context::Filter,
+            span(graph, 1, graph.inverts()),
+        ) {
             Ok(invert) => Ok(Plugins { solid, invert }),
             Err(memory) => {
                 finish(solid);

@@ -1,7 +1,4 @@
-use Rattle.std.proofs.Common.{◌≡◌, ◌≤◌, pos, [], ◌∷◌, rules, subst, sym}
-use Rattle.std.specs.List.{AllZip}
-use Rattle.fx_effect.specs.Shape.{InRange}
-use Rattle.fx_gen.specs.Solid.{levels}
+use Rattle.std.proofs.Common.{◌≡◌, ◌≤◌, pos, [], ◌∷◌, rules}
 use Rattle.fx_app.proofs.EffectLemmas.{levels_in_range}
 use Rattle.fx_app.proofs.picture.numbers_of.Goals as goal
 

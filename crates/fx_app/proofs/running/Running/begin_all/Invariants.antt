@@ -1,4 +1,4 @@
-use Rattle.std.proofs.Common.{◌≡◌, ◌<◌, ◌≤◌, ◌+◌, length, ℕ, All}
+use Rattle.std.proofs.Common.{◌≡◌, ◌<◌, ◌≤◌, ◌+◌, length, All}
 use Rattle.std.specs.List.{Contains}
 use Rattle.fx_app.proofs.running.Running.begin_all.Given as goal
 

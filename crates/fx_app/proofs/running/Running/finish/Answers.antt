@@ -1,7 +1,5 @@
-use Rattle.std.proofs.Common.{◌≡◌, ◌++◌, [], ◌∷◌, rules, ◌∙◌, subst, sym}
-use Rattle.std.specs.List.{Contains}
+use Rattle.std.proofs.Common.{◌≡◌, ◌++◌, [], ◌∷◌, rules, ◌∙◌}
 use Rattle.fx_life.specs.Plugin.{without}
-use Rattle.fx_app.specs.Running.{AreSequences}
 use Rattle.fx_app.proofs.RunningLemmas.{last_sequence}
 use Rattle.fx_app.proofs.running.Running.finish.Goals as goal
 
