@@ -117,7 +117,7 @@ fn whole(n: i64) -> PropValue
 }
 
 fn region_list(alloc: Global, region: Rect) -> Result<Vec<PropValue>, Memory>
-    requires { IsUpTo 1024 region }
+    requires { IsUpTo 2147483648 region }
     ensures values { IfOk result (λ values. values.items ≡ region_values region) }
     ensures of_kind { IfOk result (λ values. All (λ v. kind_of v ≡ kind.Fix) values.items) }
 {
@@ -139,7 +139,7 @@ fn time_entry(alloc: Global) -> Result<PropEntry, Memory>
 }
 
 fn region_entry(alloc: Global, region: Rect) -> Result<PropEntry, Memory>
-    requires { IsUpTo 1024 region }
+    requires { IsUpTo 2147483648 region }
     ensures { IfOk result (λ e. e ≡ record { name = codes "OfxImageEffectPropRegionOfInterest"; kind = kind.Fix; values = region_values region }) }
 {
     let values = region_list(alloc, region)?;
@@ -175,7 +175,7 @@ fn step_entry(alloc: Global) -> Result<PropEntry, Memory>
 
 // A time, and a region and a window that are one rectangle, and a sequence.
 fn in_args(alloc: Global, window: Rect) -> Result<PropSet, Memory>
-    requires { IsUpTo 1024 window }
+    requires { IsUpTo 2147483648 window }
     ensures time { IfOk result (λ set. HasTime set (pos 7)) }
     ensures region { IfOk result (λ set. HasRegion set window) }
     ensures window { IfOk result (λ set. HasWindow set window) }
