@@ -1,2 +1,3 @@
 pub mod PaintLaws
 pub mod ColumnLaws
+pub mod AskedLaws

@@ -1,1 +1,2 @@
 pub mod InvertLaws
+pub mod AskedLaws

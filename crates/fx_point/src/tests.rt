@@ -1,17 +1,18 @@
-ghost use Rattle.std.specs.Prelude.{◌≡◌, ◌≢◌, [], ◌∷◌, true, pos, negsuc, ◌≤ℤ◌, IfOk, All, codes};
+ghost use Rattle.std.specs.Prelude.{◌≡◌, ◌≢◌, [], ◌∷◌, true, pos, IfOk, All, codes};
 ghost use Rattle.std.specs.List.{Contains};
 ghost use Rattle.fx_base.specs.Bounds.{none};
-ghost use Rattle.fx_base.specs.Rect.{IsNear};
 ghost use Rattle.fx_pixel.specs.Pixel.{IsOfDepth, components_of};
 ghost use Rattle.fx_pixel.specs.declared.Components.TheVariants.{Rgba as RgbaSamples};
-ghost use Rattle.fx_image.specs.Part.{IsPart};
+ghost use Rattle.fx_image.specs.Part.{IsPart, SamePart};
 ghost use Rattle.fx_props.specs.declared.value.PropKind.TheVariants as kind;
 ghost use Rattle.fx_props.specs.Value.{kind_of};
 ghost use Rattle.fx_effect.specs.declared.action.Context.{Context as Contexts};
 ghost use Rattle.fx_effect.specs.Shape.{Shape, clip_names};
-ghost use Rattle.fx_effect.specs.Sets.{AreBlank, AwaitEntries, IsBlank, whole};
+ghost use Rattle.fx_effect.specs.Sets.{AreBlank, AwaitEntries, IsBlank, whole, region_values, window_values};
 ghost use Rattle.fx_effect.specs.Described.{description};
-ghost use Rattle.fx_effect.specs.Asked.{IsFrame, IsAsked, HasTime, HasRegion, HasWindow, AreRegions, AsksRegion, AsksWindow, AsksSequence, MayRender, depth_prefix, components_prefix, interest_prefix, frames_prefix, region_name};
+ghost use Rattle.fx_effect.specs.Entries.{IsModerate};
+ghost use Rattle.fx_effect.specs.Laws.{IsUpTo};
+ghost use Rattle.fx_effect.specs.Asked.{IsAsked, HasTime, HasRegion, HasWindow, AreRegions, AsksRegion, AsksWindow, AsksSequence, MayRender, depth_prefix, components_prefix, interest_prefix, frames_prefix, region_name};
 
 use crate::Invert;
 use fx_base::{Fix, Memory, Name, Rect};
@@ -108,38 +109,84 @@ fn blanks(alloc: Global) -> Result<PropSet, Memory>
 }
 
 fn whole(n: i64) -> PropValue
-    requires { (negsuc 1073741823 ≤ℤ n) × (n ≤ℤ pos 1073741824) }
-    ensures { result ≡ whole n }
+    requires { IsModerate n }
+    ensures value { result ≡ whole n }
+    ensures of_kind { kind_of result ≡ kind.Fix }
 {
-    PropValue::Fix(Fix::of_whole(n))
+    PropValue::Fix(Fix { raw: n * 65536 })
 }
 
-// A time, and a region and a window that are one rectangle, and a sequence of frames 0 to 9.
-fn in_args(alloc: Global, frame: i64, window: Rect) -> Result<PropSet, Memory>
-    requires frame { IsFrame frame }
-    requires window { IsNear window }
-    ensures time { IfOk result (λ set. HasTime set frame) }
+fn region_list(alloc: Global, region: Rect) -> Result<Vec<PropValue>, Memory>
+    requires { IsUpTo 2147483648 region }
+    ensures values { IfOk result (λ values. values.items ≡ region_values region) }
+    ensures of_kind { IfOk result (λ values. All (λ v. kind_of v ≡ kind.Fix) values.items) }
+{
+    let values = vec![in alloc;
+        whole(region.x1),
+        whole(region.y1),
+        whole(region.x2),
+        whole(region.y2),
+    ]?;
+    Ok(values)
+}
+
+// Frame 7.
+fn time_entry(alloc: Global) -> Result<PropEntry, Memory>
+    ensures { IfOk result (λ e. e ≡ record { name = codes "OfxPropTime"; kind = kind.Fix; values = whole (pos 7) ∷ [] }) }
+{
+    let values = vec![in alloc; whole(7)]?;
+    entry(alloc, "OfxPropTime", PropKind::Fix, values)
+}
+
+fn region_entry(alloc: Global, region: Rect) -> Result<PropEntry, Memory>
+    requires { IsUpTo 2147483648 region }
+    ensures { IfOk result (λ e. e ≡ record { name = codes "OfxImageEffectPropRegionOfInterest"; kind = kind.Fix; values = region_values region }) }
+{
+    let values = region_list(alloc, region)?;
+    entry(alloc, "OfxImageEffectPropRegionOfInterest", PropKind::Fix, values)
+}
+
+fn window_entry(alloc: Global, window: Rect) -> Result<PropEntry, Memory>
+    ensures { IfOk result (λ e. e ≡ record { name = codes "OfxImageEffectPropRenderWindow"; kind = kind.Int; values = window_values window }) }
+{
+    let values = vec![in alloc;
+        PropValue::Int(window.x1),
+        PropValue::Int(window.y1),
+        PropValue::Int(window.x2),
+        PropValue::Int(window.y2),
+    ]?;
+    entry(alloc, "OfxImageEffectPropRenderWindow", PropKind::Int, values)
+}
+
+// Frames 0 to 9.
+fn range_entry(alloc: Global) -> Result<PropEntry, Memory>
+    ensures { IfOk result (λ e. e ≡ record { name = codes "OfxImageEffectPropFrameRange"; kind = kind.Fix; values = whole (pos 0) ∷ whole (pos 9) ∷ [] }) }
+{
+    let values = vec![in alloc; whole(0), whole(9)]?;
+    entry(alloc, "OfxImageEffectPropFrameRange", PropKind::Fix, values)
+}
+
+fn step_entry(alloc: Global) -> Result<PropEntry, Memory>
+    ensures { IfOk result (λ e. e ≡ record { name = codes "OfxImageEffectPropFrameStep"; kind = kind.Fix; values = whole (pos 1) ∷ [] }) }
+{
+    let values = vec![in alloc; whole(1)]?;
+    entry(alloc, "OfxImageEffectPropFrameStep", PropKind::Fix, values)
+}
+
+// A time, and a region and a window that are one rectangle, and a sequence.
+fn in_args(alloc: Global, window: Rect) -> Result<PropSet, Memory>
+    requires { IsUpTo 2147483648 window }
+    ensures time { IfOk result (λ set. HasTime set (pos 7)) }
     ensures region { IfOk result (λ set. HasRegion set window) }
     ensures window { IfOk result (λ set. HasWindow set window) }
     ensures sequence { IfOk result (λ set. AsksSequence set) }
 {
-    let Rect { x1, y1, x2, y2 } = window;
-    let time = vec![in alloc; whole(frame)]?;
-    let region = vec![in alloc; whole(x1), whole(y1), whole(x2), whole(y2)]?;
-    let window = vec![in alloc;
-        PropValue::Int(x1),
-        PropValue::Int(y1),
-        PropValue::Int(x2),
-        PropValue::Int(y2),
-    ]?;
-    let range = vec![in alloc; whole(0), whole(9)]?;
-    let step = vec![in alloc; whole(1)]?;
     let entries = vec![in alloc;
-        entry(alloc, "OfxPropTime", PropKind::Fix, time)?,
-        entry(alloc, "OfxImageEffectPropRegionOfInterest", PropKind::Fix, region)?,
-        entry(alloc, "OfxImageEffectPropRenderWindow", PropKind::Int, window)?,
-        entry(alloc, "OfxImageEffectPropFrameRange", PropKind::Fix, range)?,
-        entry(alloc, "OfxImageEffectPropFrameStep", PropKind::Fix, step)?,
+        time_entry(alloc)?,
+        region_entry(alloc, window)?,
+        window_entry(alloc, window)?,
+        range_entry(alloc)?,
+        step_entry(alloc)?,
     ]?;
     set_of(alloc, entries)
 }
@@ -188,6 +235,7 @@ fn rendered<E: ImageEffect>(
     requires some_window { out.old.rect ≢ none }
     requires window { HasWindow in_args.now out.old.rect }
     requires may { MayRender (E.meaning effect.now).shape values.now inputs.now out.old.image.now.depth out.old.image.now.components }
+    ensures { SamePart out.old out.new }
 {
     let mut hold = Gates::free(alloc);
     let mut ticket = Ticket {
@@ -206,11 +254,11 @@ fn rendered<E: ImageEffect>(
 }
 
 // The values of an instance on a project of five pixels.
-fn values_at(alloc: Global, frame: i64) -> Result<Values, Memory>
-    ensures { IfOk result (λ v. v ≡ record { frame = frame; numbers = []; connected = true ∷ []; project = record { x1 = pos 0; y1 = pos 0; x2 = pos 5; y2 = pos 1 } }) }
+fn values_here(alloc: Global) -> Result<Values, Memory>
+    ensures { IfOk result (λ v. v ≡ record { frame = pos 7; numbers = []; connected = true ∷ []; project = record { x1 = pos 0; y1 = pos 0; x2 = pos 5; y2 = pos 1 } }) }
 {
     Ok(Values {
-        frame,
+        frame: 7,
         numbers: Numbers::of(vec![in alloc;]?),
         connected: Flags::of(vec![in alloc; true]?),
         project: Rect::of(0, 0, 5, 1),
@@ -258,9 +306,9 @@ fn invert_has_a_source_and_no_parameters(rt: HostRuntime) -> Result<(), Fail> {
 #[test]
 fn invert_leaves_answers_to_the_host(rt: HostRuntime) -> Result<(), Fail> {
     let alloc = rt.alloc();
-    let values = values_at(alloc, 7)?;
+    let values = values_here(alloc)?;
     let window = Rect::of(0, 0, 3, 1);
-    let in_args = in_args(alloc, 7, window)?;
+    let in_args = in_args(alloc, window)?;
     let answers = answered(alloc, &Invert, &values, &[window], &in_args)?;
     assert_eq!(rt; answers.replies.as_slice(), [Reply::Default; 10].as_slice());
     assert_eq!(rt; answers.identity, Identity::No);
@@ -334,7 +382,7 @@ fn inverted_row(
     requires depth { IsOfDepth from source }
     requires components { components_of source ≡ RgbaSamples }
 {
-    let values = values_at(alloc, 7)?;
+    let values = values_here(alloc)?;
     let rgba = Components::Rgba;
     let mut frame = Image::new(alloc, Rect::of(0, 0, 4, 1), from, rgba, 32)?;
     frame.put(2, 0, source);
@@ -344,11 +392,13 @@ fn inverted_row(
     let view = frame.view(frame.rect());
     inputs.push(0, 7, Piece::Frame { view, through })?;
     let mut image = Image::new(alloc, Rect::of(0, 0, 5, 1), to, rgba, 40)?;
-    for (left, right) in [(1, 3), (3, 5)] {
-        let window = Rect::of(left, 0, right, 1);
-        let in_args = in_args(alloc, 7, window)?;
-        let mut part = image.part(window);
-        assert!(rt; rendered(alloc, &Invert, &values, &in_args, &inputs, &mut part)?);
-    }
+    let window = Rect::of(1, 0, 3, 1);
+    let in_args_here = in_args(alloc, window)?;
+    let mut part = image.part(window);
+    assert!(rt; rendered(alloc, &Invert, &values, &in_args_here, &inputs, &mut part)?);
+    let window = Rect::of(3, 0, 5, 1);
+    let in_args_there = in_args(alloc, window)?;
+    let mut part = image.part(window);
+    assert!(rt; rendered(alloc, &Invert, &values, &in_args_there, &inputs, &mut part)?);
     Ok(image)
 }
