@@ -8,7 +8,8 @@ use crate::region::region_of;
 use fx_base::{Memory, Rect};
 use fx_core::Ticket;
 use fx_effect::{
-    Context, Identity, ImageEffect, Inputs, Reply, Values, write_frames, write_interest, write_region,
+    Context, Identity, ImageEffect, Inputs, Reply, Values, write_frames, write_interest,
+    write_region,
 };
 use fx_gate::Hold;
 use fx_image::Part;
