@@ -1,4 +1,5 @@
 pub mod AnswerLemmas
 pub mod HullLemmas
 pub mod ReadLemmas
+pub mod ToyLemmas
 pub mod WindowLemmas

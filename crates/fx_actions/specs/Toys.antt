@@ -108,7 +108,7 @@ wide =
 
 -- ---- rectangles
 
-IsRect-hull : (r s : Bounds) → IsRect r → IsRect s → IsRect (hull r s)
+pub IsRect-hull : (r s : Bounds) → IsRect r → IsRect s → IsRect (hull r s)
 IsRect-hull r s first second =
     ⊎_elim
     (λ empty. subst IsRect (sym (hull-first_empty r s empty)) second)
@@ -157,7 +157,7 @@ none_up_to n = record {
   top = (omega (arith, ints), omega (arith, ints));
 }
 
-IsUpTo-grown : (n m k : ℕ) (r : Bounds) → n + k ≤ m → IsUpTo n r → IsUpTo m (grown r (pos k) (pos k))
+pub IsUpTo-grown : (n m k : ℕ) (r : Bounds) → n + k ≤ m → IsUpTo n r → IsUpTo m (grown r (pos k) (pos k))
 IsUpTo-grown n m k r room up_to =
     ⊎_elim
     (λ empty. subst (IsUpTo m) (sym (grown-empty r (pos k) (pos k) empty)) (none_up_to m))

@@ -8,6 +8,10 @@ mod interest;
 mod is_identity;
 mod read;
 mod region;
+#[cfg(test)]
+mod tests;
+#[cfg(test)]
+mod toys;
 
 pub use args::{descriptor, sequence_args, window_args};
 pub use frames::frames_needed;

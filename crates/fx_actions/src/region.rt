@@ -53,7 +53,8 @@ fn default_region(context: Context, optional: &Flags, values: &Values, regions: 
     }
 }
 
-fn region_of(regions: &[Rect], clip: usize) -> Rect
+/// The region of a clip.
+pub(crate) fn region_of(regions: &[Rect], clip: usize) -> Rect
     ensures { result ≡ region_of regions.now clip }
 {
     regions.get(clip).copied().unwrap_or(Rect::of(0, 0, 0, 0))
