@@ -1,5 +1,5 @@
 -- Rows and places of rectangles, and the first piece that has a place.
-use Rattle.std.proofs.Common.{◌≡◌, ◌≤◌, ◌<◌, ℕ, ◌+◌, ◌-◌, ◌*◌, ◌⊎◌, inl, inr, ℤ, ◌≤ℤ◌, ◌<ℤ◌, Bool, true, false, ◌&&◌, nat_eq, List, [], ◌∷◌, map, length, take, drop, refl, sym, ap, subst, arith, ◌∙◌, w64, to_z, of_z, FitsSigned, get_or, Option, Some, None}
+use Rattle.std.proofs.Common.{◌≡◌, ◌≤◌, ◌<◌, ℕ, ◌+◌, ◌-◌, ◌*◌, inl, inr, ℤ, ◌≤ℤ◌, ◌<ℤ◌, Bool, true, false, ◌&&◌, List, [], ◌∷◌, map, length, take, drop, refl, sym, ap, arith, ◌∙◌, w64, to_z, of_z, FitsSigned, get_or, Option, Some, None}
 use Rattle.std.specs.Prelude.{IfSome}
 use Rattle.std.specs.Int.{int_gap}
 use Rattle.std.specs.Int.Signed.{le_z, lt_z}
@@ -18,7 +18,7 @@ use Rattle.fx_pixel.specs.Pixel.{zero, components_of, convert}
 use Rattle.fx_image.specs.Stored.{Stored, pixel_size, pixel_in, shown}
 use Rattle.fx_image.proofs.PixelLaws.{pixel_of_run}
 use Rattle.fx_image.proofs.RowsLaws.{rows_apart}
-use Rattle.fx_image.proofs.ImageLaws.{gap_below, gap_up_to, gap_split, gap_is, place_from, place_to}
+use Rattle.fx_image.proofs.ImageLaws.{gap_below, gap_up_to, gap_split, place_from, place_to}
 use Rattle.fx_effect.specs.Tap.{Tap, tap}
 use Rattle.fx_effect.specs.Given.{is_for, holds_tap, image_pixel, piece_pixel, first_pixel}
 use Rattle.fx_effect.specs.Rows.{ShowsRow}

@@ -1,5 +1,5 @@
 -- How an action is asked: which values and properties it is given (OpenFX 1.4, "Image Effect Actions").
-use Rattle.std.specs.Prelude.{◌≡◌, ◌≤◌, ℕ, ℤ, pos, negsuc, ◌≤ℤ◌, Bool, true, false, List, [], ◌∷◌, All, IsTrue, codes}
+use Rattle.std.specs.Prelude.{◌≡◌, ℕ, ℤ, pos, negsuc, ◌≤ℤ◌, false, List, [], ◌∷◌, IsTrue, codes}
 use Rattle.std.specs.List.{AllZip}
 use Rattle.fx_base.specs.Bounds.{Bounds, IsRect, none}
 use Rattle.fx_base.specs.Rect.{IsNear}
@@ -16,7 +16,7 @@ use Rattle.fx_effect.specs.Given.{Given}
 use Rattle.fx_effect.specs.Shape.{Shape, clip_names, optional_flags, shown_components, supports, IsLawfulIn, IsLawful}
 use Rattle.fx_effect.specs.Meaning.{Meaning}
 use Rattle.fx_effect.specs.Default.{default_rod, default_spans}
-use Rattle.fx_effect.specs.Sets.{Entry, whole, region_values, window_values, range_values, clip_entries, IsBlank, AreBlank, HasValues, Wrote}
+use Rattle.fx_effect.specs.Sets.{Entry, whole, region_values, window_values, range_values, clip_entries, AreBlank, HasValues, Wrote}
 
 -- frames lie between -2^30 and 2^30
 abbrev pub IsFrame : ℤ → Type 0

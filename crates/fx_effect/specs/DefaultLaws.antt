@@ -1,7 +1,7 @@
 -- Laws of answers that many effects give: the frame and the region that were asked for, and the region of an input clip.
-use Rattle.std.specs.Prelude.{◌≡◌, ℕ, ◌+◌, ◌<◌, ℤ, pos, ◌≤ℤ◌, ◌<ℤ◌, Bool, true, false, List, [], ◌∷◌, length, All, refl}
-use Rattle.std.specs.List.{Contains, AllZip}
-use Rattle.std.proofs.Common.{zero, suc, ap, sym, ◌∙◌, ◌⊎◌, inl, inr, arith}
+use Rattle.std.specs.Prelude.{◌≡◌, ℕ, ◌+◌, ◌<◌, ℤ, Bool, false, List, [], ◌∷◌, length, All, refl}
+use Rattle.std.specs.List.{AllZip}
+use Rattle.std.proofs.Common.{zero, suc, inl, arith}
 use Rattle.std.proofs.lemmas.Int.{ints}
 use Rattle.std.proofs.lemmas.List.Elements.{All-nil, All-cons, All-head}
 use Rattle.std.proofs.lemmas.Slice.Zip.{AllZip-long}
@@ -9,11 +9,9 @@ use Rattle.fx_base.specs.Bounds.{Bounds, IsRect, none}
 use Rattle.fx_base.specs.Rect.{Holds}
 use Rattle.fx_effect.specs.Tap.{tap}
 use Rattle.fx_effect.specs.Shape.{Clip, MayBe}
-use Rattle.fx_effect.specs.Default.{region_of, default_rod, default_spans}
+use Rattle.fx_effect.specs.Default.{region_of, default_spans}
 use Rattle.fx_effect.specs.Asked.{IsWindow, AreRegions}
 use Rattle.fx_effect.specs.Laws.{IsCovered, IsNearSpan, IsUpTo}
-use Rattle.fx_effect.specs.declared.action.Context.{Context}
-use Rattle.fx_effect.specs.declared.action.Context.TheVariants as context
 use Rattle.fx_effect.specs.declared.values.Values.{Values}
 
 -- the current frame is near itself

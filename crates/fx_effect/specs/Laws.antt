@@ -1,7 +1,7 @@
 -- What every effect keeps, for all lawful values.
-use Rattle.std.specs.Prelude.{◌≡◌, ◌≢◌, ◌<◌, ◌+◌, ℕ, ℤ, pos, neg_ℤ, ◌≤ℤ◌, ◌+ℤ◌, ◌-ℤ◌, Bool, true, false, List, [], ◌∷◌, length, slice_index_or, slice_get, Some, All, IsTrue}
-use Rattle.std.specs.List.{Contains, AllZip}
-use Rattle.fx_base.specs.Bounds.{Bounds, IsRect, none}
+use Rattle.std.specs.Prelude.{◌≡◌, ◌<◌, ◌+◌, ℕ, ℤ, pos, neg_ℤ, ◌≤ℤ◌, ◌+ℤ◌, ◌-ℤ◌, true, false, List, [], ◌∷◌, length, slice_index_or, slice_get, Some, All, IsTrue}
+use Rattle.std.specs.List.{Contains}
+use Rattle.fx_base.specs.Bounds.{Bounds, IsRect}
 use Rattle.fx_base.specs.Rect.{Holds}
 use Rattle.fx_pixel.specs.declared.Depth.{Depth}
 use Rattle.fx_pixel.specs.declared.Components.{Components}
@@ -11,7 +11,7 @@ use Rattle.fx_effect.specs.Tap.{Tap, tap}
 use Rattle.fx_effect.specs.Shape.{Shape, IsShape, clip_names, is_mask, shown_as, supports, IsLawfulIn}
 use Rattle.fx_effect.specs.Meaning.{Meaning, mixed}
 use Rattle.fx_effect.specs.Default.{region_of}
-use Rattle.fx_effect.specs.Asked.{AreRegions, IsFrame, IsWindow}
+use Rattle.fx_effect.specs.Asked.{AreRegions}
 use Rattle.fx_effect.specs.declared.action.Context.{Context}
 use Rattle.fx_effect.specs.declared.action.Identity.TheVariants.{Same}
 use Rattle.fx_effect.specs.declared.values.Values.{Values}

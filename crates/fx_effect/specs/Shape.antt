@@ -1,5 +1,5 @@
 -- What an effect describes itself as: its contexts, depths and components, and in each context its input clips and its parameters (OpenFX 1.4, "Image Effect Descriptors", "Image Effect Contexts").
-use Rattle.std.specs.Prelude.{◌≡◌, ◌≢◌, ◌≤◌, ◌<◌, ℕ, ℤ, pos, ◌≤ℤ◌, ◌<ℤ◌, Bool, ◌&&◌, true, false, List, [], ◌∷◌, map, length, slice_index_or, codes, All, AllPairs, IsTrue, if◌then◌else◌}
+use Rattle.std.specs.Prelude.{◌≡◌, ◌≢◌, ◌≤◌, ◌<◌, ℕ, ℤ, pos, ◌≤ℤ◌, ◌<ℤ◌, Bool, ◌&&◌, true, false, List, [], ◌∷◌, map, length, codes, All, AllPairs, if◌then◌else◌}
 use Rattle.std.specs.List.{Contains, AllZip, list_any}
 use Rattle.std.specs.Str.{bytes_eq}
 use Rattle.fx_base.specs.Bounds.{Bounds}
