@@ -14,8 +14,8 @@ ghost use Rattle.fx_point.specs.InvertLaws.{invert_laws};
 use fx_base::{Memory, Rect};
 use fx_core::Ticket;
 use fx_effect::{
-    Catalogue, Context, Description, Identity, ImageEffect, Inputs, Reply, RowKernel, Safety, Values,
-    clip_set, fill, offset,
+    Catalogue, Context, Description, Identity, ImageEffect, Inputs, Reply, RowKernel, Safety,
+    Values, clip_set, fill, offset,
 };
 use fx_gate::Hold;
 use fx_image::Part;
@@ -105,6 +105,7 @@ impl ImageEffect for Invert {
         _in_args: &PropSet,
         _out_args: &mut PropSet,
     ) -> Result<Reply, Memory> {
+        // A pixel reads Source at its own place, which the default region of interest has.
         Ok(Reply::Default)
     }
 
