@@ -1,5 +1,4 @@
 use Rattle.std.proofs.Common.{◌≡◌, take}
-use Rattle.fx_props.specs.declared.value.PropKind.TheVariants as kind
 use Rattle.fx_effect.specs.Default.{region_of}
 use Rattle.fx_effect.specs.Asked.{interest}
 use Rattle.fx_effect.specs.Entries.{texts_of}

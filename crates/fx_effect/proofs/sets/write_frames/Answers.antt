@@ -1,4 +1,4 @@
-use Rattle.std.proofs.Common.{◌≡◌, ◌∙◌}
+use Rattle.std.proofs.Common.{◌∙◌}
 use Rattle.fx_props.specs.declared.value.PropKind.TheVariants as kind
 use Rattle.fx_effect.specs.Asked.{frames_prefix}
 use Rattle.fx_effect.specs.Entries.{texts_of, spans_of}
