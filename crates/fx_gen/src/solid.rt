@@ -25,6 +25,9 @@ use std::alloc::Global;
 #[derive(Clone, Copy, Debug, PartialEq, Eq)]
 pub struct Solid;
 
+// Its number in the catalogue.
+const NUMBER: u32 = 0;
+
 impl ImageEffect for Solid {
     ghost meaning = { λ _. solid };
 
@@ -157,7 +160,7 @@ impl Catalogue for Solid {
     }
 
     fn number(&self) -> u32 {
-        0
+        NUMBER
     }
 
     fn safety(&self) -> Safety {

@@ -25,6 +25,7 @@ use fx_params::{ParamDef, ParamKind};
 use fx_pixel::{Components, Depth, Pixel};
 use fx_props::{PropKind, PropSet, PropValue};
 use std::alloc::Global;
+use std::process::Abort;
 use std::test::Fail;
 
 // What an effect with no clip says to the actions that ask an instance.
@@ -284,16 +285,23 @@ fn solid_is_described(rt: HostRuntime) -> Result<(), Fail> {
     Ok(())
 }
 
+// Whether the parameter is a number from 0 to 1 that has this name and this start.
+fn is_level(param: &ParamDef, name: &str, start: i64) -> bool {
+    param.name.text() == name
+        && (param.kind, param.least, param.greatest) == (ParamKind::Fix, 0, 65536)
+        && param.choices.items().is_empty()
+        && param.start == start
+}
+
 #[test]
 fn solid_has_four_levels_and_no_clip(rt: HostRuntime) -> Result<(), Fail> {
     let alloc = rt.alloc();
     let (clips, params) = in_context(alloc, &Solid, Context::Generator)?;
     assert_eq!(rt; (clips.len(), params.len()), (0, 4));
-    for (param, (name, start)) in params.iter().zip([("r", 0), ("g", 0), ("b", 0), ("a", 65536)]) {
-        assert_eq!(rt; (param.name.text(), param.start), (name, start));
-        assert_eq!(rt; (param.kind, param.least, param.greatest), (ParamKind::Fix, 0, 65536));
-        assert!(rt; param.choices.items().is_empty());
-    }
+    assert!(rt; is_level(&params[0], "r", 0));
+    assert!(rt; is_level(&params[1], "g", 0));
+    assert!(rt; is_level(&params[2], "b", 0));
+    assert!(rt; is_level(&params[3], "a", 65536));
     Ok(())
 }
 
@@ -334,12 +342,26 @@ const CLEAR: Pixel = Pixel::Rgba {
     a: 0,
 };
 
-#[test]
-fn solid_fills_the_project_within_the_part(rt: HostRuntime) -> Result<(), Fail> {
-    let alloc = rt.alloc();
+// An image of which a part was rendered.
+fn filled(
+    rt: &impl Abort,
+    alloc: Global,
+    depth: Depth,
+    components: Components,
+) -> Result<Image, Memory> {
     let values = solid_values(alloc)?;
     let window = Rect::of(-1, -1, 5, 3);
     let in_args = in_args(alloc, window)?;
+    let inputs = Inputs::new(alloc, depth, vec![in alloc;]?)?;
+    let mut image = Image::new(alloc, Rect::of(-2, -1, 6, 3), depth, components, 64)?;
+    let mut part = image.part(window);
+    assert!(rt; rendered(alloc, &Solid, &values, &in_args, &inputs, &mut part)?);
+    Ok(image)
+}
+
+#[test]
+fn solid_fills_the_project_within_the_part(rt: HostRuntime) -> Result<(), Fail> {
+    let alloc = rt.alloc();
     // 255 and 65535 halves and quarters, to the nearest and halves up.
     let cases = [
         (Depth::Byte, Components::Rgba, rgba(255, 128, 0, 64), CLEAR),
@@ -363,10 +385,7 @@ fn solid_fills_the_project_within_the_part(rt: HostRuntime) -> Result<(), Fail> 
         ),
     ];
     for (depth, components, colour, zero) in cases {
-        let mut image = Image::new(alloc, Rect::of(-2, -1, 6, 3), depth, components, 64)?;
-        let inputs = Inputs::new(alloc, depth, vec![in alloc;]?)?;
-        let mut part = image.part(window);
-        assert!(rt; rendered(alloc, &Solid, &values, &in_args, &inputs, &mut part)?);
+        let image = filled(&rt, alloc, depth, components)?;
         for y in -1..3 {
             for x in -2..6 {
                 let inside = 0 <= x && x < 3 && 0 <= y && y < 2;

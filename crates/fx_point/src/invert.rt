@@ -33,6 +33,9 @@ pub struct Invert;
 // The place of the clip Source.
 const SOURCE: u32 = 0;
 
+// Its number in the catalogue.
+const NUMBER: u32 = 4;
+
 impl ImageEffect for Invert {
     ghost meaning = { λ _. invert };
 
@@ -162,7 +165,7 @@ impl Catalogue for Invert {
     }
 
     fn number(&self) -> u32 {
-        4
+        NUMBER
     }
 
     fn safety(&self) -> Safety {
