@@ -10,8 +10,8 @@ use crate::paint::paint;
 use fx_base::{Memory, Name, Names, Rect};
 use fx_core::Ticket;
 use fx_effect::{
-    Catalogue, Context, Description, Identity, ImageEffect, Inputs, Reply, RowKernel, Safety, Values,
-    fill, offset, write_region,
+    Catalogue, Context, Description, Identity, ImageEffect, Inputs, Reply, RowKernel, Safety,
+    Values, fill, offset, write_region,
 };
 use fx_gate::Hold;
 use fx_image::Part;

@@ -62,10 +62,18 @@ fn blank_descriptor(alloc: Global) -> Result<PropSet, Memory>
     let entries = vec![in alloc;
         blank(alloc, "OfxPropLabel", PropKind::Text)?,
         blank(alloc, "OfxImageEffectPropSupportedContexts", PropKind::Text)?,
-        blank(alloc, "OfxImageEffectPropSupportedPixelDepths", PropKind::Text)?,
+        blank(
+            alloc,
+            "OfxImageEffectPropSupportedPixelDepths",
+            PropKind::Text
+        )?,
         blank(alloc, "OfxImageEffectPropTemporalClipAccess", PropKind::Int)?,
         blank(alloc, "OfxImageEffectPropSupportsTiles", PropKind::Int)?,
-        blank(alloc, "OfxImageEffectPluginRenderThreadSafety", PropKind::Text)?,
+        blank(
+            alloc,
+            "OfxImageEffectPluginRenderThreadSafety",
+            PropKind::Text
+        )?,
     ]?;
     set_of(alloc, entries)
 }
@@ -132,7 +140,12 @@ fn region_entry(alloc: Global, region: Rect) -> Result<PropEntry, Memory>
     ensures { IfOk result (λ e. e ≡ record { name = codes "OfxImageEffectPropRegionOfInterest"; kind = kind.Fix; values = region_values region }) }
 {
     let values = region_list(alloc, region)?;
-    entry(alloc, "OfxImageEffectPropRegionOfInterest", PropKind::Fix, values)
+    entry(
+        alloc,
+        "OfxImageEffectPropRegionOfInterest",
+        PropKind::Fix,
+        values,
+    )
 }
 
 fn window_entry(alloc: Global, window: Rect) -> Result<PropEntry, Memory>
@@ -144,7 +157,12 @@ fn window_entry(alloc: Global, window: Rect) -> Result<PropEntry, Memory>
         PropValue::Int(window.x2),
         PropValue::Int(window.y2),
     ]?;
-    entry(alloc, "OfxImageEffectPropRenderWindow", PropKind::Int, values)
+    entry(
+        alloc,
+        "OfxImageEffectPropRenderWindow",
+        PropKind::Int,
+        values,
+    )
 }
 
 // Frames 0 to 9.
