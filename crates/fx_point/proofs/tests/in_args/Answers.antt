@@ -5,7 +5,7 @@ use Rattle.fx_props.specs.Set.{Set}
 use Rattle.fx_props.specs.declared.value.PropKind.TheVariants as kind
 use Rattle.fx_effect.specs.Sets.{Entry, HasValues, whole, region_values, window_values}
 use Rattle.fx_effect.specs.Asked.{AsksSequence}
-use Rattle.fx_effect.specs.Entries.{HaveNames}
+use Rattle.fx_effect.specs.Entries.{NamesDiffer}
 use Rattle.fx_effect.specs.ShapeLaws.{names_differ}
 use Rattle.fx_point.proofs.AskedLaws.{values_at}
 use Rattle.fx_point.proofs.tests.in_args.Goals as goal
@@ -32,7 +32,7 @@ sequence_of (Err e) has_range has_step = tt
 pub set_of-requires : goal.set_of-requires
 set_of-requires c =
     let same : c.in_ok-entries.entries.items ≡ entries c.args.window = c.in_ok-entries.ensures.items ∙ rw (c.in_ok-time_entry.ensures, c.in_ok-region_entry.ensures, c.in_ok-window_entry.ensures, c.in_ok-range_entry.ensures, c.in_ok-step_entry.ensures) refl in
-    subst HaveNames (sym same) (names_differ (λ (e : Entry). e.name) (entries c.args.window) refl)
+    subst NamesDiffer (sym same) (names_differ (λ (e : Entry). e.name) (entries c.args.window) refl)
 
 pub returns-clause-time : goal.returns-clause-time
 returns-clause-time c =
