@@ -1,18 +1,18 @@
 -- How far the rectangles of the tests' effects reach.
-use Rattle.std.proofs.Common.{◌≡◌, ℕ, ◌+◌, ◌≤◌, zero, suc, ℤ, pos, negsuc, ◌≤ℤ◌, Bool, true, false, List, [], ◌∷◌, All, inl, inr, ⊎_elim, refl, sym, subst, arith}
+use Rattle.std.proofs.Common.{◌≡◌, ℕ, ◌≤◌, zero, suc, pos, Bool, false, List, [], ◌∷◌, All, inl, ⊎_elim, refl, sym, subst, arith}
 use Rattle.std.specs.List.{AllZip}
 use Rattle.std.proofs.lemmas.Bool.{cases_Bool}
 use Rattle.std.proofs.lemmas.Int.{ints, clamps}
 use Rattle.std.proofs.lemmas.List.Elements.{All-nil, All-cons}
-use Rattle.fx_base.specs.Bounds.{Bounds, IsRect, none}
+use Rattle.fx_base.specs.Bounds.{Bounds, none}
 use Rattle.fx_base.specs.Rect.{is_empty, hull, grown, IsNear}
 use Rattle.fx_base.proofs.RectLemmas.{hull-first_empty, hull-second_empty, hull-proper}
 use Rattle.fx_effect.specs.declared.values.Values.{Values}
 use Rattle.fx_effect.specs.Default.{region_of}
-use Rattle.fx_effect.specs.Asked.{IsWindow, AreRegions, IsFrame}
+use Rattle.fx_effect.specs.Asked.{IsWindow, AreRegions}
 use Rattle.fx_effect.specs.Laws.{IsUpTo}
 use Rattle.fx_actions.specs.Toys.{IsRect-hull, IsUpTo-grown}
-use Rattle.fx_actions.proofs.WindowLemmas.{AreFrames, AreFrames-window}
+use Rattle.fx_actions.proofs.WindowLemmas.{AreFrames-window}
 
 IsNear-hull : (r s : Bounds) → IsNear r → IsNear s → IsNear (hull r s)
 IsNear-hull r s first second =

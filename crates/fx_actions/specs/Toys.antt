@@ -1,26 +1,24 @@
 -- Two effects for tests: one that leaves every answer to the host, and one that answers all itself.
-use Rattle.std.specs.Prelude.{◌≡◌, ◌≢◌, ◌≤◌, ◌<◌, ℕ, ◌+◌, ℤ, pos, neg_ℤ, ◌≤ℤ◌, ◌<ℤ◌, ◌+ℤ◌, ◌-ℤ◌, Bool, true, false, List, [], ◌∷◌, length, codes, All, IsTrue, slice_get, Some, refl}
+use Rattle.std.specs.Prelude.{◌≡◌, ◌≤◌, ℕ, ◌+◌, ℤ, pos, ◌+ℤ◌, ◌-ℤ◌, Bool, true, false, List, [], ◌∷◌, length, codes, All, slice_get, Some, refl}
 use Rattle.std.specs.List.{Contains, AllZip}
-use Rattle.std.specs.Int.{int_min, int_max}
-use Rattle.std.proofs.Common.{zero, suc, ap, sym, ◌∙◌, subst, cond, not, ◌&&◌, ◌⊎◌, inl, inr, ⊎_elim, arith}
+use Rattle.std.proofs.Common.{zero, suc, ap, sym, subst, cond, not, ◌&&◌, inl, inr, ⊎_elim, arith}
 use Rattle.std.proofs.lemmas.Bool.{cases_Bool}
 use Rattle.std.proofs.lemmas.Int.{ints, clamps}
 use Rattle.std.proofs.lemmas.List.Elements.{All-nil, All-cons, All-head}
 use Rattle.fx_base.specs.Bounds.{Bounds, IsRect, none}
-use Rattle.fx_base.specs.Rect.{Holds, is_empty, hull, grown, Reaches}
-use Rattle.fx_base.proofs.RectLemmas.{IsProper, IsProper-from_test, is_empty-proper, is_empty-none, IsProper-from_rect, IsProper-hull, IsRect-proper, hull-first_empty, hull-second_empty, hull-proper, grown-empty, grown-proper, IsProper-grown, Holds-grown, IsWithin-hull_first}
+use Rattle.fx_base.specs.Rect.{Holds, is_empty, hull, grown}
+use Rattle.fx_base.proofs.RectLemmas.{IsProper-from_test, IsProper-hull, IsRect-proper, hull-first_empty, hull-second_empty, hull-proper, grown-empty, grown-proper, IsProper-grown, Holds-grown, IsWithin-hull_first}
 use Rattle.fx_pixel.specs.declared.Depth.{Depth}
 use Rattle.fx_pixel.specs.declared.Depth.TheVariants as depths
 use Rattle.fx_pixel.specs.declared.Components.{Components}
 use Rattle.fx_pixel.specs.declared.Components.TheVariants as components
 use Rattle.fx_pixel.specs.declared.Pixel.{Pixel}
-use Rattle.fx_pixel.specs.Pixel.{greatest, zero as zero_pixel, IsOfDepth, components_of}
+use Rattle.fx_pixel.specs.Pixel.{zero as zero_pixel, IsOfDepth, components_of}
 use Rattle.fx_effect.specs.Tap.{Tap, tap}
-use Rattle.fx_effect.specs.Shape.{Shape, Clip, IsShape, IsContext, IsParam, IsLabel, MayBe, HasClips, IsLawfulIn, optional_flags}
+use Rattle.fx_effect.specs.Shape.{Shape, Clip, IsShape, IsContext, IsParam, IsLabel, MayBe, IsLawfulIn, optional_flags}
 use Rattle.fx_effect.specs.Meaning.{Meaning}
 use Rattle.fx_effect.specs.Default.{region_of, has_required, hull_from, default_rod, default_spans}
-use Rattle.fx_effect.specs.Asked.{AreRegions}
-use Rattle.fx_effect.specs.Laws.{Laws, IsCovered, IsGiven, IsSameAs, IsNearSpan, IsUpTo, IsZeroOutside}
+use Rattle.fx_effect.specs.Laws.{Laws, IsCovered, IsGiven, IsSameAs, IsNearSpan, IsUpTo}
 use Rattle.fx_effect.specs.DefaultLaws.{default_spans_near, flag_for_each, first_near, second_near, region_near, region_is_rect}
 use Rattle.fx_effect.specs.ShapeLaws.{names_differ}
 use Rattle.fx_effect.specs.declared.action.Context.{Context}

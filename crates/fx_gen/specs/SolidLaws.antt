@@ -1,7 +1,7 @@
 -- What every effect keeps, of solid.
-use Rattle.std.specs.Prelude.{◌≡◌, ◌≢◌, ◌≤◌, ◌<◌, nat_eq, codes, ℕ, ◌+◌, ◌*◌, ◌/◌, ℤ, pos, negsuc, ◌≤ℤ◌, ◌<ℤ◌, Bool, true, false, List, [], ◌∷◌, length, slice_index_or, All, AllPairs, if◌then◌else◌, refl}
+use Rattle.std.specs.Prelude.{◌≡◌, ◌≢◌, ◌≤◌, ◌<◌, codes, ℕ, ◌+◌, ◌*◌, ◌/◌, ℤ, pos, negsuc, ◌≤ℤ◌, true, false, List, [], ◌∷◌, length, slice_index_or, All, AllPairs, if◌then◌else◌, refl}
 use Rattle.std.specs.List.{Contains, AllZip}
-use Rattle.std.proofs.Common.{zero, suc, ap, arith, ◌∙◌, inl, inr}
+use Rattle.std.proofs.Common.{zero, suc, arith, inr}
 use Rattle.std.proofs.Math.Nat.{mul-le-mul_right}
 use Rattle.std.proofs.lemmas.Int.{ints}
 use Rattle.std.proofs.lemmas.List.Elements.{All-nil, All-from_recursion}
@@ -10,11 +10,10 @@ use Rattle.fx_base.specs.Rect.{within, Holds}
 use Rattle.fx_pixel.specs.declared.Depth.{Depth}
 use Rattle.fx_pixel.specs.declared.Components.{Components}
 use Rattle.fx_pixel.specs.declared.Components.TheVariants as components
-use Rattle.fx_pixel.specs.declared.Pixel.{Pixel}
 use Rattle.fx_pixel.specs.Pixel.{greatest, zero as clear, IsOfDepth, components_of}
 use Rattle.fx_params.specs.declared.def.ParamDef.{ParamDef}
-use Rattle.fx_effect.specs.Shape.{IsShape, IsContext, IsParam, InRange, IsProject, IsLawfulIn, IsLabel, Clip}
-use Rattle.fx_effect.specs.Laws.{Laws, IsCovered, IsGiven}
+use Rattle.fx_effect.specs.Shape.{IsShape, IsContext, IsParam, InRange, IsProject, IsLabel, Clip}
+use Rattle.fx_effect.specs.Laws.{Laws, IsCovered}
 use Rattle.fx_effect.specs.ShapeLaws.{names_differ}
 use Rattle.fx_effect.specs.DefaultLaws.{default_spans_near, first_near, second_near}
 use Rattle.fx_effect.specs.declared.action.Context.{Context}

@@ -1,5 +1,5 @@
 -- The effect invert: each of r, g and b is taken from a, and is 0 where it is above it; a is kept.
-use Rattle.std.specs.Prelude.{ℕ, ◌-◌, ℤ, true, false, List, [], ◌∷◌, codes}
+use Rattle.std.specs.Prelude.{◌-◌, true, false, List, [], ◌∷◌, codes}
 use Rattle.fx_pixel.specs.declared.Depth.TheVariants as depths
 use Rattle.fx_pixel.specs.declared.Components.{Components}
 use Rattle.fx_pixel.specs.declared.Components.TheVariants as components

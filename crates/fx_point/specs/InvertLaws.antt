@@ -1,5 +1,5 @@
 -- What every effect keeps, of invert.
-use Rattle.std.specs.Prelude.{◌≡◌, ◌≤◌, ◌<◌, ℕ, ◌+◌, ◌-◌, ℤ, pos, Bool, true, false, List, [], ◌∷◌, length, codes, All, refl}
+use Rattle.std.specs.Prelude.{◌≡◌, ◌<◌, ℤ, false, [], ◌∷◌, length, codes, All, refl}
 use Rattle.std.specs.List.{Contains}
 use Rattle.std.proofs.Common.{zero, suc, ap, arith, ◌∙◌}
 use Rattle.std.proofs.lemmas.List.Elements.{All-nil, All-cons}
@@ -10,11 +10,10 @@ use Rattle.fx_pixel.specs.declared.Components.{Components}
 use Rattle.fx_pixel.specs.declared.Components.TheVariants as components
 use Rattle.fx_pixel.specs.declared.Pixel.{Pixel}
 use Rattle.fx_pixel.specs.declared.Pixel.TheVariants.{Rgba, Alpha}
-use Rattle.fx_pixel.specs.Pixel.{greatest, zero as clear, IsOfDepth, components_of}
-use Rattle.fx_params.specs.declared.def.ParamDef.{ParamDef}
-use Rattle.fx_effect.specs.Tap.{Tap, tap}
+use Rattle.fx_pixel.specs.Pixel.{zero as clear, IsOfDepth, components_of}
+use Rattle.fx_effect.specs.Tap.{tap}
 use Rattle.fx_effect.specs.Shape.{IsShape, IsContext, IsParam, IsLabel, IsLawfulIn, Clip}
-use Rattle.fx_effect.specs.Laws.{Laws, IsCovered, IsGiven}
+use Rattle.fx_effect.specs.Laws.{Laws, IsCovered}
 use Rattle.fx_effect.specs.DefaultLaws.{default_spans_near, covered_here, flag_for_each, second_near, region_near, region_is_rect}
 use Rattle.fx_effect.specs.declared.action.Context.{Context}
 use Rattle.fx_effect.specs.declared.action.Context.TheVariants as context

@@ -1,4 +1,4 @@
-use Rattle.std.proofs.Common.{◌<◌, ◌+◌, ◌*◌, length, below_more, arith, ◌∙◌, refl}
+use Rattle.std.proofs.Common.{◌<◌, ◌+◌, ◌*◌, length, below_more, arith, ◌∙◌}
 use Rattle.fx_point.proofs.InvertLaws.{first_byte, second_byte, third_byte, fourth_byte, rgba_of, pixel_below}
 use Rattle.fx_point.proofs.invert.invert_bytes.Goals as goal
 

@@ -1,4 +1,4 @@
-use Rattle.std.proofs.Common.{◌≡◌, ℕ, pos, List, [], ◌∷◌, Result, Ok, Err, IfOk, codes, refl, sym, subst, ◌∙◌, arith}
+use Rattle.std.proofs.Common.{◌≡◌, pos, List, [], ◌∷◌, Result, Ok, Err, IfOk, codes, refl, sym, subst, ◌∙◌, arith}
 use Rattle.fx_base.specs.declared.memory.Memory.{Memory}
 use Rattle.fx_base.specs.Bounds.{Bounds}
 use Rattle.fx_props.specs.Set.{Set}

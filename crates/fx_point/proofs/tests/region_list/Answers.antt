@@ -1,8 +1,4 @@
-use Rattle.std.proofs.Common.{◌≡◌, List, [], ◌∷◌, All}
-use Rattle.std.proofs.lemmas.List.Elements.{All-nil, All-cons}
-use Rattle.fx_props.specs.declared.value.PropValue.{PropValue}
 use Rattle.fx_props.specs.declared.value.PropKind.TheVariants as kind
-use Rattle.fx_props.specs.Value.{kind_of}
 use Rattle.fx_effect.proofs.WritingLaws.{four_of}
 use Rattle.fx_point.proofs.tests.region_list.Goals as goal
 

@@ -1,4 +1,4 @@
-use Rattle.std.proofs.Common.{◌≡◌, ◌∙◌, [], ◌∷◌, codes, pos, ap, sym, subst, arith}
+use Rattle.std.proofs.Common.{◌∙◌, [], ◌∷◌, codes, pos, ap, sym, subst, arith}
 use Rattle.fx_base.specs.Bounds.{Bounds}
 use Rattle.fx_base.specs.Rect.{grown, IsNear}
 use Rattle.fx_effect.specs.Default.{region_of}

@@ -1,7 +1,6 @@
-use Rattle.std.proofs.Common.{◌≡◌, ◌≢◌, ◌<◌, ◌≤ℤ◌, ℤ, pos, ◌+ℤ◌, ap, below_more, refl, arith, ◌∙◌, w64, to_z, of_z, FitsSigned, rules}
+use Rattle.std.proofs.Common.{◌≡◌, ◌≢◌, ◌<◌, pos, ◌+ℤ◌, ap, below_more, refl, arith, ◌∙◌, w64, to_z, of_z, FitsSigned, rules}
 use Rattle.std.specs.Int.{int_gap}
-use Rattle.std.proofs.lemmas.Int.{ints, to_z-of_z}
-use Rattle.fx_base.specs.Bounds.{Bounds}
+use Rattle.std.proofs.lemmas.Int.{to_z-of_z}
 use Rattle.fx_pixel.specs.declared.Components.TheVariants.{Rgba as RgbaSamples}
 use Rattle.fx_pixel.specs.Pixel.{components_of}
 use Rattle.fx_image.proofs.ImageLaws.{gap_is, gap_below, place_from}

@@ -1,4 +1,4 @@
-use Rattle.std.proofs.Common.{◌≡◌, ◌≤◌, ◌<◌, ℕ, pos, ◌+ℤ◌}
+use Rattle.std.proofs.Common.{◌≡◌, ◌<◌, ℕ, pos, ◌+ℤ◌}
 use Rattle.fx_base.specs.Rect.{columns}
 use Rattle.fx_pixel.specs.declared.Components.TheVariants.{Rgba as RgbaSamples}
 use Rattle.fx_image.specs.Stored.{pixel_in}
