@@ -3,10 +3,11 @@
 //! `draw` draws numbers, and `one`, `two` and `four` do a piece of work for each number with as many
 //! workers. `file` makes the bytes of a PAM file with so many rows of 1,920 pixels and `read` reads them
 //! too, of r, g, b and a; with `rgb`, `scaled` or `short` behind its name, of other samples. `image` makes
-//! an image of that width, and `write` and `write_rgb` write it too. Several such pairs are done in their
-//! order.
+//! an image of that width, and `write` and `write_rgb` write it too. `graph` makes the text of a graph of 256
+//! nodes with so many keys each, and `parse` reads it too. Several such pairs are done in their order.
 #![tactic(auto)]
 
+mod graph;
 mod kept;
 mod number;
 mod pam;
@@ -38,6 +39,10 @@ fn main(rt: HostRuntime) -> ExitCode {
             return ExitCode::from(USAGE);
         };
         let done = match &*what {
+            "graph" => graph::made(rt.alloc(), count)
+                .map(|text| text.len() as u64)
+                .ok(),
+            "parse" => graph::read(rt.alloc(), count).ok(),
             "kept" => kept::ask_kept(rt.alloc(), count).ok(),
             "turn" => turns::add_alone(&rt, count).ok(),
             "turns" => turns::add_together(&rt, count).ok(),

@@ -1,0 +1,5 @@
+pub mod Unknown
+pub mod Rows
+pub mod Counts
+pub mod Pairs
+pub mod PrintedLaws

@@ -1,0 +1,10 @@
+pub mod Paths
+pub mod Json
+pub mod Objects
+pub mod Raw
+pub mod Nodes
+pub mod Key
+pub mod Values
+pub mod Answers
+pub mod Fault
+pub mod Printed

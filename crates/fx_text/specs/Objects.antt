@@ -1,0 +1,147 @@
+-- What a graph's objects say, or the first fault.
+use Rattle.std.specs.Prelude.{ℕ, ◌+◌, min, if◌then◌else◌, Option, Some, None, List, [], ◌∷◌, codes, Result, Ok, Err}
+use Rattle.serde_json.specs.Data.{Data, Items}
+use Rattle.serde_json.specs.Find.{get}
+use Rattle.std.specs.Str.{bytes_eq}
+use Rattle.fx_text.specs.declared.fault.GraphCode.TheVariants.{NotJson}
+use Rattle.fx_text.specs.declared.raw.RawContext.{RawContext}
+use Rattle.fx_text.specs.declared.raw.RawContext.TheVariants as context
+use Rattle.fx_text.specs.declared.raw.RawRange.{RawRange}
+use Rattle.fx_text.specs.declared.raw.RawOutput.{RawOutput}
+use Rattle.fx_text.specs.declared.raw.RawWork.TheVariants as work
+use Rattle.fx_text.specs.declared.value.RawClip.{RawClip}
+use Rattle.fx_text.specs.declared.value.RawParam.{RawParam}
+use Rattle.fx_text.specs.Fault.{Fault}
+use Rattle.fx_text.specs.Json.{after, word_at, has, value_of, check_object, whole_at, text_at, depth_at, components_at}
+use Rattle.fx_text.specs.Json.{format_at, short_at, hold_at, depth_or, components_or, list_at, member_at, read_items}
+use Rattle.fx_text.specs.Nodes.{Node, Graph}
+use Rattle.fx_text.specs.Paths.{inside, joined}
+use Rattle.fx_text.specs.Raw.{Project}
+use Rattle.fx_text.specs.Values.{clips_in, params_in}
+
+abbrev pub project_keys : List (List ℕ)
+project_keys = codes "width" ∷ codes "height" ∷ codes "depth" ∷ codes "components" ∷ []
+
+-- the project: width, height, depth and components
+abbrev pub project_of : List ℕ → ℕ → Data → Result Project Fault
+project_of path side d =
+    after (check_object path project_keys d) (λ _.
+    after (whole_at path (codes "width") 1 side d) (λ width.
+    after (whole_at path (codes "height") 1 side d) (λ height.
+    after (depth_at path (codes "depth") d) (λ depth.
+    after (components_at path (codes "components") d) (λ components.
+    Ok (record { width = width; height = height; depth = depth; components = components }))))))
+
+abbrev pub range_keys : List (List ℕ)
+range_keys = codes "first" ∷ codes "last" ∷ []
+
+-- the range: first, and last, which is at least first and at most first + 99,999
+abbrev pub range_of : List ℕ → Data → Result RawRange Fault
+range_of path d =
+    after (check_object path range_keys d) (λ _.
+    after (whole_at path (codes "first") 0 999999 d) (λ first.
+    after (whole_at path (codes "last") first (min 999999 (first + 99999)) d) (λ last.
+    Ok (record { first = first; last = last }))))
+
+abbrev pub output_keys : List (List ℕ)
+output_keys = codes "node" ∷ codes "file" ∷ codes "format" ∷ []
+
+-- the output: node, file and format
+abbrev pub output_of : List ℕ → Data → Result RawOutput Fault
+output_of path d =
+    after (check_object path output_keys d) (λ _.
+    after (text_at path (codes "node") d) (λ node.
+    after (text_at path (codes "file") d) (λ file.
+    after (format_at path (codes "format") d) (λ format.
+    Ok (record { node = node; file = file; format = format })))))
+
+abbrev pub source_keys : List (List ℕ)
+source_keys =
+    codes "name" ∷ codes "source" ∷ codes "first" ∷ codes "last"
+    ∷ codes "outside" ∷ codes "depth" ∷ codes "components" ∷ []
+
+-- a source: its name, its pattern, its first and last frame, whether it holds, and depth and components,
+-- which are the project's where absent
+abbrev pub source_of : List ℕ → Project → Data → Result Node Fault
+source_of path project d =
+    after (check_object path source_keys d) (λ _.
+    after (short_at path (codes "name") d) (λ name.
+    after (text_at path (codes "source") d) (λ pattern.
+    after (whole_at path (codes "first") 0 999999 d) (λ first.
+    after (whole_at path (codes "last") first 999999 d) (λ last.
+    after (hold_at path (codes "outside") d) (λ hold.
+    after (depth_or path (codes "depth") project.depth d) (λ depth.
+    after (components_or path (codes "components") project.components d) (λ components.
+    Ok (record { name = name; work = work.Source pattern first last hold depth components })))))))))
+
+abbrev pub context_of : List ℕ → Option RawContext
+context_of text =
+    if bytes_eq text (codes "generator") then Some context.Generator else
+    if bytes_eq text (codes "filter") then Some context.Filter else
+    if bytes_eq text (codes "transition") then Some context.Transition else
+    if bytes_eq text (codes "general") then Some context.General else None
+
+abbrev pub context_at : List ℕ → List ℕ → Data → Result (Option RawContext) Fault
+context_at path key d =
+    if has key d
+    then after (after (text_at path key d) (λ text. word_at path key (context_of text))) (λ c. Ok (Some c))
+    else Ok None
+
+-- the clips of a node, of which there are none where the member is absent
+abbrev pub clips_at : List ℕ → Data → Result (List RawClip) Fault
+clips_at path d = clips_in (joined path (codes "clips")) (get (codes "clips") d)
+
+-- the parameters likewise
+abbrev pub params_at : List ℕ → Data → Result (List RawParam) Fault
+params_at path d = params_in (joined path (codes "params")) (get (codes "params") d)
+
+abbrev pub effect_keys : List (List ℕ)
+effect_keys = codes "name" ∷ codes "effect" ∷ codes "context" ∷ codes "clips" ∷ codes "params" ∷ []
+
+-- an effect: its name, the effect's name, its context, clips and parameters
+abbrev pub effect_of : List ℕ → Data → Result Node Fault
+effect_of path d =
+    after (check_object path effect_keys d) (λ _.
+    after (short_at path (codes "name") d) (λ name.
+    after (text_at path (codes "effect") d) (λ effect.
+    after (context_at path (codes "context") d) (λ context.
+    after (clips_at path d) (λ clips.
+    after (params_at path d) (λ params.
+    Ok (record { name = name; work = work.Effect effect context clips params })))))))
+
+-- a source where it has a member of that name, and else an effect
+abbrev pub node_of : List ℕ → Project → Data → Result Node Fault
+node_of path project d = if has (codes "source") d then source_of path project d else effect_of path d
+
+-- the nodes of a list
+abbrev pub nodes_of : List ℕ → Project → Items → Result (List Node) Fault
+nodes_of path project = read_items (λ k d. node_of (inside path k) project d) 0
+
+abbrev pub top_keys : List (List ℕ)
+top_keys = codes "ofxr" ∷ codes "project" ∷ codes "output" ∷ codes "range" ∷ codes "nodes" ∷ []
+
+-- the graph: ofxr, project, output, range and nodes
+abbrev pub graph_of : ℕ → ℕ → Data → Result Graph Fault
+graph_of most side d =
+    after (check_object [] top_keys d) (λ _.
+    after (whole_at [] (codes "ofxr") 1 1 d) (λ format.
+    after (after (member_at [] (codes "project") d) (project_of (codes "project") side)) (λ project.
+    after (after (member_at [] (codes "output") d) (output_of (codes "output"))) (λ output.
+    after (after (member_at [] (codes "range") d) (range_of (codes "range"))) (λ range.
+    after (after (list_at [] (codes "nodes") 1 most d) (nodes_of (codes "nodes") project)) (λ nodes.
+    Ok (record {
+      format = format;
+      project = project;
+      output = output;
+      first = range.first;
+      last = range.last;
+      nodes = nodes;
+    })))))))
+
+abbrev pub graph_in : ℕ → ℕ → Option Data → Result Graph Fault
+graph_in most side (Some d) = graph_of most side d
+graph_in most side None = Err (record { code = NotJson; path = [] })
+
+-- the graph of a file's bytes, or the first fault
+abbrev pub read_graph : List ℕ → ℕ → ℕ → Result Graph Fault
+read_graph bytes most side = graph_in most side (value_of bytes)

@@ -1,0 +1,24 @@
+//! The text of a graph file: from any bytes to a raw graph, or to the one first fault with its path.
+//! JSON is `serde_json`'s; what a graph's objects may have is said once in `specs/`, object by object, and
+//! each reader answers exactly that. Whether names, effects and parameters exist is not asked here.
+#![tactic(auto)]
+
+mod fault;
+mod json;
+mod law;
+mod object;
+mod params;
+mod path;
+mod raw;
+#[cfg(test)]
+mod tests;
+mod value;
+
+pub use fault::{GraphCode, GraphFault};
+pub use law::printed_graph_reads_back;
+pub use object::read_graph;
+pub use path::GraphPath;
+pub use raw::{
+    RawClips, RawContext, RawGraph, RawNode, RawNodes, RawOutput, RawParams, RawProject, RawWork,
+};
+pub use value::{RawClip, RawKey, RawKeys, RawParam, RawScalar, RawValue};

@@ -1,0 +1,414 @@
+//! Reads the objects of a graph file, each as its definition says it: first that it is an object and has no
+//! unknown member, then its members in the order of the format.
+ghost use Rattle.std.specs.Prelude.{◌≡◌, ◌≤◌, ◌+◌, IfOk, length};
+ghost use Rattle.serde_json.specs.View.{view, items_view};
+ghost use Rattle.fx_text.specs.Answers.{Answers, Refuses};
+ghost use Rattle.fx_text.specs.Json.{depth_of, components_of, format_of, depth_at, components_at, format_at};
+ghost use Rattle.fx_text.specs.Json.{outside_of, hold_at, depth_or, components_or};
+ghost use Rattle.fx_text.specs.Paths.{inside};
+ghost use Rattle.fx_text.specs.Objects.{project_of, output_of, range_of, context_of, context_at, source_of};
+ghost use Rattle.fx_text.specs.Objects.{clips_at, params_at, effect_of, node_of, nodes_of, graph_of, read_graph};
+
+use crate::fault::{GraphCode, GraphFault};
+use crate::json::{
+    JsonFault, check_object, fault_at, has, list_at, member_at, name_at, short_at, text_at,
+    value_of, whole_at, word_at,
+};
+use crate::params::{clips_in, params_in};
+use crate::path::{inside, joined};
+use crate::raw::{
+    RawClips, RawContext, RawGraph, RawNode, RawNodes, RawOutput, RawParams, RawProject, RawRange,
+    RawWork,
+};
+use crate::value::{RawClip, RawParam};
+use fx_pixel::{Components, Depth, Format};
+use serde_json::Value;
+use std::alloc::Global;
+
+fn depth_of(text: &str) -> Option<Depth>
+    ensures { result ≡ depth_of text.now }
+{
+    match text {
+        "byte" => Some(Depth::Byte),
+        "short" => Some(Depth::Short),
+        _ => None,
+    }
+}
+
+fn components_of(text: &str) -> Option<Components>
+    ensures { result ≡ components_of text.now }
+{
+    match text {
+        "RGBA" => Some(Components::Rgba),
+        "Alpha" => Some(Components::Alpha),
+        _ => None,
+    }
+}
+
+fn depth_at(alloc: Global, path: &str, key: &str, value: &Value) -> Result<Depth, GraphFault>
+    ensures { Answers result (depth_at path.now key.now (view value.now)) }
+{
+    let text = text_at(alloc, path, key, value)?;
+    word_at(alloc, path, key, depth_of(text))
+}
+
+fn components_at(
+    alloc: Global,
+    path: &str,
+    key: &str,
+    value: &Value,
+) -> Result<Components, GraphFault>
+    ensures { Answers result (components_at path.now key.now (view value.now)) }
+{
+    let text = text_at(alloc, path, key, value)?;
+    word_at(alloc, path, key, components_of(text))
+}
+
+fn format_of(text: &str) -> Option<Format>
+    ensures { result ≡ format_of text.now }
+{
+    match text {
+        "RGB_ALPHA" => Some(Format::RgbAlpha),
+        "RGB" => Some(Format::Rgb),
+        "GRAYSCALE" => Some(Format::Grayscale),
+        _ => None,
+    }
+}
+
+fn format_at(alloc: Global, path: &str, key: &str, value: &Value) -> Result<Format, GraphFault>
+    ensures { Answers result (format_at path.now key.now (view value.now)) }
+{
+    let text = text_at(alloc, path, key, value)?;
+    word_at(alloc, path, key, format_of(text))
+}
+
+// The output.
+fn output_of(alloc: Global, path: &str, value: &Value) -> Result<RawOutput, GraphFault>
+    ensures { Answers result (output_of path.now (view value.now)) }
+{
+    check_object(alloc, path, &["node", "file", "format"], value)?;
+    let node = name_at(alloc, path, "node", value)?;
+    let file = name_at(alloc, path, "file", value)?;
+    let format = format_at(alloc, path, "format", value)?;
+    Ok(RawOutput { node, file, format })
+}
+
+// The project.
+fn project_of(
+    alloc: Global,
+    path: &str,
+    most_side: u32,
+    value: &Value,
+) -> Result<RawProject, GraphFault>
+    requires { most_side ≤ 8192 }
+    ensures { Answers result (project_of path.now most_side (view value.now)) }
+{
+    check_object(
+        alloc,
+        path,
+        &["width", "height", "depth", "components"],
+        value,
+    )?;
+    let width = whole_at(alloc, path, "width", 1, most_side, value)?;
+    let height = whole_at(alloc, path, "height", 1, most_side, value)?;
+    let depth = depth_at(alloc, path, "depth", value)?;
+    let components = components_at(alloc, path, "components", value)?;
+    Ok(RawProject {
+        width,
+        height,
+        depth,
+        components,
+    })
+}
+
+// The range of frames.
+fn range_of(alloc: Global, path: &str, value: &Value) -> Result<RawRange, GraphFault>
+    ensures order { IfOk result (λ r. r.first ≤ r.last) }
+    ensures few { IfOk result (λ r. r.last ≤ r.first + 99999) }
+    ensures end { IfOk result (λ r. r.last ≤ 999999) }
+    ensures answer { Answers result (range_of path.now (view value.now)) }
+{
+    check_object(alloc, path, &["first", "last"], value)?;
+    let first = whole_at(alloc, path, "first", 0, 999_999, value)?;
+    let last = whole_at(
+        alloc,
+        path,
+        "last",
+        first,
+        999_999.min(first + 99_999),
+        value,
+    )?;
+    Ok(RawRange { first, last })
+}
+
+fn outside_of(text: &str) -> Option<bool>
+    ensures { result ≡ outside_of text.now }
+{
+    match text {
+        "black" => Some(false),
+        "hold" => Some(true),
+        _ => None,
+    }
+}
+
+fn hold_at(alloc: Global, path: &str, key: &str, value: &Value) -> Result<bool, GraphFault>
+    ensures { Answers result (hold_at path.now key.now (view value.now)) }
+{
+    if !has(key, value) {
+        return Ok(false);
+    }
+    let text = text_at(alloc, path, key, value)?;
+    word_at(alloc, path, key, outside_of(text))
+}
+
+fn depth_or(
+    alloc: Global,
+    path: &str,
+    key: &str,
+    default: Depth,
+    value: &Value,
+) -> Result<Depth, GraphFault>
+    ensures { Answers result (depth_or path.now key.now default (view value.now)) }
+{
+    if has(key, value) {
+        depth_at(alloc, path, key, value)
+    } else {
+        Ok(default)
+    }
+}
+
+fn components_or(
+    alloc: Global,
+    path: &str,
+    key: &str,
+    default: Components,
+    value: &Value,
+) -> Result<Components, GraphFault>
+    ensures { Answers result (components_or path.now key.now default (view value.now)) }
+{
+    if has(key, value) {
+        components_at(alloc, path, key, value)
+    } else {
+        Ok(default)
+    }
+}
+
+fn context_of(text: &str) -> Option<RawContext>
+    ensures { result ≡ context_of text.now }
+{
+    match text {
+        "generator" => Some(RawContext::Generator),
+        "filter" => Some(RawContext::Filter),
+        "transition" => Some(RawContext::Transition),
+        "general" => Some(RawContext::General),
+        _ => None,
+    }
+}
+
+fn context_at(
+    alloc: Global,
+    path: &str,
+    key: &str,
+    value: &Value,
+) -> Result<Option<RawContext>, GraphFault>
+    ensures { Answers result (context_at path.now key.now (view value.now)) }
+{
+    if !has(key, value) {
+        return Ok(None);
+    }
+    let text = text_at(alloc, path, key, value)?;
+    Ok(Some(word_at(alloc, path, key, context_of(text))?))
+}
+
+// A node that is an effect.
+fn effect_of(alloc: Global, path: &str, value: &Value) -> Result<RawNode, GraphFault>
+    ensures { Answers result (effect_of path.now (view value.now)) }
+{
+    check_object(
+        alloc,
+        path,
+        &["name", "effect", "context", "clips", "params"],
+        value,
+    )?;
+    let name = short_at(alloc, path, "name", value)?;
+    let effect = name_at(alloc, path, "effect", value)?;
+    let context = context_at(alloc, path, "context", value)?;
+    let clips = clips_at(alloc, path, value)?;
+    let params = params_at(alloc, path, value)?;
+    Ok(RawNode {
+        name,
+        work: RawWork::Effect {
+            effect,
+            context,
+            clips: RawClips::of(clips),
+            params: RawParams::of(params),
+        },
+    })
+}
+
+fn clips_at(alloc: Global, path: &str, value: &Value) -> Result<Vec<RawClip>, GraphFault>
+    ensures ok { IfOk result (λ clips. clips_at path.now (view value.now) ≡ Ok clips.items) }
+    ensures err { Refuses result (clips_at path.now (view value.now)) }
+{
+    let path = joined(alloc, path, "clips")?;
+    clips_in(alloc, path.as_str(), value.get("clips"))
+}
+
+fn params_at(alloc: Global, path: &str, value: &Value) -> Result<Vec<RawParam>, GraphFault>
+    ensures ok { IfOk result (λ params. params_at path.now (view value.now) ≡ Ok params.items) }
+    ensures err { Refuses result (params_at path.now (view value.now)) }
+{
+    let path = joined(alloc, path, "params")?;
+    params_in(alloc, path.as_str(), value.get("params"))
+}
+
+// A node: a source where it has a member of that name, and else an effect.
+fn node_of(
+    alloc: Global,
+    path: &str,
+    project: RawProject,
+    value: &Value,
+) -> Result<RawNode, GraphFault>
+    ensures { Answers result (node_of path.now project (view value.now)) }
+{
+    if has("source", value) {
+        source_of(alloc, path, project, value)
+    } else {
+        effect_of(alloc, path, value)
+    }
+}
+
+// A node that is a source.
+fn source_of(
+    alloc: Global,
+    path: &str,
+    project: RawProject,
+    value: &Value,
+) -> Result<RawNode, GraphFault>
+    ensures { Answers result (source_of path.now project (view value.now)) }
+{
+    check_object(
+        alloc,
+        path,
+        &[
+            "name",
+            "source",
+            "first",
+            "last",
+            "outside",
+            "depth",
+            "components",
+        ],
+        value,
+    )?;
+    let name = short_at(alloc, path, "name", value)?;
+    let pattern = name_at(alloc, path, "source", value)?;
+    let first = whole_at(alloc, path, "first", 0, 999_999, value)?;
+    let last = whole_at(alloc, path, "last", first, 999_999, value)?;
+    let hold = hold_at(alloc, path, "outside", value)?;
+    let depth = depth_or(alloc, path, "depth", project.depth, value)?;
+    let components = components_or(alloc, path, "components", project.components, value)?;
+    Ok(RawNode {
+        name,
+        work: RawWork::Source {
+            pattern,
+            first,
+            last,
+            hold,
+            depth,
+            components,
+        },
+    })
+}
+
+// The node at a place of a list.
+fn node_at(
+    alloc: Global,
+    path: &str,
+    k: usize,
+    project: RawProject,
+    value: &Value,
+) -> Result<RawNode, GraphFault>
+    ensures { Answers result (node_of (inside path.now k) project (view value.now)) }
+{
+    let path = inside(alloc, path, k)?;
+    node_of(alloc, path.as_str(), project, value)
+}
+
+// The nodes of a list.
+fn nodes_of(
+    alloc: Global,
+    path: &str,
+    project: RawProject,
+    values: &[Value],
+) -> Result<Vec<RawNode>, GraphFault>
+    ensures ok { IfOk result (λ nodes. nodes_of path.now project (items_view values.now) ≡ Ok nodes.items) }
+    ensures count { IfOk result (λ nodes. length nodes.items ≡ length values.now) }
+    ensures err { Refuses result (nodes_of path.now project (items_view values.now)) }
+{
+    let mut nodes = Vec::new(alloc);
+    for (k, value) in values.iter().enumerate() {
+        let node = node_at(alloc, path, k, project, value)?;
+        nodes.push(node)?;
+    }
+    Ok(nodes)
+}
+
+// The graph.
+fn graph_of(
+    alloc: Global,
+    most_nodes: u32,
+    most_side: u32,
+    value: &Value,
+) -> Result<RawGraph, GraphFault>
+    requires nodes { most_nodes ≤ 1024 }
+    requires side { most_side ≤ 8192 }
+    ensures { Answers result (graph_of most_nodes most_side (view value.now)) }
+{
+    check_object(
+        alloc,
+        "",
+        &["ofxr", "project", "output", "range", "nodes"],
+        value,
+    )?;
+    let format = whole_at(alloc, "", "ofxr", 1, 1, value)?;
+    let project = project_of(
+        alloc,
+        "project",
+        most_side,
+        member_at(alloc, "", "project", value)?,
+    )?;
+    let output = output_of(alloc, "output", member_at(alloc, "", "output", value)?)?;
+    let range = range_of(alloc, "range", member_at(alloc, "", "range", value)?)?;
+    let values = list_at(alloc, "", "nodes", 1, most_nodes as usize, value)?;
+    let nodes = nodes_of(alloc, "nodes", project, values)?;
+    Ok(RawGraph {
+        format,
+        project,
+        output,
+        first: range.first,
+        last: range.last,
+        nodes: RawNodes::of(nodes),
+    })
+}
+
+//// The graph that a file's bytes say, or the first fault: `NotJson` at the empty path where they are no JSON
+/// text that `serde_json` reads; else the file is walked in the order of the format, and `WrongForm` or
+/// `NumberOutOfRange` come with the path of where. A graph has at most `most_nodes` nodes and sides of at
+/// most `most_side` pixels.
+pub fn read_graph(
+    alloc: Global,
+    bytes: &[u8],
+    most_nodes: u32,
+    most_side: u32,
+) -> Result<RawGraph, GraphFault>
+    requires nodes { most_nodes ≤ 1024 }
+    requires side { most_side ≤ 8192 }
+    ensures { Answers result (read_graph bytes.now most_nodes most_side) }
+{
+    match value_of(alloc, bytes) {
+        Ok(value) => graph_of(alloc, most_nodes, most_side, &value),
+        Err(JsonFault::NotJson) => Err(fault_at(GraphCode::NotJson, "".to_string(alloc)?)),
+        Err(JsonFault::Memory) => Err(GraphFault::Memory),
+    }
+}

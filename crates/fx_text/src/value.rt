@@ -1,0 +1,92 @@
+//! Clips, and the values of parameters, as a graph file says them.
+ghost use Rattle.std.specs.Prelude.{◌≡◌, ◌≤◌, length};
+
+use fx_base::Name;
+use std::marker::Model;
+
+/// An input clip, and the name of the node that it is connected to.
+#[derive(Debug, Drop)]
+pub struct RawClip {
+    pub name: Name,
+    pub node: Name,
+}
+
+/// A value: a whole number, a text, or true or false.
+#[derive(Debug, Drop)]
+pub enum RawScalar {
+    Int(i64),
+    Text(Name),
+    Flag(bool),
+}
+
+/// A value at a frame, from -999,999 to 999,999.
+#[derive(Debug, Drop)]
+pub struct RawKey {
+    pub frame: i64,
+    pub value: RawScalar,
+}
+
+impl Model for RawKey {
+    ghost use Rattle.fx_text.specs.Key.{Key, IsFrame};
+
+    ghost Value = { Key };
+
+    ghost view = { λ k. record { frame = k.frame; value = k.value } };
+
+    ghost invariant = { λ k. IsFrame k.frame };
+}
+
+/// The keys of a parameter, 1 to 1,000, in the order of the file.
+#[derive(Debug, Drop)]
+pub struct RawKeys {
+    items: Vec<RawKey>,
+}
+
+impl Model for RawKeys {
+    ghost use Rattle.std.specs.Prelude.{List, length};
+    ghost use Rattle.fx_text.specs.Key.{Key, AreFewKeys};
+
+    ghost Value = { List Key };
+
+    ghost view = { λ k. k.items.items };
+
+    ghost invariant = { λ k. AreFewKeys (length k.items.items) };
+}
+
+impl RawKeys {
+    /// These keys, in this order.
+    pub fn of(items: Vec<RawKey>) -> RawKeys
+        requires { (1 ≤ length items.items) × (length items.items ≤ 1000) }
+        ensures { result ≡ items.items }
+    {
+        RawKeys { items }
+    }
+
+    /// The keys in order.
+    pub fn items(&self) -> &[RawKey]
+        ensures { result.now ≡ self.now }
+    {
+        self.items.as_slice()
+    }
+
+    /// The keys in order, given away.
+    pub fn into_items(self) -> Vec<RawKey>
+        ensures { result.items ≡ self }
+    {
+        self.items
+    }
+}
+
+/// What a parameter is given: one value, or keys over the frames, stepped or linear.
+#[derive(Debug, Drop)]
+pub enum RawValue {
+    Plain(RawScalar),
+    Keyed { keys: RawKeys, step: bool },
+}
+
+/// A parameter, and what it is given.
+#[derive(Debug, Drop)]
+pub struct RawParam {
+    pub name: Name,
+    pub value: RawValue,
+}

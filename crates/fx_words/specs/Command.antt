@@ -1,0 +1,25 @@
+-- The command: two required words, five options with a whole number in a range, no help and no version flag.
+use Rattle.std.specs.Prelude.{ℤ, pos, true, Some, codes}
+use Rattle.clap.specs.Walk.{Rule, Text}
+use Rattle.clap.specs.Simple.{App, on_top, new_app, new_rule, with_rule}
+use Rattle.clap.specs.declared.builder.value_parser.ValueParser.TheVariants as value
+
+abbrev pub word_rule : Text → Rule
+word_rule id = record (new_rule id) { required = true }
+
+abbrev pub number_rule : Text → ℤ → ℤ → Rule
+number_rule id least most = record (new_rule id) { long = Some id; parser = Some (value.Signed least most) }
+
+abbrev pub bare : App
+bare = on_top (λ s. record s { no_binary_name = true; disable_help_flag = true; disable_version_flag = true }) (new_app (codes "ofxr"))
+
+abbrev pub ofxr : App
+ofxr =
+    with_rule (with_rule (with_rule (with_rule (with_rule (with_rule (with_rule bare
+    (word_rule (codes "mode")))
+    (word_rule (codes "graph")))
+    (number_rule (codes "first") (pos 0) (pos 999999)))
+    (number_rule (codes "last") (pos 0) (pos 999999)))
+    (number_rule (codes "tile") (pos 1) (pos 1024)))
+    (number_rule (codes "cache") (pos 0) (pos 65536)))
+    (number_rule (codes "workers") (pos 1) (pos 64))

@@ -1,0 +1,5 @@
+pub mod Command
+pub mod Ordered
+pub mod Order
+pub mod Seen
+pub mod Texts

@@ -1,0 +1,46 @@
+//! The command as `clap` is told it: two words that are required, and five options with a whole number each.
+ghost use Rattle.std.specs.Prelude.{◌≡◌, ◌≤ℤ◌, false, pos, IfOk};
+ghost use Rattle.clap.specs.Simple.{app_of};
+ghost use Rattle.clap.specs.Walk.{rule_of};
+ghost use Rattle.fx_words.specs.Command.{ofxr, word_rule, number_rule};
+
+use clap::{Arg, Command, value_parser};
+use std::alloc::{AllocError, Global};
+
+// A word that is required.
+fn word<'a>(alloc: Global, name: &'a str) -> Arg<'a>
+    ensures rule { rule_of result ≡ word_rule name.entry.now }
+    ensures local { result.global ≡ false }
+{
+    Arg::new(alloc, name).required(true)
+}
+
+// An option whose value is a whole number from the least to the most.
+fn number<'a>(alloc: Global, name: &'a str, least: i64, most: i64) -> Arg<'a>
+    requires low { pos 0 ≤ℤ least }
+    requires some { least ≤ℤ most }
+    requires high { most ≤ℤ pos 4294967295 }
+    ensures rule { rule_of result ≡ number_rule name.entry.now least most }
+    ensures local { result.global ≡ false }
+{
+    Arg::new(alloc, name)
+        .long(name)
+        .value_parser(value_parser!(u32).range(least..=most))
+}
+
+/// The command, without a help and without a version flag.
+pub(crate) fn command<'a>(alloc: Global) -> Result<Command<'a>, AllocError>
+    ensures { IfOk result (λ c. app_of c ≡ ofxr) }
+{
+    Command::new(alloc, "ofxr")
+        .no_binary_name(true)
+        .disable_help_flag(true)
+        .disable_version_flag(true)
+        .arg(word(alloc, "mode"))?
+        .arg(word(alloc, "graph"))?
+        .arg(number(alloc, "first", 0, 999_999))?
+        .arg(number(alloc, "last", 0, 999_999))?
+        .arg(number(alloc, "tile", 1, 1024))?
+        .arg(number(alloc, "cache", 0, 65536))?
+        .arg(number(alloc, "workers", 1, 64))
+}

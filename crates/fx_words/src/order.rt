@@ -1,0 +1,49 @@
+//! What the words order.
+use fx_base::Name;
+use std::marker::Model;
+
+/// What is done with the graph.
+#[derive(Clone, Copy, Debug, PartialEq, Eq)]
+pub enum Mode {
+    /// Its frames are rendered and written.
+    Render,
+    /// It is read and accepted, and nothing is fetched or written beside.
+    Check,
+    /// A graph that is made from a number is rendered in memory.
+    Bench,
+}
+
+/// An order: the mode, the graph's name (for bench 1 to 6 decimal digits), and the options or their defaults.
+#[derive(Debug, Drop)]
+pub struct Order {
+    pub mode: Mode,
+    pub graph: Name,
+    /// Frames before this one are left out, 0 to 999,999.
+    pub first: u32,
+    /// Frames behind this one are left out, 0 to 999,999.
+    pub last: u32,
+    /// The side of a tile in pixels, 1 to 1,024.
+    pub tile: u32,
+    /// How many tiles are kept, 0 to 65,536, and of at most 2^31 bytes together at eight bytes a pixel.
+    pub cache: u32,
+    /// How many threads render, 1 to 64.
+    pub workers: u32,
+}
+
+impl Model for Order {
+    ghost use Rattle.fx_words.specs.Ordered.{Ordered, AreInRange};
+
+    ghost Value = { Ordered };
+
+    ghost view = { λ o. record {
+      mode = o.mode;
+      graph = o.graph;
+      first = o.first;
+      last = o.last;
+      tile = o.tile;
+      cache = o.cache;
+      workers = o.workers;
+    } };
+
+    ghost invariant = { λ o. AreInRange o.first o.last o.tile o.cache o.workers };
+}
