@@ -2,4 +2,5 @@ pub mod Fix
 pub mod Pattern
 pub mod Bounds
 pub mod Rect
+pub mod Grid
 pub mod Status
