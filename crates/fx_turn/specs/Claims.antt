@@ -1,5 +1,5 @@
--- A claim is a number with a mark, which is plain data. The claims of a value are those of the seats of its row: each is
--- with one seat.
+-- A claim is a number with a mark, which is plain data. The claims of a value are those of the seats of its row: each
+-- is with one seat.
 use Rattle.std.specs.Prelude.{◌≡◌, ℕ, ◌≤◌, ◌==◌, ◌⊎◌, List, ◌++◌, count_by, filter, Option, Some, option_map, is_none}
 use Rattle.std.specs.List.{filter_map}
 use Rattle.std.specs.Map.{lookup}

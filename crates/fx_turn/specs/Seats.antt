@@ -9,8 +9,8 @@ pub record Row (N : Type 0) : Type 0 where
   pub name : N
   pub stamp : List ℕ
 
--- The turn that a seat has, if it has one: the slot, and the value as it was taken. Of the row's tally and claims it has
--- its own part
+-- The turn that a seat has, if it has one: the slot, and the value as it was taken. Of the row's tally and claims it
+-- has its own part
 pub record SeatState (N V M : Type 0) : Type 0 where
   pub row : Row N
   pub parts : ℕ

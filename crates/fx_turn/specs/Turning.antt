@@ -117,9 +117,9 @@ module _ {N V M : Type 0} where
         }
 
   module _ (fits : N → V → Type 0) (tally : V → List ℕ) (claims : V → List (ℕ × M)) where
-    -- The row with all values in. Each value fits the name, and is at home or out with the seat that holds its slot. All
-    -- parts are with seats. The values' tally is the sum of the seats'. The values' claims are those of the seats, each
-    -- with one: each number stands as often among both, and a seat's claims are the value's.
+    -- The row with all values in. Each value fits the name, and is at home or out with the seat that holds its slot.
+    -- All parts are with seats. The values' tally is the sum of the seats'. The values' claims are those of the seats,
+    -- each with one: each number stands as often among both, and a seat's claims are the value's.
     -- In a row of several slots the values count nothing and claim nothing
     pub record Filled (name : N) (s : State (Option V) (View N V M)) : Type 0 where
       pub values : List V
