@@ -1,5 +1,5 @@
 -- What a reader gives within a limit.
-use Rattle.std.proofs.Common.{◌≡◌, ◌≤◌, ◌+◌, ℕ, List, [], ◌++◌, length, take, Option, None, Some, IfSome, option_map, ap, subst, sym, ◌∙◌, arith}
+use Rattle.std.proofs.Common.{◌≡◌, ◌≤◌, ◌+◌, ℕ, List, [], ◌++◌, length, take, Option, None, Some, IfSome, option_map, ap, subst, ◌∙◌, arith}
 use Rattle.std.proofs.lemmas.List.{length-take, take_all}
 
 all_given_within : (given : Option (List ℕ)) (got : List ℕ) (longest : ℕ) → length got ≤ longest → IfSome (option_map (take (longest + 1)) given) (λ xs. got ≡ xs) → IfSome given (λ xs. got ≡ xs)
