@@ -199,7 +199,7 @@ zero_components components.Rgba = refl
 zero_components components.Alpha = refl
 
 module _ (s : Stored) (bytes : AreBytes s.raster.blocks) where
-  row_bytes : (y : ℤ) (j : ℕ) → slice_index (bytes_of s y) j ≤ 255
+  row_bytes : (y : ℤ) (j : ℕ) → slice_index (bytes_of s y) j < 256
   row_bytes y = let k = int_gap s.rect.y1 y in run_of_bytes (block_of s.raster k) (start_of s.raster k) s.raster.pitch (bytes (k / s.raster.step))
 
   shown_fits : (x y : ℤ) (b : Bool) → within s.rect x y ≡ b → IsOfDepth s.depth (shown s x y)

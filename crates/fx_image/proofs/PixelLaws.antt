@@ -108,18 +108,21 @@ pixel_right Byte components.Alpha row ws first column fits h = ap Alpha (sample_
 pixel_right Short components.Alpha row ws first column fits h = ap Alpha (sample_above Short row ws (first * 2) column fits (omega arith))
 
 -- the pixels of a row of bytes are within their depth
-short_fits : (a b : ℕ) → a ≤ 255 → b ≤ 255 → 256 * a + b ≤ 65535
+short_fits : (a b : ℕ) → a < 256 → b < 256 → 256 * a + b ≤ 65535
 short_fits a b p q = omega arith
 
-pub pixel_fits : (depth : Depth) (c : Components) (row : List ℕ) (i : ℕ) → ((j : ℕ) → slice_index row j ≤ 255) → IsOfDepth depth (pixel_in depth c row i)
-pixel_fits Byte components.Rgba row i bytes = (bytes (4 * i), bytes (4 * i + 1), bytes (4 * i + 2), bytes (4 * i + 3))
+byte_fits : (a : ℕ) → a < 256 → a ≤ 255
+byte_fits a p = omega arith
+
+pub pixel_fits : (depth : Depth) (c : Components) (row : List ℕ) (i : ℕ) → ((j : ℕ) → slice_index row j < 256) → IsOfDepth depth (pixel_in depth c row i)
+pixel_fits Byte components.Rgba row i bytes = (byte_fits _ (bytes (4 * i)), byte_fits _ (bytes (4 * i + 1)), byte_fits _ (bytes (4 * i + 2)), byte_fits _ (bytes (4 * i + 3)))
 pixel_fits Short components.Rgba row i bytes = (
   short_fits _ _ (bytes (2 * (4 * i))) (bytes (2 * (4 * i) + 1)),
   short_fits _ _ (bytes (2 * (4 * i + 1))) (bytes (2 * (4 * i + 1) + 1)),
   short_fits _ _ (bytes (2 * (4 * i + 2))) (bytes (2 * (4 * i + 2) + 1)),
   short_fits _ _ (bytes (2 * (4 * i + 3))) (bytes (2 * (4 * i + 3) + 1)),
 )
-pixel_fits Byte components.Alpha row i bytes = bytes i
+pixel_fits Byte components.Alpha row i bytes = byte_fits _ (bytes i)
 pixel_fits Short components.Alpha row i bytes = short_fits _ _ (bytes (2 * i)) (bytes (2 * i + 1))
 
 pub pixel_components : (depth : Depth) (c : Components) (row : List ℕ) (i : ℕ) → components_of (pixel_in depth c row i) ≡ c
@@ -127,10 +130,10 @@ pixel_components depth components.Rgba row i = refl
 pixel_components depth components.Alpha row i = refl
 
 -- a part of a row of bytes is of bytes
-pub run_of_bytes : (xs : List ℕ) (from n : ℕ) → ((j : ℕ) → slice_index xs j ≤ 255) → (j : ℕ) → slice_index (take n (drop from xs)) j ≤ 255
+pub run_of_bytes : (xs : List ℕ) (from n : ℕ) → ((j : ℕ) → slice_index xs j < 256) → (j : ℕ) → slice_index (take n (drop from xs)) j < 256
 run_of_bytes xs from n bytes j = go (cases_lt j n)
   where
-    go : (j < n) ⊎ (n ≤ j) → slice_index (take n (drop from xs)) j ≤ 255
+    go : (j < n) ⊎ (n ≤ j) → slice_index (take n (drop from xs)) j < 256
     go (inl low) = rw (read_run xs from n j low) (bytes (from + j))
     go (inr high) = let none : slice_index (take n (drop from xs)) j ≡ 0 = grind (arith, places) in rw none (omega arith)
 

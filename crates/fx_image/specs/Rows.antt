@@ -45,7 +45,7 @@ IsKept s = (s.step * s.pitch < 2 ^ 32) × HasRows s
 
 -- the blocks are of bytes
 abbrev pub AreBytes : List (List ℕ) → Type 0
-AreBytes blocks = (k i : ℕ) → slice_index (slice_index_or blocks k []) i ≤ 255
+AreBytes blocks = (k i : ℕ) → slice_index (slice_index_or blocks k []) i < 256
 
 -- how many rows block k has: `step`, or as many as are left
 abbrev pub rows_in : Raster → ℕ → ℕ

@@ -5,6 +5,7 @@ ghost use Rattle.std.specs.Borrow.{sem};
 ghost use Rattle.fx_image.specs.Rows.{Raster, row_of, HasRows, AreBytes, AreBlocks, HaveRows, no_rows};
 ghost use Rattle.fx_image.specs.RowsLending.{LendsBytes, LendsRun};
 
+use crate::samples::are_bytes;
 use std::alloc::{AllocError, Global};
 use std::marker::Model;
 
@@ -32,9 +33,9 @@ impl Block {
 
     // Its items are bytes. It computes nothing.
     fn is_bytes(&self)
-        ensures { (i : ℕ) → slice_index self.now i ≤ 255 }
+        ensures { (i : ℕ) → slice_index self.now i < 256 }
     {
-        items_are_bytes(&self.bytes);
+        are_bytes(&self.bytes);
     }
 
     fn run_mut(&mut self, from: usize, to: usize) -> &mut [u8]
@@ -44,13 +45,6 @@ impl Block {
     {
         self.bytes.slice_mut(from..to)
     }
-}
-
-// The items of a slice of bytes are bytes. It computes nothing.
-fn items_are_bytes(bytes: &[u8])
-    ensures { (i : ℕ) → slice_index bytes.now i ≤ 255 }
-{
-    let _len = bytes.len();
 }
 
 /// Rows of `pitch` bytes, `step` of them in each block.

@@ -1,6 +1,6 @@
 //! Samples and pixels in the bytes of a row: a pixel's samples stand in the order r, g, b, a, a short
 //! sample with the more significant byte first. Kernels read and write rows through these.
-ghost use Rattle.std.specs.Prelude.{◌≡◌, ◌≢◌, ◌≤◌, ◌<◌, ◌⊎◌, ◌+◌, ◌*◌, ℕ, length};
+ghost use Rattle.std.specs.Prelude.{◌≡◌, ◌≢◌, ◌≤◌, ◌<◌, ◌⊎◌, ◌+◌, ◌*◌, ℕ, length, slice_index};
 ghost use Rattle.fx_pixel.specs.Pixel.{size, greatest, components_of, IsOfDepth};
 ghost use Rattle.fx_image.specs.Stored.{pixel_size, sample_in, pixel_in};
 
@@ -99,3 +99,8 @@ pub fn copy_pixels(
     let size = pixel_size(depth, components);
     row[first * size..(first + count) * size].copy_from_slice(source);
 }
+
+/// It computes nothing: its contract tells a proof that each byte is below 256.
+pub fn are_bytes(bytes: &[u8])
+    ensures { (i : ℕ) → slice_index bytes.now i < 256 }
+{}

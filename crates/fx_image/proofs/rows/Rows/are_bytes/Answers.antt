@@ -8,16 +8,16 @@ use Rattle.fx_image.proofs.rows.Rows.are_bytes.Goals as goal
 pub loop-block-preserved : goal.loop-block-preserved
 loop-block-preserved c k i low =
     let item = get_or_read c.deref-block-items.result.now c.loop-block.block-index c.block-item.result c.loop-block-test.true c.block-item.is [] in
-    below_more (λ (n : ℕ). slice_index (slice_index_or c.deref-block-items.result.now n []) i ≤ 255) c.loop-block.block-index
-    (λ n h. c.loop-block.invariant n i h) (subst (λ (b : List ℕ). slice_index b i ≤ 255) item (c.is_bytes.ensures i)) k low
+    below_more (λ (n : ℕ). slice_index (slice_index_or c.deref-block-items.result.now n []) i < 256) c.loop-block.block-index
+    (λ n h. c.loop-block.invariant n i h) (subst (λ (b : List ℕ). slice_index b i < 256) item (c.is_bytes.ensures i)) k low
 
 -- a block that isn't there has no bytes
-none_there : (blocks : List (List ℕ)) (n : ℕ) → length blocks ≤ n → ((k i : ℕ) → k < n → slice_index (slice_index_or blocks k []) i ≤ 255) → AreBytes blocks
+none_there : (blocks : List (List ℕ)) (n : ℕ) → length blocks ≤ n → ((k i : ℕ) → k < n → slice_index (slice_index_or blocks k []) i < 256) → AreBytes blocks
 none_there blocks n all below k i = go (cases_lt k n)
   where
-    go : (k < n) ⊎ (n ≤ k) → slice_index (slice_index_or blocks k []) i ≤ 255
+    go : (k < n) ⊎ (n ≤ k) → slice_index (slice_index_or blocks k []) i < 256
     go (inl low) = below k i low
-    go (inr high) = let past : length blocks ≤ k = omega arith in subst (λ (b : List ℕ). slice_index b i ≤ 255) (sym (get_or_past blocks k [] past)) (omega arith)
+    go (inr high) = let past : length blocks ≤ k = omega arith in subst (λ (b : List ℕ). slice_index b i < 256) (sym (get_or_past blocks k [] past)) (omega arith)
 
 pub returns : goal.returns
 returns c =
