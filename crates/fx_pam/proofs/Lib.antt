@@ -3,7 +3,7 @@ pub mod LineLemmas
 pub mod WrittenLines
 pub mod WrittenNumbers
 pub mod WrittenHeader
-pub mod Pieces
+pub mod Chunks
 pub mod WrittenSamples
 pub mod WrittenRaster
 pub mod ReadingLaws

@@ -4,8 +4,8 @@ use Rattle.std.specs.Prelude.{◌==◌}
 use Rattle.std.proofs.Common.{ltb, cond, Some, None}
 use Rattle.std.specs.List.{position, position_or_len}
 use Rattle.std.proofs.lemmas.Bool.Decides.{nat_tests}
-use Rattle.fx_pam.specs.declared.header.Turn.{Turn}
-use Rattle.fx_pam.specs.declared.numbers.Numbers.{Numbers}
+use Rattle.fx_pam.specs.declared.header.AfterLine.{AfterLine}
+use Rattle.fx_pam.specs.declared.numbers.HeaderSoFar.{HeaderSoFar}
 use Rattle.fx_pam.specs.Header.{Saying, IsWrongAt, lines_of, with_first, trimmed, saying_of, header_of, header_by}
 use Rattle.fx_pam.specs.Seen.{Leads, led}
 
@@ -42,15 +42,15 @@ stands_at : (n len k : ℕ) → cond (ltb n len) (Some n) None ≡ Some k → (n
 stands_at n len k some = (grind (arith, nat_tests), grind (arith, nat_tests))
 
 -- without a line feed there is no line
-pub header_past : (line : ℕ) (n : Numbers) (bytes : List ℕ) → position (λ b. b == 10) bytes ≡ None → header_of line n (lines_of bytes) ≡ IsWrongAt line
+pub header_past : (line : ℕ) (n : HeaderSoFar) (bytes : List ℕ) → position (λ b. b == 10) bytes ≡ None → header_of line n (lines_of bytes) ≡ IsWrongAt line
 header_past line n bytes none = ap (header_of line n) (lines_of-none bytes (past_all (line_length bytes) (length bytes) none))
 
 lines_at : (bytes : List ℕ) (k : ℕ) → line_length bytes ≡ k → k < length bytes → lines_of bytes ≡ record { line = take k bytes; behind = drop (k + 1) bytes } ∷ lines_of (drop (k + 1) bytes)
 lines_at bytes k is low = rw (← is) (lines_of-first bytes (rw is low))
 
--- the first line, which ends at k, leads to what the reader's turn leads to
-pub turned : (line : ℕ) (n : Numbers) (bytes : List ℕ) (k : ℕ) (said : Saying) (turn : Turn) → position (λ b. b == 10) bytes ≡ Some k → said ≡ saying_of (trimmed (take k bytes)) → Leads n said turn → header_of line n (lines_of bytes) ≡ led turn line (drop (k + 1) bytes) (λ l m. header_of l m (lines_of (drop (k + 1) bytes)))
-turned line n bytes k said turn found is leads =
+-- the first line, which ends at k, leads to what the reader goes on with
+pub line_leads : (line : ℕ) (n : HeaderSoFar) (bytes : List ℕ) (k : ℕ) (said : Saying) (after : AfterLine) → position (λ b. b == 10) bytes ≡ Some k → said ≡ saying_of (trimmed (take k bytes)) → Leads n said after → header_of line n (lines_of bytes) ≡ led after line (drop (k + 1) bytes) (λ l m. header_of l m (lines_of (drop (k + 1) bytes)))
+line_leads line n bytes k said after found is leads =
     let at = stands_at (line_length bytes) (length bytes) k found in
     let low : k < length bytes = omega (arith, at.0, at.1) in
     ap (header_of line n) (lines_at bytes k at.0 low)

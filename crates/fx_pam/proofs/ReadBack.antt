@@ -10,13 +10,13 @@ use Rattle.fx_pixel.specs.declared.Depth.TheVariants.{Byte, Short}
 use Rattle.fx_pixel.specs.declared.Format.{Format}
 use Rattle.fx_pixel.specs.Pixel.{greatest, size}
 use Rattle.fx_image.specs.Image.{Image, pixel_at}
-use Rattle.fx_pam.specs.declared.numbers.Sizes.{Sizes}
+use Rattle.fx_pam.specs.declared.numbers.HeaderNumbers.{HeaderNumbers}
 use Rattle.fx_pam.specs.Header.{Reads}
 use Rattle.fx_pam.specs.Text.{format_depth, samples_of, sample_bytes, header, raster, pam_text}
 use Rattle.fx_pam.specs.Reading.{Header, header_with, header_in, is_pam, depth_of, sample_count, sample_at, pixel_of, IsPam}
 use Rattle.fx_pam.specs.Raster.{IsWhole}
 use Rattle.fx_pam.specs.Laws.{CanBeRead, read_pixel, read_back}
-use Rattle.fx_pam.proofs.Pieces.{up_to-at}
+use Rattle.fx_pam.proofs.Chunks.{up_to-at}
 use Rattle.fx_pam.proofs.WrittenSamples.{length-bytes, sample-back}
 use Rattle.fx_pam.proofs.WrittenHeader.{few_samples, header_in-header, is_pam-header}
 use Rattle.fx_pam.proofs.WrittenRaster.{all_samples, raster-samples, HasPixels, length-all, up_to-all, sample-all}
@@ -28,14 +28,14 @@ greatest_for Byte = (omega arith, omega arith)
 greatest_for Short = (omega arith, omega arith)
 
 module _ (format : Format) (side : ℕ) (image : Image) (rest : List ℕ) (is : CanBeRead format side image) where
-  abbrev sizes : Sizes
-  sizes = record { width = is.width; height = is.height; depth = format_depth format; maxval = greatest image.depth }
+  abbrev numbers : HeaderNumbers
+  numbers = record { width = is.width; height = is.height; depth = format_depth format; maxval = greatest image.depth }
 
   abbrev written : List ℕ
   written = raster format image is.height
 
   abbrev read_header : Header
-  read_header = header_with sizes (written ++ rest)
+  read_header = header_with numbers (written ++ rest)
 
   columns_are : columns image.rect ≡ is.width
   columns_are = ap columns is.rect ∙ omega arith
@@ -83,7 +83,7 @@ module _ (format : Format) (side : ℕ) (image : Image) (rest : List ℕ) (is : 
       ∙ ap (λ n. (header is.width n format (greatest image.depth) ++ raster format image n) ++ rest) rows_are
       ∙ append_assoc (header is.width is.height format (greatest image.depth)) written rest
 
-  reads : header_in (pam_text format image ++ rest) ≡ Reads sizes (written ++ rest)
+  reads : header_in (pam_text format image ++ rest) ≡ Reads numbers (written ++ rest)
   reads = ap header_in text_is ∙ header_in-header is.width is.height format (greatest image.depth) (written ++ rest) is.wide.2 is.high.2 (omega (arith, (greatest_for image.depth).1))
 
   begins : is_pam (pam_text format image ++ rest) ≡ true
@@ -107,10 +107,10 @@ module _ (format : Format) (side : ℕ) (image : Image) (rest : List ℕ) (is : 
 
   pub written_reads_back : IsPam (pam_text format image ++ rest) side (read_back format image)
   written_reads_back = record {
-    sizes = sizes;
+    numbers = numbers;
     behind = written ++ rest;
     reads = reads;
-    no_fault = whole-no_fault (pam_text format image ++ rest) side sizes (written ++ rest) begins reads whole;
+    no_fault = whole-no_fault (pam_text format image ++ rest) side numbers (written ++ rest) begins reads whole;
     rect = back-rect format image ∙ is.rect;
     depth = back-depth format image ∙ sym depth_is;
     components = back-components format image is.components;

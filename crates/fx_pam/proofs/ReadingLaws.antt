@@ -5,7 +5,7 @@ use Rattle.std.proofs.lemmas.Bool.Decides.{nat_tests}
 use Rattle.fx_pixel.specs.declared.Depth.{Depth}
 use Rattle.fx_pixel.specs.declared.Depth.TheVariants.{Byte, Short}
 use Rattle.fx_pixel.specs.Pixel.{greatest, size}
-use Rattle.fx_pam.specs.declared.numbers.Sizes.{Sizes}
+use Rattle.fx_pam.specs.declared.numbers.HeaderNumbers.{HeaderNumbers}
 use Rattle.fx_pam.specs.Header.{Reads}
 use Rattle.fx_pam.specs.Raster.{IsWhole}
 use Rattle.fx_pam.specs.Reading.{Header, header_with, header_in, is_pam, is_outside, field_out_of_range, sample_size, depth_of, sample_count, raster_length, sample_at, scaled, first_above, sample_fault, raster_fault, field_fault, header_fault, pam_fault}
@@ -25,9 +25,9 @@ whole-raster : (side : ℕ) (h : Header) → IsWhole side h → raster_fault h �
 whole-raster side h is = rw (le-ltb (length h.behind) (raster_length h) is.long) (ap (sample_fault h) (none-above h 0 (sample_count h) (λ i low. is.low i (omega arith))))
 
 -- such a file has no fault
-pub whole-no_fault : (bytes : List ℕ) (side : ℕ) (sizes : Sizes) (behind : List ℕ) → is_pam bytes ≡ true → header_in bytes ≡ Reads sizes behind → IsWhole side (header_with sizes behind) → pam_fault bytes side ≡ None
-whole-no_fault bytes side sizes behind pam reads is =
-    rw pam (ap (header_fault side) reads ∙ ap (field_fault (header_with sizes behind)) (whole-fields side (header_with sizes behind) is) ∙ whole-raster side (header_with sizes behind) is)
+pub whole-no_fault : (bytes : List ℕ) (side : ℕ) (numbers : HeaderNumbers) (behind : List ℕ) → is_pam bytes ≡ true → header_in bytes ≡ Reads numbers behind → IsWhole side (header_with numbers behind) → pam_fault bytes side ≡ None
+whole-no_fault bytes side numbers behind pam reads is =
+    rw pam (ap (header_fault side) reads ∙ ap (field_fault (header_with numbers behind)) (whole-fields side (header_with numbers behind) is) ∙ whole-raster side (header_with numbers behind) is)
 
 -- the greatest value of a depth shows the depth, and how many bytes a sample has
 pub depth-shown : (h : Header) (depth : Depth) → h.maxval ≡ greatest depth → depth_of h ≡ depth

@@ -5,7 +5,7 @@ use Rattle.fx_pixel.specs.declared.Format.{Format}
 use Rattle.fx_pixel.specs.declared.Format.TheVariants.{RgbAlpha, Rgb, Grayscale}
 use Rattle.fx_pam.specs.declared.fault.PamField.{PamField}
 use Rattle.fx_pam.specs.declared.fault.PamField.TheVariants.{Width, Height, Depth, Maxval}
-use Rattle.fx_pam.specs.declared.numbers.Numbers.{Numbers}
+use Rattle.fx_pam.specs.declared.numbers.HeaderSoFar.{HeaderSoFar}
 use Rattle.fx_pam.specs.Header.{Number, Reads, lines_of, is_blank, trimmed, saying_of, no_numbers, number_of, with_number, header_of, header_by}
 use Rattle.fx_pam.specs.Reading.{header_in, is_pam}
 use Rattle.fx_pam.specs.Text.{format_depth, format_name, header}
@@ -38,21 +38,21 @@ number-trimmed first others n kept small =
     rw split (trimmed-whole first ends.last (others ++ ends.front) kept ends.kept)
 
 -- a line that says a number
-header-number : (line : ℕ) (numbers : Numbers) (field : PamField) (first : ℕ) (others : List ℕ) (n : ℕ) (rest : List ℕ) → IsWord field first others → n ≤ 999999999 → number_of numbers field ≡ None
-    → header_of line numbers (lines_of ((first ∷ (others ++ decimal n)) ++ 10 ∷ rest)) ≡ header_of (line + 1) (with_number numbers field n) (lines_of rest)
-header-number line numbers field first others n rest word small new =
+header-number : (line : ℕ) (so_far : HeaderSoFar) (field : PamField) (first : ℕ) (others : List ℕ) (n : ℕ) (rest : List ℕ) → IsWord field first others → n ≤ 999999999 → number_of so_far field ≡ None
+    → header_of line so_far (lines_of ((first ∷ (others ++ decimal n)) ++ 10 ∷ rest)) ≡ header_of (line + 1) (with_number so_far field n) (lines_of rest)
+header-number line so_far field first others n rest word small new =
     let text = first ∷ (others ++ decimal n) in
     let is_line : IsLine text = line-append (first ∷ others) (decimal n) word.line (digits-line (decimal n) (decimal-digits n small)) in
     let says : saying_of (trimmed text) ≡ Number field n = ap saying_of (number-trimmed first others n word.kept small) ∙ word.says n small in
-    ap (header_of line numbers) (lines_of-line text rest is_line)
-    ∙ ap (λ s. header_by line numbers s rest (λ l m. header_of l m (lines_of rest))) says
+    ap (header_of line so_far) (lines_of-line text rest is_line)
+    ∙ ap (λ s. header_by line so_far s rest (λ l m. header_of l m (lines_of rest))) says
     ∙ rw new refl
 
 -- the line of the tuple type says nothing
-tuple-type : (line : ℕ) (numbers : Numbers) (format : Format) (rest : List ℕ) → header_of line numbers (lines_of ((codes "TUPLTYPE " ++ format_name format) ++ 10 ∷ rest)) ≡ header_of (line + 1) numbers (lines_of rest)
-tuple-type line numbers RgbAlpha rest = refl
-tuple-type line numbers Rgb rest = refl
-tuple-type line numbers Grayscale rest = refl
+tuple-type : (line : ℕ) (so_far : HeaderSoFar) (format : Format) (rest : List ℕ) → header_of line so_far (lines_of ((codes "TUPLTYPE " ++ format_name format) ++ 10 ∷ rest)) ≡ header_of (line + 1) so_far (lines_of rest)
+tuple-type line so_far RgbAlpha rest = refl
+tuple-type line so_far Rgb rest = refl
+tuple-type line so_far Grayscale rest = refl
 
 -- a pixel has 1 to 4 samples
 pub few_samples : (format : Format) → (1 ≤ format_depth format) × (format_depth format ≤ 4)

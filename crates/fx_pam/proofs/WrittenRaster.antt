@@ -11,35 +11,35 @@ use Rattle.fx_pixel.specs.Pixel.{greatest}
 use Rattle.fx_image.specs.Image.{Image, pixel_at}
 use Rattle.fx_pam.specs.Text.{format_depth, samples_of, sample_bytes, row_bytes, raster}
 use Rattle.fx_pam.specs.Laws.{IsPixelFor}
-use Rattle.fx_pam.proofs.Pieces.{pieces, pieces-same, length-pieces, get_or-pieces, AllUpTo, up_to-pieces}
-use Rattle.fx_pam.proofs.WrittenSamples.{bytes-pieces}
+use Rattle.fx_pam.proofs.Chunks.{chunks, chunks-same, length-chunks, get_or-chunks, AllUpTo, up_to-chunks}
+use Rattle.fx_pam.proofs.WrittenSamples.{bytes-chunks}
 
 -- the samples of row r from the top, and those of the first n rows, where a row has `width` pixels
 abbrev pub row_samples : Format → Image → ℕ → ℕ → List ℕ
-row_samples format image width r = pieces (λ c. samples_of format (pixel_at image (image.rect.x1 +ℤ pos c) (image.rect.y2 -ℤ pos (r + 1)))) width
+row_samples format image width r = chunks (λ c. samples_of format (pixel_at image (image.rect.x1 +ℤ pos c) (image.rect.y2 -ℤ pos (r + 1)))) width
 
 abbrev pub all_samples : Format → Image → ℕ → ℕ → List ℕ
-all_samples format image width n = pieces (λ r. row_samples format image width r) n
+all_samples format image width n = chunks (λ r. row_samples format image width r) n
 
-row_bytes-samples : (format : Format) (image : Image) (y : ℤ) (n : ℕ) → row_bytes format image y n ≡ pieces (λ c. sample_bytes image.depth (samples_of format (pixel_at image (image.rect.x1 +ℤ pos c) y))) n
+row_bytes-samples : (format : Format) (image : Image) (y : ℤ) (n : ℕ) → row_bytes format image y n ≡ chunks (λ c. sample_bytes image.depth (samples_of format (pixel_at image (image.rect.x1 +ℤ pos c) y))) n
 row_bytes-samples format image y zero = refl
 row_bytes-samples format image y (suc n) = ap (λ bs. bs ++ sample_bytes image.depth (samples_of format (pixel_at image (image.rect.x1 +ℤ pos n) y))) (row_bytes-samples format image y n)
 
 row-samples : (format : Format) (image : Image) (width r : ℕ) → row_bytes format image (image.rect.y2 -ℤ pos (r + 1)) width ≡ sample_bytes image.depth (row_samples format image width r)
 row-samples format image width r =
     row_bytes-samples format image (image.rect.y2 -ℤ pos (r + 1)) width
-    ∙ sym (bytes-pieces image.depth (λ c. samples_of format (pixel_at image (image.rect.x1 +ℤ pos c) (image.rect.y2 -ℤ pos (r + 1)))) width)
+    ∙ sym (bytes-chunks image.depth (λ c. samples_of format (pixel_at image (image.rect.x1 +ℤ pos c) (image.rect.y2 -ℤ pos (r + 1)))) width)
 
-raster-rows : (format : Format) (image : Image) (n : ℕ) → raster format image n ≡ pieces (λ r. row_bytes format image (image.rect.y2 -ℤ pos (r + 1)) (columns image.rect)) n
+raster-rows : (format : Format) (image : Image) (n : ℕ) → raster format image n ≡ chunks (λ r. row_bytes format image (image.rect.y2 -ℤ pos (r + 1)) (columns image.rect)) n
 raster-rows format image zero = refl
 raster-rows format image (suc n) = ap (λ bs. bs ++ row_bytes format image (image.rect.y2 -ℤ pos (n + 1)) (columns image.rect)) (raster-rows format image n)
 
 pub raster-samples : (format : Format) (image : Image) (width n : ℕ) → columns image.rect ≡ width → raster format image n ≡ sample_bytes image.depth (all_samples format image width n)
 raster-samples format image width n wide =
     raster-rows format image n
-    ∙ ap (λ w. pieces (λ r. row_bytes format image (image.rect.y2 -ℤ pos (r + 1)) w) n) wide
-    ∙ pieces-same _ _ n (λ r. row-samples format image width r)
-    ∙ sym (bytes-pieces image.depth (λ r. row_samples format image width r) n)
+    ∙ ap (λ w. chunks (λ r. row_bytes format image (image.rect.y2 -ℤ pos (r + 1)) w) n) wide
+    ∙ chunks-same _ _ n (λ r. row-samples format image width r)
+    ∙ sym (bytes-chunks image.depth (λ r. row_samples format image width r) n)
 
 -- a pixel's samples are as many as the format says, and at most the depth's greatest
 pub length-samples_of : (format : Format) (depth : Depth) (p : Pixel) → IsPixelFor format depth p → length (samples_of format p) ≡ format_depth format
@@ -62,13 +62,13 @@ HasPixels format image width height = (r c : ℕ) → r < height → c < width �
 
 module _ (format : Format) (image : Image) (width height : ℕ) (has : HasPixels format image width height) where
   length-row : (r : ℕ) → r < height → length (row_samples format image width r) ≡ width * format_depth format
-  length-row r low = length-pieces _ width (format_depth format) (λ c h. length-samples_of format image.depth _ (has r c low h))
+  length-row r low = length-chunks _ width (format_depth format) (λ c h. length-samples_of format image.depth _ (has r c low h))
 
   pub length-all : length (all_samples format image width height) ≡ height * (width * format_depth format)
-  length-all = length-pieces _ height (width * format_depth format) length-row
+  length-all = length-chunks _ height (width * format_depth format) length-row
 
   pub up_to-all : AllUpTo (greatest image.depth) (all_samples format image width height)
-  up_to-all = up_to-pieces (greatest image.depth) _ height (λ r low. up_to-pieces (greatest image.depth) _ width (λ c h. up_to-samples_of format image.depth _ (has r c low h)))
+  up_to-all = up_to-chunks (greatest image.depth) _ height (λ r low. up_to-chunks (greatest image.depth) _ width (λ c h. up_to-samples_of format image.depth _ (has r c low h)))
 
   pub sample-all : (r c k : ℕ) → r < height → c < width → k < format_depth format
       → get_or (all_samples format image width height) ((r * width + c) * format_depth format + k) 0 ≡ get_or (samples_of format (pixel_at image (image.rect.x1 +ℤ pos c) (image.rect.y2 -ℤ pos (r + 1)))) k 0
@@ -78,6 +78,6 @@ module _ (format : Format) (image : Image) (width height : ℕ) (has : HasPixels
       let in_row : c * d + k < width * d = omega (arith, room, suc-mul c d) in
       let place : (r * width + c) * d + k ≡ r * (width * d) + (c * d + k) = omega arith in
       rw place (
-      get_or-pieces (λ i. row_samples format image width i) height (width * d) r (c * d + k) length-row low in_row
-      ∙ get_or-pieces (λ i. samples_of format (pixel_at image (image.rect.x1 +ℤ pos i) (image.rect.y2 -ℤ pos (r + 1)))) width d c k (λ i h. length-samples_of format image.depth _ (has r i low h)) left within
+      get_or-chunks (λ i. row_samples format image width i) height (width * d) r (c * d + k) length-row low in_row
+      ∙ get_or-chunks (λ i. samples_of format (pixel_at image (image.rect.x1 +ℤ pos i) (image.rect.y2 -ℤ pos (r + 1)))) width d c k (λ i h. length-samples_of format image.depth _ (has r i low h)) left within
       )

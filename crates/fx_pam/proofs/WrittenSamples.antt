@@ -5,7 +5,7 @@ use Rattle.fx_pixel.specs.declared.Depth.TheVariants.{Byte, Short}
 use Rattle.fx_pixel.specs.Pixel.{size}
 use Rattle.fx_image.specs.Stored.{sample_in}
 use Rattle.fx_pam.specs.Text.{sample_bytes}
-use Rattle.fx_pam.proofs.Pieces.{pieces}
+use Rattle.fx_pam.proofs.Chunks.{chunks}
 
 pub bytes-append : (depth : Depth) (xs ys : List ℕ) → sample_bytes depth (xs ++ ys) ≡ sample_bytes depth xs ++ sample_bytes depth ys
 bytes-append Byte [] ys = refl
@@ -13,11 +13,11 @@ bytes-append Byte (x ∷ xs) ys = ap (λ bs. x ∷ bs) (bytes-append Byte xs ys)
 bytes-append Short [] ys = refl
 bytes-append Short (x ∷ xs) ys = ap (λ bs. x / 256 ∷ x % 256 ∷ bs) (bytes-append Short xs ys)
 
--- pieces of samples are pieces of bytes
-pub bytes-pieces : (depth : Depth) (f : ℕ → List ℕ) (n : ℕ) → sample_bytes depth (pieces f n) ≡ pieces (λ k. sample_bytes depth (f k)) n
-bytes-pieces Byte f zero = refl
-bytes-pieces Short f zero = refl
-bytes-pieces depth f (suc n) = bytes-append depth (pieces f n) (f n) ∙ ap (λ bs. bs ++ sample_bytes depth (f n)) (bytes-pieces depth f n)
+-- chunks of samples are chunks of bytes
+pub bytes-chunks : (depth : Depth) (f : ℕ → List ℕ) (n : ℕ) → sample_bytes depth (chunks f n) ≡ chunks (λ k. sample_bytes depth (f k)) n
+bytes-chunks Byte f zero = refl
+bytes-chunks Short f zero = refl
+bytes-chunks depth f (suc n) = bytes-append depth (chunks f n) (f n) ∙ ap (λ bs. bs ++ sample_bytes depth (f n)) (bytes-chunks depth f n)
 
 pub length-bytes : (depth : Depth) (xs : List ℕ) → length (sample_bytes depth xs) ≡ length xs * size depth
 length-bytes Byte [] = refl

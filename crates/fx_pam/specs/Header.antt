@@ -4,24 +4,25 @@ use Rattle.std.specs.List.{starts_with}
 use Rattle.std.specs.Str.{bytes_eq, all_ascii_digits}
 use Rattle.std.specs.Str.Parse.{digits_value}
 use Rattle.fx_pam.specs.declared.fault.PamField.{PamField}
-use Rattle.fx_pam.specs.declared.numbers.Numbers.{Numbers}
-use Rattle.fx_pam.specs.declared.numbers.Sizes.{Sizes}
+use Rattle.fx_pam.specs.declared.numbers.HeaderSoFar.{HeaderSoFar}
+use Rattle.fx_pam.specs.declared.numbers.HeaderNumbers.{HeaderNumbers}
 use Rattle.fx_pam.specs.declared.fault.PamField.TheVariants.{Width, Height, Depth, Maxval}
 
 -- a line without its line feed, and the bytes behind it
-pub record Piece : Type 0 where
+pub record HeaderLine : Type 0 where
   pub line : List ℕ
   pub behind : List ℕ
 
 -- the first byte of a line goes before its others
-abbrev pub with_first : ℕ → List Piece → List Piece
+abbrev pub with_first : ℕ → List HeaderLine → List HeaderLine
 with_first b [] = []
-with_first b (p ∷ pieces) = record { line = b ∷ p.line; behind = p.behind } ∷ pieces
+with_first b (p ∷ lines) = record { line = b ∷ p.line; behind = p.behind } ∷ lines
 
 -- the lines that a line feed ends; what stands behind the last one is no line
-abbrev pub lines_of : List ℕ → List Piece
+abbrev pub lines_of : List ℕ → List HeaderLine
 lines_of [] = []
-lines_of (b ∷ bytes) = if b == 10 then record { line = []; behind = bytes } ∷ lines_of bytes else with_first b (lines_of bytes)
+lines_of (b ∷ bytes) =
+    if b == 10 then record { line = []; behind = bytes } ∷ lines_of bytes else with_first b (lines_of bytes)
 
 -- a space, a tab or a carriage return
 abbrev pub is_blank : ℕ → Bool
@@ -52,7 +53,10 @@ without_spaces (b ∷ rest) = if is_space b then without_spaces rest else b ∷ 
 
 -- one or more decimal digits: their number, where one above 999,999,999 counts as that
 abbrev pub number_in : List ℕ → Option ℕ
-number_in digits = if nat_lt 0 (length digits) && all_ascii_digits digits then Some (min (digits_value 10 digits) 999999999) else None
+number_in digits =
+    if nat_lt 0 (length digits) && all_ascii_digits digits
+    then Some (min (digits_value 10 digits) 999999999)
+    else None
 
 abbrev pub number_said : PamField → Option ℕ → Saying
 number_said field (Some n) = Number field n
@@ -83,48 +87,49 @@ saying_of line =
     else if starts_with nat_eq line (codes "TUPLTYPE") then tuple_type_behind (drop 8 line)
     else Wrong
 
--- No numbers yet. `Numbers` are those that the lines so far gave.
-abbrev pub no_numbers : Numbers
+-- No numbers yet. `HeaderSoFar` are those that the lines so far gave.
+abbrev pub no_numbers : HeaderSoFar
 no_numbers = record { width = None; height = None; depth = None; maxval = None }
 
-abbrev pub number_of : Numbers → PamField → Option ℕ
+abbrev pub number_of : HeaderSoFar → PamField → Option ℕ
 number_of n Width = n.width
 number_of n Height = n.height
 number_of n Depth = n.depth
 number_of n Maxval = n.maxval
 
-abbrev pub with_number : Numbers → PamField → ℕ → Numbers
+abbrev pub with_number : HeaderSoFar → PamField → ℕ → HeaderSoFar
 with_number n Width v = record n { width = Some v }
 with_number n Height v = record n { height = Some v }
 with_number n Depth v = record n { depth = Some v }
 with_number n Maxval v = record n { maxval = Some v }
 
-abbrev pub sizes_from : Option ℕ → Option ℕ → Option ℕ → Option ℕ → Option Sizes
-sizes_from (Some w) (Some h) (Some d) (Some m) = Some (record { width = w; height = h; depth = d; maxval = m })
-sizes_from _ _ _ _ = None
+abbrev pub complete_from : Option ℕ → Option ℕ → Option ℕ → Option ℕ → Option HeaderNumbers
+complete_from (Some w) (Some h) (Some d) (Some m) = Some (record { width = w; height = h; depth = d; maxval = m })
+complete_from _ _ _ _ = None
 
 -- all four numbers, where none is missing
-abbrev pub sizes_of : Numbers → Option Sizes
-sizes_of n = sizes_from n.width n.height n.depth n.maxval
+abbrev pub complete : HeaderSoFar → Option HeaderNumbers
+complete n = complete_from n.width n.height n.depth n.maxval
 
 -- a header's numbers with the bytes behind it, or the number of its first wrong line
 pub data HeaderReading : Type 0 where
-  Reads : Sizes → List ℕ → HeaderReading
+  Reads : HeaderNumbers → List ℕ → HeaderReading
   IsWrongAt : ℕ → HeaderReading
 
 -- the end of the header is wrong while a number is missing
-abbrev pub header_from : ℕ → Option Sizes → List ℕ → HeaderReading
-header_from line (Some sizes) behind = Reads sizes behind
+abbrev pub header_from : ℕ → Option HeaderNumbers → List ℕ → HeaderReading
+header_from line (Some numbers) behind = Reads numbers behind
 header_from line None behind = IsWrongAt line
 
 -- what a line leads to, where `next` reads the lines behind it: a word's second line is wrong
-abbrev pub header_by : ℕ → Numbers → Saying → List ℕ → (ℕ → Numbers → HeaderReading) → HeaderReading
+abbrev pub header_by : ℕ → HeaderSoFar → Saying → List ℕ → (ℕ → HeaderSoFar → HeaderReading) → HeaderReading
 header_by line n Nothing behind next = next (line + 1) n
-header_by line n End behind next = header_from line (sizes_of n) behind
-header_by line n (Number field v) behind next = if is_some (number_of n field) then IsWrongAt line else next (line + 1) (with_number n field v)
+header_by line n End behind next = header_from line (complete n) behind
+header_by line n (Number field v) behind next =
+    if is_some (number_of n field) then IsWrongAt line else next (line + 1) (with_number n field v)
 header_by line n Wrong behind next = IsWrongAt line
 
--- The lines from line number `line` on, where these numbers were given before. A last piece without a line feed is wrong.
-abbrev pub header_of : ℕ → Numbers → List Piece → HeaderReading
+-- The lines from line number `line` on, where these numbers were given before. What stands behind the last line feed is wrong.
+abbrev pub header_of : ℕ → HeaderSoFar → List HeaderLine → HeaderReading
 header_of line n [] = IsWrongAt line
-header_of line n (p ∷ pieces) = header_by line n (saying_of (trimmed p.line)) p.behind (λ l m. header_of l m pieces)
+header_of line n (p ∷ lines) = header_by line n (saying_of (trimmed p.line)) p.behind (λ l m. header_of l m lines)

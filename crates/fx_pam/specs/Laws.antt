@@ -32,7 +32,8 @@ pub record CanBeRead (format : Format) (side : ℕ) (image : Image) : Type 0 whe
   pub wide : IsSide side width
   pub high : IsSide side height
   pub components : image.components ≡ components_for format
-  pub pixels : (x y : ℕ) → x < width → y < height → IsPixelFor format image.depth (pixel_at image (pos x) (pos y))
+  pub pixels :
+    (x y : ℕ) → x < width → y < height → IsPixelFor format image.depth (pixel_at image (pos x) (pos y))
 
 -- The pixel that is read where this one was written, with m the greatest sample: an a that was not written is m, and the one sample of Grayscale is r, g and b.
 abbrev pub read_pixel : Format → ℕ → Pixel → Pixel
@@ -44,4 +45,8 @@ read_pixel format m (Alpha a) = Rgba a a a m
 -- the image that is read where this one was written
 abbrev pub read_back : Format → Image → Image
 read_back RgbAlpha image = image
-read_back format image = record image { components = components.Rgba; pixel = λ x y. read_pixel format (greatest image.depth) (image.pixel x y) }
+read_back format image =
+    record image {
+      components = components.Rgba;
+      pixel = λ x y. read_pixel format (greatest image.depth) (image.pixel x y)
+    }

@@ -13,7 +13,7 @@ use Rattle.fx_pam.specs.declared.fault.PamField.{PamField}
 use Rattle.fx_pam.specs.declared.fault.PamFault.{PamFault}
 use Rattle.fx_pam.specs.declared.fault.PamFault.TheVariants.{NotPam, HeaderWrong, SizeOutOfRange, Truncated, SampleAboveMaxval}
 use Rattle.fx_pam.specs.declared.fault.PamField.TheVariants.{Width, Height, Depth as Components, Maxval}
-use Rattle.fx_pam.specs.declared.numbers.Sizes.{Sizes}
+use Rattle.fx_pam.specs.declared.numbers.HeaderNumbers.{HeaderNumbers}
 use Rattle.fx_pam.specs.Header.{HeaderReading, Reads, IsWrongAt, lines_of, header_of, no_numbers}
 
 -- what a header gives: its four numbers, and the bytes behind it
@@ -24,8 +24,9 @@ pub record Header : Type 0 where
   pub maxval : ℕ
   pub behind : List ℕ
 
-abbrev pub header_with : Sizes → List ℕ → Header
-header_with s behind = record { width = s.width; height = s.height; depth = s.depth; maxval = s.maxval; behind = behind }
+abbrev pub header_with : HeaderNumbers → List ℕ → Header
+header_with n behind =
+    record { width = n.width; height = n.height; depth = n.depth; maxval = n.maxval; behind = behind }
 
 -- a number that isn't from 1 up to the most
 abbrev pub is_outside : ℕ → ℕ → Bool
@@ -83,7 +84,10 @@ sample_fault h None = None
 sample_fault h (Some i) = Some (SampleAboveMaxval i (sample_at h i))
 
 abbrev pub raster_fault : Header → Option PamFault
-raster_fault h = if nat_lt (length h.behind) (raster_length h) then Some (Truncated (raster_length h) (length h.behind)) else sample_fault h (first_above h 0 (sample_count h))
+raster_fault h =
+    if nat_lt (length h.behind) (raster_length h)
+    then Some (Truncated (raster_length h) (length h.behind))
+    else sample_fault h (first_above h 0 (sample_count h))
 
 abbrev pub field_fault : Header → Option PamField → Option PamFault
 field_fault h (Some field) = Some (SizeOutOfRange field)
@@ -91,7 +95,7 @@ field_fault h None = raster_fault h
 
 abbrev pub header_fault : ℕ → HeaderReading → Option PamFault
 header_fault side (IsWrongAt line) = Some (HeaderWrong line)
-header_fault side (Reads sizes behind) = let h = header_with sizes behind in field_fault h (field_out_of_range side h)
+header_fault side (Reads numbers behind) = let h = header_with numbers behind in field_fault h (field_out_of_range side h)
 
 -- the header of a file, whose line `P7` has number 1
 abbrev pub header_in : List ℕ → HeaderReading
@@ -106,11 +110,13 @@ pam_fault bytes side = if is_pam bytes then header_fault side (header_in bytes) 
 
 -- The bytes have no fault, and this is their image: RGBA over the rectangle from (0, 0), the last row of the file at the bottom.
 pub record IsPam (bytes : List ℕ) (side : ℕ) (image : Image) : Type 0 where
-  pub sizes : Sizes
+  pub numbers : HeaderNumbers
   pub behind : List ℕ
-  pub reads : header_in bytes ≡ Reads sizes behind
+  pub reads : header_in bytes ≡ Reads numbers behind
   pub no_fault : pam_fault bytes side ≡ None
-  pub rect : image.rect ≡ record { x1 = pos 0; y1 = pos 0; x2 = pos sizes.width; y2 = pos sizes.height }
-  pub depth : image.depth ≡ depth_of (header_with sizes behind)
+  pub rect : image.rect ≡ record { x1 = pos 0; y1 = pos 0; x2 = pos numbers.width; y2 = pos numbers.height }
+  pub depth : image.depth ≡ depth_of (header_with numbers behind)
   pub components : image.components ≡ components.Rgba
-  pub pixels : (r c : ℕ) → r < sizes.height → c < sizes.width → pixel_at image (pos c) (pos (sizes.height - 1 - r)) ≡ pixel_of (header_with sizes behind) r c
+  pub pixels :
+    (r c : ℕ) → r < numbers.height → c < numbers.width
+    → pixel_at image (pos c) (pos (numbers.height - 1 - r)) ≡ pixel_of (header_with numbers behind) r c

@@ -38,18 +38,24 @@ sample_bytes Short (s ∷ samples) = s / 256 ∷ s % 256 ∷ sample_bytes Short 
 -- each line ends with one line feed, and numbers are plain decimal
 abbrev pub header : ℕ → ℕ → Format → ℕ → List ℕ
 header width height format maxval =
-    codes "P7\nWIDTH " ++ decimal width ++ codes "\nHEIGHT " ++ decimal height ++ codes "\nDEPTH " ++ decimal (format_depth format) ++ codes "\nMAXVAL " ++ decimal maxval
+    codes "P7\nWIDTH " ++ decimal width ++ codes "\nHEIGHT " ++ decimal height
+    ++ codes "\nDEPTH " ++ decimal (format_depth format) ++ codes "\nMAXVAL " ++ decimal maxval
     ++ codes "\nTUPLTYPE " ++ format_name format ++ codes "\nENDHDR\n"
 
 -- the first n pixels from the left of the row at y
 abbrev pub row_bytes : Format → Image → ℤ → ℕ → List ℕ
 row_bytes format image y zero = []
-row_bytes format image y (suc n) = row_bytes format image y n ++ sample_bytes image.depth (samples_of format (pixel_at image (image.rect.x1 +ℤ pos n) y))
+row_bytes format image y (suc n) =
+    row_bytes format image y n
+    ++ sample_bytes image.depth (samples_of format (pixel_at image (image.rect.x1 +ℤ pos n) y))
 
 -- the first n rows from the top
 abbrev pub raster : Format → Image → ℕ → List ℕ
 raster format image zero = []
-raster format image (suc n) = raster format image n ++ row_bytes format image (image.rect.y2 -ℤ pos (n + 1)) (columns image.rect)
+raster format image (suc n) =
+    raster format image n ++ row_bytes format image (image.rect.y2 -ℤ pos (n + 1)) (columns image.rect)
 
 abbrev pub pam_text : Format → Image → List ℕ
-pam_text format image = header (columns image.rect) (rows image.rect) format (greatest image.depth) ++ raster format image (rows image.rect)
+pam_text format image =
+    header (columns image.rect) (rows image.rect) format (greatest image.depth)
+    ++ raster format image (rows image.rect)

@@ -5,7 +5,7 @@ ghost use Rattle.fx_pam.specs.Header.{is_blank, without_blanks, trimmed, is_spac
 ghost use Rattle.fx_pam.specs.Seen.{seen, Leads, reading_of};
 
 use crate::PamField;
-use crate::numbers::{Numbers, Sizes};
+use crate::numbers::{HeaderSoFar, HeaderNumbers};
 
 /// What a line of the header says.
 #[derive(Clone, Copy, Debug, PartialEq, Eq)]
@@ -137,26 +137,26 @@ fn saying_of(line: &[u8]) -> Said
 
 // What a line leads to: the numbers to go on with, all four of them, or a wrong header.
 #[derive(Clone, Copy, Debug, PartialEq, Eq)]
-enum Turn {
-    On(Numbers),
-    Complete(Sizes),
+enum AfterLine {
+    On(HeaderSoFar),
+    Complete(HeaderNumbers),
     Wrong,
 }
 
-fn turn_of(numbers: Numbers, said: Said) -> Turn
-    ensures { Leads numbers (seen said) result }
+fn after_line(so_far: HeaderSoFar, said: Said) -> AfterLine
+    ensures { Leads so_far (seen said) result }
 {
     match said {
-        Said::Nothing => Turn::On(numbers),
-        Said::End => match numbers.sizes() {
-            Some(sizes) => Turn::Complete(sizes),
-            None => Turn::Wrong,
+        Said::Nothing => AfterLine::On(so_far),
+        Said::End => match so_far.complete() {
+            Some(numbers) => AfterLine::Complete(numbers),
+            None => AfterLine::Wrong,
         },
-        Said::Number(field, n) => match numbers.number(field) {
-            Some(_) => Turn::Wrong,
-            None => Turn::On(numbers.with(field, n)),
+        Said::Number(field, n) => match so_far.number(field) {
+            Some(_) => AfterLine::Wrong,
+            None => AfterLine::On(so_far.with(field, n)),
         },
-        Said::Wrong => Turn::Wrong,
+        Said::Wrong => AfterLine::Wrong,
     }
 }
 
@@ -169,19 +169,19 @@ fn line_end(bytes: &[u8]) -> Option<usize>
 
 /// The numbers of a header and the bytes behind it, or the number of its first wrong line. The bytes
 /// are those behind the line `P7`, which has number 1.
-pub fn read_header(bytes: &[u8]) -> Result<(Sizes, &[u8]), u64>
+pub fn read_header(bytes: &[u8]) -> Result<(HeaderNumbers, &[u8]), u64>
     ensures { reading_of result ≡ header_of 2 no_numbers (lines_of bytes.now) }
 {
     let mut rest = bytes;
     let mut line = 2u64;
-    let mut numbers = Numbers::NONE;
+    let mut so_far = HeaderSoFar::NONE;
     while let Some(end) = line_end(rest) {
         let said = saying_of(trimmed(&rest[..end]));
         rest = &rest[end + 1..];
-        match turn_of(numbers, said) {
-            Turn::On(next) => numbers = next,
-            Turn::Complete(sizes) => return Ok((sizes, rest)),
-            Turn::Wrong => return Err(line),
+        match after_line(so_far, said) {
+            AfterLine::On(next) => so_far = next,
+            AfterLine::Complete(numbers) => return Ok((numbers, rest)),
+            AfterLine::Wrong => return Err(line),
         }
         line += 1;
     }

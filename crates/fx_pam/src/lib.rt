@@ -1,7 +1,6 @@
 //! Reads and writes PAM files (Netpbm, the manual page "pam").
 #![tactic(auto)]
 
-mod bytes;
 mod fault;
 pub mod header;
 pub mod laws;

@@ -7,7 +7,7 @@ use fx_pixel::Depth;
 
 /// Those that the lines so far gave.
 #[derive(Clone, Copy, Debug, PartialEq, Eq)]
-pub struct Numbers {
+pub struct HeaderSoFar {
     pub width: Option<u32>,
     pub height: Option<u32>,
     pub depth: Option<u32>,
@@ -16,19 +16,19 @@ pub struct Numbers {
 
 /// All four.
 #[derive(Clone, Copy, Debug, PartialEq, Eq)]
-pub struct Sizes {
+pub struct HeaderNumbers {
     pub width: u32,
     pub height: u32,
     pub depth: u32,
     pub maxval: u32,
 }
 
-impl Numbers {
+impl HeaderSoFar {
     ghost use Rattle.std.specs.Prelude.{◌≡◌};
-    ghost use Rattle.fx_pam.specs.Header.{number_of, with_number, sizes_of};
+    ghost use Rattle.fx_pam.specs.Header.{number_of, with_number, complete};
 
     /// No number yet.
-    pub const NONE: Numbers = Numbers {
+    pub const NONE: HeaderSoFar = HeaderSoFar {
         width: None,
         height: None,
         depth: None,
@@ -48,25 +48,25 @@ impl Numbers {
     }
 
     /// The numbers with that of a field.
-    pub fn with(self, field: PamField, n: u32) -> Numbers
+    pub fn with(self, field: PamField, n: u32) -> HeaderSoFar
         ensures { result ≡ with_number self field n }
     {
-        let mut numbers = self;
+        let mut so_far = self;
         match field {
-            PamField::Width => numbers.width = Some(n),
-            PamField::Height => numbers.height = Some(n),
-            PamField::Depth => numbers.depth = Some(n),
-            PamField::Maxval => numbers.maxval = Some(n),
+            PamField::Width => so_far.width = Some(n),
+            PamField::Height => so_far.height = Some(n),
+            PamField::Depth => so_far.depth = Some(n),
+            PamField::Maxval => so_far.maxval = Some(n),
         }
-        numbers
+        so_far
     }
 
     /// All four, where none is missing.
-    pub fn sizes(self) -> Option<Sizes>
-        ensures { result ≡ sizes_of self }
+    pub fn complete(self) -> Option<HeaderNumbers>
+        ensures { result ≡ complete self }
     {
         match (self.width, self.height, self.depth, self.maxval) {
-            (Some(width), Some(height), Some(depth), Some(maxval)) => Some(Sizes {
+            (Some(width), Some(height), Some(depth), Some(maxval)) => Some(HeaderNumbers {
                 width,
                 height,
                 depth,
@@ -84,7 +84,7 @@ fn is_outside(n: u32, most: u32) -> bool
     (n == 0) | (n > most)
 }
 
-impl Sizes {
+impl HeaderNumbers {
     ghost use Rattle.std.specs.Prelude.{◌≡◌, ◌↔◌, ◌<◌, ◌^◌, IsTrue, []};
     ghost use Rattle.fx_pixel.specs.Pixel.{greatest};
     ghost use Rattle.fx_pam.specs.Reading.{header_with, depth_of, sample_count, field_out_of_range};

@@ -9,42 +9,46 @@ ghost use Rattle.fx_pam.specs.Reading.{header_with, depth_of, sample_count, rast
 ghost use Rattle.fx_pam.specs.Raster.{IsRanged, IsWhole, row_length, row_at, pixel_from_bottom};
 
 use crate::PamFault;
-use crate::bytes::are_bytes;
-use crate::numbers::Sizes;
+use crate::numbers::HeaderNumbers;
 use fx_image::Part;
-use fx_image::samples::{sample, set_pixel};
+use fx_image::samples::{are_bytes, sample, set_pixel};
 use fx_pixel::Pixel;
 
 /// The first fault of a raster: bytes that are wanting, or a sample above the greatest.
-pub fn check_raster(sizes: Sizes, bytes: &[u8]) -> Result<(), PamFault>
-    requires { IsRanged 8192 (header_with sizes bytes.now) }
-    ensures ok { OnOk result (raster_fault (header_with sizes bytes.now) ≡ None) }
-    ensures whole { OnOk result (IsWhole 8192 (header_with sizes bytes.now)) }
-    ensures fault { IfErr result (λ e. raster_fault (header_with sizes bytes.now) ≡ Some e) }
+pub fn check_raster(numbers: HeaderNumbers, bytes: &[u8]) -> Result<(), PamFault>
+    requires { IsRanged 8192 (header_with numbers bytes.now) }
+    ensures ok { OnOk result (raster_fault (header_with numbers bytes.now) ≡ None) }
+    ensures whole { OnOk result (IsWhole 8192 (header_with numbers bytes.now)) }
+    ensures fault { IfErr result (λ e. raster_fault (header_with numbers bytes.now) ≡ Some e) }
 {
-    let wanted = sizes.sample_count() * sizes.sample_depth().size() as usize;
+    let wanted = numbers.sample_count() * numbers.sample_depth().size() as usize;
     if bytes.len() < wanted {
         return Err(PamFault::Truncated(wanted as u64, bytes.len() as u64));
     }
-    if sizes.keeps_samples() {
+    if numbers.keeps_samples() {
         are_bytes(bytes);
         Ok(())
     } else {
-        check_samples(sizes, bytes)
+        check_samples(numbers, bytes)
     }
 }
 
 // A sample above the greatest is a fault.
-fn check_samples(sizes: Sizes, bytes: &[u8]) -> Result<(), PamFault>
-    requires ranged { IsRanged 8192 (header_with sizes bytes.now) }
-    requires long { raster_length (header_with sizes bytes.now) ≤ length bytes.now }
-    ensures ok { OnOk result (first_above (header_with sizes bytes.now) 0 (sample_count (header_with sizes bytes.now)) ≡ None) }
-    ensures fault { IfErr result (λ e. sample_fault (header_with sizes bytes.now) (first_above (header_with sizes bytes.now) 0 (sample_count (header_with sizes bytes.now))) ≡ Some e) }
+fn check_samples(numbers: HeaderNumbers, bytes: &[u8]) -> Result<(), PamFault>
+    requires ranged { IsRanged 8192 (header_with numbers bytes.now) }
+    requires long { raster_length (header_with numbers bytes.now) ≤ length bytes.now }
+    ensures ok {
+        let h = header_with numbers bytes.now in OnOk result (first_above h 0 (sample_count h) ≡ None)
+    }
+    ensures fault {
+        let h = header_with numbers bytes.now in
+        IfErr result (λ e. sample_fault h (first_above h 0 (sample_count h)) ≡ Some e)
+    }
 {
-    let depth = sizes.sample_depth();
-    for i in 0..sizes.sample_count() {
+    let depth = numbers.sample_depth();
+    for i in 0..numbers.sample_count() {
         let s = u32::from(sample(depth, bytes, i));
-        if s > sizes.maxval {
+        if s > numbers.maxval {
             return Err(PamFault::SampleAboveMaxval(i as u64, s));
         }
     }
@@ -52,70 +56,76 @@ fn check_samples(sizes: Sizes, bytes: &[u8]) -> Result<(), PamFault>
 }
 
 /// Fills an image with the rows of a raster, the last one at the bottom.
-pub fn fill(sizes: Sizes, bytes: &[u8], out: &mut Part<'_>)
-    requires whole { IsWhole 8192 (header_with sizes bytes.now) }
+pub fn fill(numbers: HeaderNumbers, bytes: &[u8], out: &mut Part<'_>)
+    requires whole { IsWhole 8192 (header_with numbers bytes.now) }
     requires part { IsPart out.old }
-    requires rect { out.old.rect ≡ record { x1 = pos 0; y1 = pos 0; x2 = pos sizes.width; y2 = pos sizes.height } }
-    requires depth { out.old.image.now.depth ≡ depth_of (header_with sizes bytes.now) }
+    requires rect { out.old.rect ≡ record { x1 = pos 0; y1 = pos 0; x2 = pos numbers.width; y2 = pos numbers.height } }
+    requires depth { out.old.image.now.depth ≡ depth_of (header_with numbers bytes.now) }
     requires components { out.old.image.now.components ≡ RgbaSamples }
-    ensures written { IsWritten out.old out.new (pixel_from_bottom (header_with sizes bytes.now)) }
+    ensures written { IsWritten out.old out.new (pixel_from_bottom (header_with numbers bytes.now)) }
 {
-    let height = sizes.height as usize;
+    let height = numbers.height as usize;
     for y in 0..height {
-        let source = file_row(sizes, bytes, height - 1 - y);
-        fill_row(sizes, source, out.row_mut(y as i64));
+        let source = file_row(numbers, bytes, height - 1 - y);
+        fill_row(numbers, source, out.row_mut(y as i64));
     }
 }
 
 // Row r of the file, from the top.
-fn file_row(sizes: Sizes, bytes: &[u8], r: usize) -> &[u8]
-    requires whole { IsWhole 8192 (header_with sizes bytes.now) }
-    requires row { r < sizes.height }
-    ensures value { result.now ≡ (row_at (header_with sizes bytes.now) r).behind }
-    ensures len { length result.now ≡ row_length (header_with sizes bytes.now) }
+fn file_row(numbers: HeaderNumbers, bytes: &[u8], r: usize) -> &[u8]
+    requires whole { IsWhole 8192 (header_with numbers bytes.now) }
+    requires row { r < numbers.height }
+    ensures value { result.now ≡ (row_at (header_with numbers bytes.now) r).behind }
+    ensures len { length result.now ≡ row_length (header_with numbers bytes.now) }
 {
-    let length = sizes.row_length();
+    let length = numbers.row_length();
     let from = r * length;
     &bytes[from..from + length]
 }
 
 // Fills the row of an image with one of the file.
-fn fill_row(sizes: Sizes, source: &[u8], row: &mut [u8])
-    requires whole { IsWhole 8192 (header_with (record sizes { height = 1 }) source.now) }
-    requires source { length source.now ≡ row_length (header_with sizes source.now) }
-    requires row { length row.old ≡ sizes.width * pixel_size (depth_of (header_with sizes source.now)) RgbaSamples }
-    ensures { (c : ℕ) → c < sizes.width → pixel_in (depth_of (header_with sizes source.now)) RgbaSamples row.new c ≡ pixel_of (header_with sizes source.now) 0 c }
+fn fill_row(numbers: HeaderNumbers, source: &[u8], row: &mut [u8])
+    requires whole { IsWhole 8192 (header_with (record numbers { height = 1 }) source.now) }
+    requires source { length source.now ≡ row_length (header_with numbers source.now) }
+    requires row { length row.old ≡ numbers.width * pixel_size (depth_of (header_with numbers source.now)) RgbaSamples }
+    ensures {
+        let h = header_with numbers source.now in
+        (c : ℕ) → c < numbers.width → pixel_in (depth_of h) RgbaSamples row.new c ≡ pixel_of h 0 c
+    }
 {
-    if sizes.depth == 4 && sizes.keeps_samples() {
+    if numbers.depth == 4 && numbers.keeps_samples() {
         row.copy_from_slice(source);
     } else {
-        fill_pixels(sizes, source, row);
+        fill_pixels(numbers, source, row);
     }
 }
 
-fn fill_pixels(sizes: Sizes, source: &[u8], row: &mut [u8])
-    requires whole { IsWhole 8192 (header_with (record sizes { height = 1 }) source.now) }
-    requires row { length row.old ≡ sizes.width * pixel_size (depth_of (header_with sizes source.now)) RgbaSamples }
-    ensures { (c : ℕ) → c < sizes.width → pixel_in (depth_of (header_with sizes source.now)) RgbaSamples row.new c ≡ pixel_of (header_with sizes source.now) 0 c }
+fn fill_pixels(numbers: HeaderNumbers, source: &[u8], row: &mut [u8])
+    requires whole { IsWhole 8192 (header_with (record numbers { height = 1 }) source.now) }
+    requires row { length row.old ≡ numbers.width * pixel_size (depth_of (header_with numbers source.now)) RgbaSamples }
+    ensures {
+        let h = header_with numbers source.now in
+        (c : ℕ) → c < numbers.width → pixel_in (depth_of h) RgbaSamples row.new c ≡ pixel_of h 0 c
+    }
 {
-    let depth = sizes.sample_depth();
-    for c in 0..sizes.width as usize {
-        set_pixel(depth, row, c, pixel_of(sizes, source, c));
+    let depth = numbers.sample_depth();
+    for c in 0..numbers.width as usize {
+        set_pixel(depth, row, c, pixel_of(numbers, source, c));
     }
 }
 
 // Pixel c of a row of the file.
-fn pixel_of(sizes: Sizes, source: &[u8], c: usize) -> Pixel
-    requires whole { IsWhole 8192 (header_with (record sizes { height = 1 }) source.now) }
-    requires column { c < sizes.width }
-    ensures value { result ≡ pixel_of (header_with sizes source.now) 0 c }
-    ensures depth { IsOfDepth (depth_of (header_with sizes source.now)) result }
+fn pixel_of(numbers: HeaderNumbers, source: &[u8], c: usize) -> Pixel
+    requires whole { IsWhole 8192 (header_with (record numbers { height = 1 }) source.now) }
+    requires column { c < numbers.width }
+    ensures value { result ≡ pixel_of (header_with numbers source.now) 0 c }
+    ensures depth { IsOfDepth (depth_of (header_with numbers source.now)) result }
     ensures components { components_of result ≡ RgbaSamples }
 {
-    let first = c * sizes.depth as usize;
-    let greatest = sizes.sample_depth().greatest() as u16;
-    let one = scaled(sizes, source, first);
-    if sizes.depth == 1 {
+    let first = c * numbers.depth as usize;
+    let greatest = numbers.sample_depth().greatest() as u16;
+    let one = scaled(numbers, source, first);
+    if numbers.depth == 1 {
         return Pixel::Rgba {
             r: one,
             g: one,
@@ -123,8 +133,8 @@ fn pixel_of(sizes: Sizes, source: &[u8], c: usize) -> Pixel
             a: greatest,
         };
     }
-    let two = scaled(sizes, source, first + 1);
-    if sizes.depth == 2 {
+    let two = scaled(numbers, source, first + 1);
+    if numbers.depth == 2 {
         return Pixel::Rgba {
             r: one,
             g: one,
@@ -132,11 +142,11 @@ fn pixel_of(sizes: Sizes, source: &[u8], c: usize) -> Pixel
             a: two,
         };
     }
-    let three = scaled(sizes, source, first + 2);
-    let a = if sizes.depth == 3 {
+    let three = scaled(numbers, source, first + 2);
+    let a = if numbers.depth == 3 {
         greatest
     } else {
-        scaled(sizes, source, first + 3)
+        scaled(numbers, source, first + 3)
     };
     Pixel::Rgba {
         r: one,
@@ -147,18 +157,18 @@ fn pixel_of(sizes: Sizes, source: &[u8], c: usize) -> Pixel
 }
 
 // Sample i of a row of the file as one of the image: to the nearest, halves up.
-fn scaled(sizes: Sizes, source: &[u8], i: usize) -> u16
-    requires whole { IsWhole 8192 (header_with (record sizes { height = 1 }) source.now) }
-    requires there { i < sample_count (header_with (record sizes { height = 1 }) source.now) }
-    ensures value { result ≡ scaled (header_with sizes source.now) (sample_at (header_with sizes source.now) i) }
-    ensures bound { result ≤ greatest (depth_of (header_with sizes source.now)) }
+fn scaled(numbers: HeaderNumbers, source: &[u8], i: usize) -> u16
+    requires whole { IsWhole 8192 (header_with (record numbers { height = 1 }) source.now) }
+    requires there { i < sample_count (header_with (record numbers { height = 1 }) source.now) }
+    ensures value { result ≡ scaled (header_with numbers source.now) (sample_at (header_with numbers source.now) i) }
+    ensures bound { result ≤ greatest (depth_of (header_with numbers source.now)) }
 {
-    let depth = sizes.sample_depth();
+    let depth = numbers.sample_depth();
     let s = sample(depth, source, i);
-    if sizes.keeps_samples() {
+    if numbers.keeps_samples() {
         return s;
     }
     let greatest = u64::from(depth.greatest());
-    let maxval = u64::from(sizes.maxval);
+    let maxval = u64::from(numbers.maxval);
     ((2 * u64::from(s) * greatest + maxval) / (2 * maxval)) as u16
 }

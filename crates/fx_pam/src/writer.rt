@@ -8,9 +8,9 @@ ghost use Rattle.fx_pam.specs.Text.{format_depth, format_name, header, row_bytes
 ghost use Rattle.fx_pam.specs.Laws.{components_for};
 ghost use Rattle.fx_pam.specs.Fronts.{fronts};
 
-use crate::bytes::are_bytes;
 use fx_base::Memory;
 use fx_image::Image;
+use fx_image::samples::are_bytes;
 use fx_pixel::{Depth, Format};
 use std::alloc::{AllocError, Global};
 
@@ -111,7 +111,9 @@ fn raster_length(width: u64, height: u64, format: Format, depth: Depth) -> usize
 
 fn push_rows(image: &Image, format: Format, out: &mut Vec<u8>) -> Result<(), AllocError>
     requires { image.now.components ≡ components_for format }
-    ensures ok { OnOk result (out.new.items ≡ out.old.items ++ raster format (image_of image.now) (rows image.now.rect)) }
+    ensures ok {
+        OnOk result (out.new.items ≡ out.old.items ++ raster format (image_of image.now) (rows image.now.rect))
+    }
     ensures err { OnErr result (take (length out.old.items) out.new.items ≡ out.old.items) }
 {
     let rect = image.rect();
@@ -126,7 +128,10 @@ fn push_rows(image: &Image, format: Format, out: &mut Vec<u8>) -> Result<(), All
 fn push_row(image: &Image, format: Format, y: i64, out: &mut Vec<u8>) -> Result<(), AllocError>
     requires components { image.now.components ≡ components_for format }
     requires inside { (image.now.rect.y1 ≤ℤ y) × (y <ℤ image.now.rect.y2) }
-    ensures ok { OnOk result (out.new.items ≡ out.old.items ++ row_bytes format (image_of image.now) y (columns image.now.rect)) }
+    ensures ok {
+        let row = row_bytes format (image_of image.now) y (columns image.now.rect) in
+        OnOk result (out.new.items ≡ out.old.items ++ row)
+    }
     ensures err { OnErr result (take (length out.old.items) out.new.items ≡ out.old.items) }
 {
     let view = image.view(image.rect());
@@ -140,7 +145,10 @@ fn push_row(image: &Image, format: Format, y: i64, out: &mut Vec<u8>) -> Result<
 
 // Each pixel of a row of RGBA without its a.
 fn push_colours(row: &[u8], depth: Depth, out: &mut Vec<u8>) -> Result<(), AllocError>
-    ensures ok { OnOk result (out.new.items ≡ out.old.items ++ fronts (4 * size depth) (3 * size depth) row.now (length row.now / (4 * size depth))) }
+    ensures ok {
+        let count = length row.now / (4 * size depth) in
+        OnOk result (out.new.items ≡ out.old.items ++ fronts (4 * size depth) (3 * size depth) row.now count)
+    }
     ensures err { OnErr result (take (length out.old.items) out.new.items ≡ out.old.items) }
 {
     match depth {

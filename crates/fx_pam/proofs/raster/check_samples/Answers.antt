@@ -7,9 +7,9 @@ use Rattle.fx_pam.proofs.raster.check_samples.Goals as goal
 
 pub loop-i-preserved : goal.loop-i-preserved
 loop-i-preserved c =
-    let h = header_with c.args.sizes c.args.bytes.now in
+    let h = header_with c.args.numbers c.args.bytes.now in
     let s : c.from-s.result ≡ sample_at h c.loop-i.i = c.from-s.ensures ∙ c.sample.ensures.value ∙ ap (λ depth. sample_in depth c.args.bytes.now c.loop-i.i) c.sample_depth-depth.ensures in
-    let fits : sample_at h c.loop-i.i ≤ c.args.sizes.maxval = rw (← s) (grind (arith, nat_tests)) in
+    let fits : sample_at h c.loop-i.i ≤ c.args.numbers.maxval = rw (← s) (grind (arith, nat_tests)) in
     record {
       until = c.loop-i.invariant.until;
       up_to = omega (arith, c.loop-i-test.true);

@@ -4,7 +4,7 @@ use Rattle.fx_pam.proofs.raster.check_samples.Given as goal
 
 abbrev pub invariant-loop-i : goal.invariant-loop-i
 invariant-loop-i l =
-    let h = header_with l.sizes l.bytes in
+    let h = header_with l.numbers l.bytes in
     record {
       until : l.i-end ≡ sample_count h;
       up_to : l.i ≤ l.i-end;

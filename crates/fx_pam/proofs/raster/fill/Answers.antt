@@ -16,12 +16,12 @@ use Rattle.fx_pam.proofs.raster.fill.Goals as goal
 
 pub fill_row-requires-clause-whole : goal.fill_row-requires-clause-whole
 fill_row-requires-clause-whole c =
-    let h = header_with c.args.sizes c.args.bytes.now in
-    rw c.file_row-source.ensures.value (row-whole 8192 h (c.args.sizes.height - 1 - c.loop-y.y) (omega arith) c.requires.whole (omega (arith, c.loop-y-test.true)))
+    let h = header_with c.args.numbers c.args.bytes.now in
+    rw c.file_row-source.ensures.value (row-whole 8192 h (c.args.numbers.height - 1 - c.loop-y.y) (omega arith) c.requires.whole (omega (arith, c.loop-y-test.true)))
 
 pub loop-y-preserved : goal.loop-y-preserved
 loop-y-preserved c =
-    let h = header_with c.args.sizes c.args.bytes.now in
+    let h = header_with c.args.numbers c.args.bytes.now in
     let p = c.args.out.now in
     let q = c.loop-y.out in
     let y = c.loop-y.y in
@@ -30,9 +30,9 @@ loop-y-preserved c =
     let same = c.loop-y.invariant.same in
     let r = h.height - 1 - y in
     let left : p.rect.x1 ≡ pos 0 = ap (λ (b : Bounds). b.x1) c.requires.rect in
-    let right : p.rect.x2 ≡ pos c.args.sizes.width = ap (λ (b : Bounds). b.x2) c.requires.rect in
+    let right : p.rect.x2 ≡ pos c.args.numbers.width = ap (λ (b : Bounds). b.x2) c.requires.rect in
     let bottom : p.rect.y1 ≡ pos 0 = ap (λ (b : Bounds). b.y1) c.requires.rect in
-    let top : p.rect.y2 ≡ pos c.args.sizes.height = ap (λ (b : Bounds). b.y2) c.requires.rect in
+    let top : p.rect.y2 ≡ pos c.args.numbers.height = ap (λ (b : Bounds). b.y2) c.requires.rect in
     let deep : q.image.now.depth ≡ depth_of h = same.2.depth ∙ c.requires.depth in
     let samples : q.image.now.components ≡ RgbaSamples = same.2.components ∙ c.requires.components in
     let long : length ws ≡ columns p.rect * pixel_size q.image.now.depth q.image.now.components =
@@ -42,10 +42,10 @@ loop-y-preserved c =
     let place = place_from p.rect x (pos y) inside in
     let column = int_gap (pos 0) x in
     let here = gap_is (pos 0) x (omega (arith, ints, place.left, left)) in
-    let low : column < c.args.sizes.width = omega (arith, ints, place.right, right) in
+    let low : column < c.args.numbers.width = omega (arith, ints, place.right, right) in
     rw (deep, samples, left) (
     c.fill_row.ensures column low
-    ∙ ap (λ bytes. pixel_of (header_with c.args.sizes bytes) 0 column) c.file_row-source.ensures.value
+    ∙ ap (λ bytes. pixel_of (header_with c.args.numbers bytes) 0 column) c.file_row-source.ensures.value
     ∙ row-pixel h r column c.requires.whole.ranged.depth.0 c.requires.whole.ranged.depth.1 low
     ∙ ap (λ k. pixel_of h (h.height - 1 - k) column) (sym (gap_none y))
     ) in
@@ -57,4 +57,4 @@ pub returns : goal.returns
 returns c =
     let same = c.loop-y.invariant.same in
     let top : c.args.out.now.rect.y2 ≡ pos c.loop-y.y = ap (λ (r : Bounds). r.y2) c.requires.rect ∙ ap pos (omega (arith, c.loop-y.invariant.up_to, c.loop-y-test.false)) in
-    record { written = (same, subst (λ y. WroteRows c.args.out.now c.loop-y.out.image.now y (pixel_from_bottom (header_with c.args.sizes c.args.bytes.now))) (sym top) c.loop-y.invariant.written) }
+    record { written = (same, subst (λ y. WroteRows c.args.out.now c.loop-y.out.image.now y (pixel_from_bottom (header_with c.args.numbers c.args.bytes.now))) (sym top) c.loop-y.invariant.written) }

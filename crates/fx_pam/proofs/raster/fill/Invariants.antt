@@ -6,10 +6,10 @@ use Rattle.fx_pam.proofs.raster.fill.Given as goal
 
 abbrev pub invariant-loop-y : goal.invariant-loop-y
 invariant-loop-y l =
-    let h = header_with l.sizes l.bytes in
+    let h = header_with l.numbers l.bytes in
     record {
       up_to : l.y ≤ l.height;
-      high : l.height ≡ l.sizes.height;
+      high : l.height ≡ l.numbers.height;
       same : SamePart l.initial.out l.out;
       written : WroteRows l.initial.out l.out.image.now (pos l.y) (pixel_from_bottom h);
     }

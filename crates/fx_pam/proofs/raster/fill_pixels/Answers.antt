@@ -7,7 +7,7 @@ use Rattle.fx_pam.proofs.raster.fill_pixels.Goals as goal
 
 pub loop-c-preserved : goal.loop-c-preserved
 loop-c-preserved c =
-    let h = header_with c.args.sizes c.args.source.now in
+    let h = header_with c.args.numbers c.args.source.now in
     let there = rw (c.pixel_of.ensures.components, c.sample_depth-depth.ensures) at c.set_pixel.ensures.there in
     let others = rw (c.pixel_of.ensures.components, c.sample_depth-depth.ensures) at c.set_pixel.ensures.others in
     record {

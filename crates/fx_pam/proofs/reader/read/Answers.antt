@@ -7,7 +7,7 @@ use Rattle.fx_pam.proofs.reader.read.Goals as goal
 
 pub returns-clause-image : goal.returns-clause-image
 returns-clause-image c =
-    let sizes = c.in_ok-sizes.sizes in
-    let raster = c.in_ok-sizes.raster.now in
-    let none : pam_fault c.args.bytes.now c.args.most_side ≡ None = c.in_ok-sizes.ensures.left ∙ c.in_ok-check_raster.ensures.ok in
-    IfOk-weaker c.image_of.result _ _ (λ image is. is_pam-of c.args.bytes.now c.args.most_side sizes raster (image_of image) c.in_ok-sizes.ensures.reads none is) c.image_of.ensures.image
+    let numbers = c.in_ok-numbers.numbers in
+    let raster = c.in_ok-numbers.raster.now in
+    let none : pam_fault c.args.bytes.now c.args.most_side ≡ None = c.in_ok-numbers.ensures.left ∙ c.in_ok-check_raster.ensures.ok in
+    IfOk-weaker c.image_of.result _ _ (λ image is. is_pam-of c.args.bytes.now c.args.most_side numbers raster (image_of image) c.in_ok-numbers.ensures.reads none is) c.image_of.ensures.image

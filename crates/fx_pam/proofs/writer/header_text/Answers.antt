@@ -5,7 +5,7 @@ use Rattle.fx_pixel.specs.declared.Format.{Format}
 use Rattle.fx_pam.specs.Text.{header, format_depth, format_name}
 use Rattle.fx_pam.proofs.writer.header_text.Goals as goal
 
--- the pieces as `format!` joins them
+-- the parts as `format!` joins them
 abbrev joined : ℕ → ℕ → ℕ → ℕ → List ℕ → List ℕ
 joined width height depth maxval name =
     codes "P7\nWIDTH " ++ (decimal width ++ (codes "\nHEIGHT " ++ (decimal height ++ (codes "\nDEPTH " ++ (decimal depth ++ (codes "\nMAXVAL " ++ (decimal maxval ++ (codes "\nTUPLTYPE " ++ (name ++ codes "\nENDHDR\n")))))))))
