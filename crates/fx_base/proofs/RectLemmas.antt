@@ -1,11 +1,11 @@
 -- Rectangles by their bounds and by their places.
 use Rattle.std.proofs.Common.{◌≡◌, ◌∙◌, ℤ, pos, ◌+ℤ◌, ◌-ℤ◌, ◌≤ℤ◌, ◌<ℤ◌, Bool, true, false, ◌&&◌, ⊎_elim, inl, inr, refl, sym, ap, subst, arith}
 use Rattle.std.specs.Int.{int_min, int_max}
-use Rattle.std.specs.Int.Signed.{le_z}
+use Rattle.std.specs.Int.Signed.{le_z, lt_z}
 use Rattle.std.proofs.lemmas.Bool.{cond-true, cond-false, cases_Bool, and_from, and_parts}
 use Rattle.std.proofs.lemmas.Int.{ints, clamps}
 use Rattle.fx_base.specs.Bounds.{Bounds, IsRect, none}
-use Rattle.fx_base.specs.Rect.{Holds, IsWithin, Reaches, within, rect_of, is_empty, meet, hull, grown, shifted}
+use Rattle.fx_base.specs.Rect.{Holds, IsWithin, Reaches, within, rect_of, is_empty, meet, hull, grown, shifted, stretched}
 
 -- a rectangle that isn't empty holds its bottom left place
 pub holds_corner : (r : Bounds) → r.x1 <ℤ r.x2 → r.y1 <ℤ r.y2 → Holds r r.x1 r.y1
@@ -115,6 +115,14 @@ IsInside-rect_of x1 y1 x2 y2 x y h = record {
 
 pub Holds-rect_of : (x1 y1 x2 y2 x y : ℤ) → IsInside (record { x1 = x1; y1 = y1; x2 = x2; y2 = y2 }) x y → Holds (rect_of x1 y1 x2 y2) x y
 Holds-rect_of x1 y1 x2 y2 x y h = grind (arith, ints)
+
+-- what holds of no pixel, and of these bounds where they hold some
+pub rect_of-cases : (P : Bounds → Type 0) (x1 y1 x2 y2 : ℤ) → P none → (x1 <ℤ x2 → y1 <ℤ y2 → P (record { x1 = x1; y1 = y1; x2 = x2; y2 = y2 })) → P (rect_of x1 y1 x2 y2)
+rect_of-cases P x1 y1 x2 y2 nothing some =
+    ⊎_elim
+    (λ test. subst P (sym (cond-true (lt_z x1 x2 && lt_z y1 y2) (record { x1 = x1; y1 = y1; x2 = x2; y2 = y2 }) none test)) (some (grind (arith, ints)) (grind (arith, ints))))
+    (λ test. subst P (sym (cond-false (lt_z x1 x2 && lt_z y1 y2) (record { x1 = x1; y1 = y1; x2 = x2; y2 = y2 }) none test)) nothing)
+    (cases_Bool (lt_z x1 x2 && lt_z y1 y2))
 
 -- the places of both
 pub within-meet : (r s : Bounds) (x y : ℤ) → within (meet r s) x y ≡ (within r x y && within s x y)
@@ -299,15 +307,20 @@ is_empty-none r is = ap is_empty is
 pub IsProper-hull : (r s : Bounds) → IsProper r → IsProper s → IsProper (hull r s)
 IsProper-hull r s first second = subst IsProper (sym (hull-proper r s (is_empty-proper r first) (is_empty-proper s second))) (record { wide = omega (arith, ints, clamps); high = omega (arith, ints, clamps) })
 
--- four numbers that are the bounds of `hull`, `grown` and `shifted`
+-- four numbers that are the bounds of `hull` and `stretched`
 pub hull_made : (r s : Bounds) (x1 y1 x2 y2 : ℤ) → IsProper r → IsProper s → x1 ≡ int_min r.x1 s.x1 → y1 ≡ int_min r.y1 s.y1 → x2 ≡ int_max r.x2 s.x2 → y2 ≡ int_max r.y2 s.y2 → record { x1 = x1; y1 = y1; x2 = x2; y2 = y2 } ≡ hull r s
 hull_made r s x1 y1 x2 y2 first second left bottom right top = rw (left, bottom, right, top) (sym (hull-proper r s (is_empty-proper r first) (is_empty-proper s second)))
 
-pub grown_made : (r : Bounds) (h v x1 y1 x2 y2 : ℤ) → IsProper r → x1 ≡ r.x1 -ℤ h → y1 ≡ r.y1 -ℤ v → x2 ≡ r.x2 +ℤ h → y2 ≡ r.y2 +ℤ v → record { x1 = x1; y1 = y1; x2 = x2; y2 = y2 } ≡ grown r h v
-grown_made r h v x1 y1 x2 y2 proper left bottom right top = rw (left, bottom, right, top) (sym (grown-proper r h v (is_empty-proper r proper)))
+pub stretched_made : (r : Bounds) (left bottom right top x1 y1 x2 y2 : ℤ) → IsProper r → x1 ≡ r.x1 +ℤ left → y1 ≡ r.y1 +ℤ bottom → x2 ≡ r.x2 +ℤ right → y2 ≡ r.y2 +ℤ top → record { x1 = x1; y1 = y1; x2 = x2; y2 = y2 } ≡ stretched r left bottom right top
+stretched_made r left bottom right top x1 y1 x2 y2 proper to_left to_bottom to_right to_top = rw (to_left, to_bottom, to_right, to_top) (sym (cond-false (is_empty r) _ _ (is_empty-proper r proper)))
 
-pub shifted_made : (r : Bounds) (dx dy x1 y1 x2 y2 : ℤ) → IsProper r → x1 ≡ r.x1 +ℤ dx → y1 ≡ r.y1 +ℤ dy → x2 ≡ r.x2 +ℤ dx → y2 ≡ r.y2 +ℤ dy → record { x1 = x1; y1 = y1; x2 = x2; y2 = y2 } ≡ shifted r dx dy
-shifted_made r dx dy x1 y1 x2 y2 proper left bottom right top = rw (left, bottom, right, top) (sym (shifted-proper r dx dy (is_empty-proper r proper)))
+-- numbers that are equal move it alike
+pub stretched_by : (r : Bounds) (left' bottom' right' top' left bottom right top : ℤ) → left' ≡ left → bottom' ≡ bottom → right' ≡ right → top' ≡ top → stretched r left' bottom' right' top' ≡ stretched r left bottom right top
+stretched_by r left' bottom' right' top' left bottom right top to_left to_bottom to_right to_top = rw (to_left, to_bottom, to_right, to_top) refl
+
+pub IsProper-stretched : (r : Bounds) (left bottom right top : ℤ) → IsProper r → left ≤ℤ right → bottom ≤ℤ top → IsProper (stretched r left bottom right top)
+IsProper-stretched r left bottom right top proper columns rows =
+    subst IsProper (sym (cond-false (is_empty r) _ _ (is_empty-proper r proper))) (record { wide = omega (arith, ints); high = omega (arith, ints) })
 
 pub IsProper-grown : (r : Bounds) (h v : ℤ) → IsProper r → pos 0 ≤ℤ h → pos 0 ≤ℤ v → IsProper (grown r h v)
 IsProper-grown r h v proper h_low v_low = subst IsProper (sym (grown-proper r h v (is_empty-proper r proper))) (record { wide = omega (arith, ints); high = omega (arith, ints) })

@@ -1,5 +1,6 @@
 -- Patterns of file names: texts with at most one run of `#`, where a frame's number goes.
 use Rattle.std.specs.Prelude.{ℕ, ◌+◌, ◌-◌, ◌==◌, ◌&&◌, List, [], ◌∷◌, ◌++◌, length, replicate, Bool, false, not, Option, Some, None, if◌then◌else◌, decimal, nat_lt, nat_le}
+use Rattle.fx_base.specs.declared.limits.TheConstants.{MOST_PATTERN_BYTES}
 use Rattle.std.specs.List.{list_any, before_first, after_first, position_or_len}
 
 -- a `#`
@@ -16,7 +17,7 @@ runs text = runs_after false text
 
 -- not empty, at most 1,024 bytes, no byte 0, at most one run of signs
 abbrev pub is_pattern : List ℕ → Bool
-is_pattern text = nat_lt 0 (length text) && nat_le (length text) 1024 && not (list_any (λ b. b == 0) text) && nat_le (runs text) 1
+is_pattern text = nat_lt 0 (length text) && nat_le (length text) MOST_PATTERN_BYTES && not (list_any (λ b. b == 0) text) && nat_le (runs text) 1
 
 -- the pattern of a text
 abbrev pub pattern_of : List ℕ → Option (List ℕ)

@@ -28,12 +28,27 @@ columns r = int_gap r.x1 r.x2
 abbrev pub rows : Bounds → ℕ
 rows r = int_gap r.y1 r.y2
 
+-- frames lie between -2^30 and 2^30
+abbrev pub IsFrame : ℤ → Type 0
+IsFrame t = (negsuc 1073741823 ≤ℤ t) × (t ≤ℤ pos 1073741824)
+
 -- coordinates lie between -2^30 and 2^30
 pub record IsNear (r : Bounds) : Type 0 where
   pub left : negsuc 1073741823 ≤ℤ r.x1
   pub right : r.x2 ≤ℤ pos 1073741824
   pub bottom : negsuc 1073741823 ≤ℤ r.y1
   pub top : r.y2 ≤ℤ pos 1073741824
+
+-- a number between -k and k
+abbrev pub IsStep : ℕ → ℤ → Type 0
+IsStep k d = (neg_ℤ (pos k) ≤ℤ d) × (d ≤ℤ pos k)
+
+-- no coordinate is greater in magnitude than n
+pub record IsUpTo (n : ℕ) (r : Bounds) : Type 0 where
+  pub left : IsStep n r.x1
+  pub bottom : IsStep n r.y1
+  pub right : IsStep n r.x2
+  pub top : IsStep n r.y2
 
 -- whether these bounds hold no place
 abbrev pub is_empty : Bounds → Bool
@@ -51,6 +66,11 @@ hull r s =
     else (if is_empty s
     then r
     else record { x1 = int_min r.x1 s.x1; y1 = int_min r.y1 s.y1; x2 = int_max r.x2 s.x2; y2 = int_max r.y2 s.y2 })
+
+-- each bound moved, or the empty one as it is
+abbrev pub stretched : Bounds → ℤ → ℤ → ℤ → ℤ → Bounds
+stretched r left bottom right top =
+    if is_empty r then none else record { x1 = r.x1 +ℤ left; y1 = r.y1 +ℤ bottom; x2 = r.x2 +ℤ right; y2 = r.y2 +ℤ top }
 
 -- h more columns and v more rows on either side, or the empty one as it is
 abbrev pub grown : Bounds → ℤ → ℤ → Bounds

@@ -1,8 +1,10 @@
 //! What every crate of the host stands on: want of memory, fixed-point numbers, names, patterns of
-//! file names, rectangles of pixels, and status codes.
+//! file names, rectangles of pixels, grids of tiles, and status codes.
 #![tactic(auto)]
 
 mod fix;
+mod grid;
+pub mod limits;
 mod memory;
 mod name;
 mod pattern;
@@ -12,8 +14,9 @@ mod status;
 mod tests;
 
 pub use fix::Fix;
+pub use grid::Grid;
 pub use memory::Memory;
 pub use name::{Name, Names};
 pub use pattern::Pattern;
-pub use rect::Rect;
+pub use rect::{Rect, offset};
 pub use status::Status;

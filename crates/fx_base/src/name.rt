@@ -1,6 +1,8 @@
 //! Texts that name things, and lists of them. Contracts see a name as its bytes.
-ghost use Rattle.std.specs.Prelude.{◌≡◌, ℕ, List, string_bytes};
+ghost use Rattle.std.specs.Prelude.{◌≡◌, ℕ, List, string_bytes, IfOk};
 
+use crate::Memory;
+use std::alloc::Global;
 use std::marker::Model;
 
 /// A text that names a node, a clip, a parameter or a file.
@@ -28,6 +30,14 @@ impl Name {
         ensures { result.now ≡ self.now }
     {
         self.text.as_str()
+    }
+
+    /// Another name that reads the same.
+    pub fn copied(&self, alloc: Global) -> Result<Name, Memory>
+        ensures { IfOk result (λ name. name ≡ self.now) }
+    {
+        let text = String::from_str(alloc, self.text.as_str())?;
+        Ok(Name { text })
     }
 }
 

@@ -1,8 +1,9 @@
 //! Patterns of file names: `frame.####.pam` names a file for each frame. Contracts see a pattern as
 //! its bytes.
-ghost use Rattle.std.specs.Prelude.{◌≡◌, ℕ, List, ◌+◌, ◌++◌, ◌≤◌, length, OnOk, IfOk, string_bytes};
+ghost use Rattle.std.specs.Prelude.{◌≡◌, ℕ, List, ◌+◌, ◌++◌, ◌≤◌, ◌<◌, ◌^◌, length, OnOk, IfOk, string_bytes};
 ghost use Rattle.fx_base.specs.Pattern.{runs, pattern_of, name_of, without_signs, padded_decimal};
 
+use crate::limits::MOST_PATTERN_BYTES;
 use crate::{Memory, Name};
 use std::alloc::{AllocError, Global};
 use std::marker::Model;
@@ -31,7 +32,11 @@ impl Pattern {
         ensures { IfOk result (λ found. found ≡ pattern_of text.now) }
     {
         let bytes = text.as_bytes();
-        if bytes.is_empty() || bytes.len() > 1024 || bytes.contains(&0) || runs_of(bytes) > 1 {
+        if bytes.is_empty()
+            || bytes.len() > MOST_PATTERN_BYTES
+            || bytes.contains(&0)
+            || runs_of(bytes) > 1
+        {
             return Ok(None);
         }
         let text = String::from_str(alloc, text)?;
@@ -50,7 +55,10 @@ impl Pattern {
     /// The name of a frame's file: the run of n signs gives way to the frame's number in decimal, with
     /// leading zeros to n digits at least. Without a run it is the pattern's own text.
     pub fn name(&self, alloc: Global, frame: u32) -> Result<Name, Memory>
-        ensures { IfOk result (λ name. name ≡ name_of self.now frame) }
+        ensures value { IfOk result (λ name. name ≡ name_of self.now frame) }
+
+        // With a run, different frames have different names.
+        ensures apart { (other : ℕ) → other < 2 ^ 32 → runs self.now ≡ 1 → name_of self.now other ≡ name_of self.now frame → other ≡ frame }
     {
         Ok(Name::of(name_text(alloc, self.text.as_str(), frame)?))
     }

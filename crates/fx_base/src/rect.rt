@@ -1,8 +1,9 @@
 //! Rectangles of pixels: half open, with the y axis upwards (OpenFX 1.4, "Coordinate Systems").
 //! Contracts see a rectangle as its four bounds, and the set of its places by the word `Holds`.
-ghost use Rattle.std.specs.Prelude.{◌≡◌, ◌↔◌, ℤ, pos, negsuc, ◌+ℤ◌, ◌*ℤ◌, ◌≤ℤ◌, ◌<ℤ◌, ◌&&◌, IsTrue};
+ghost use Rattle.std.specs.Int.{int_gap};
+ghost use Rattle.std.specs.Prelude.{◌≡◌, ◌↔◌, ◌≤◌, ◌+◌, ◌^◌, ℕ, ℤ, pos, negsuc, ◌+ℤ◌, ◌*ℤ◌, ◌≤ℤ◌, ◌<ℤ◌, ◌&&◌, IsTrue};
 ghost use Rattle.fx_base.specs.Bounds.{Bounds, none};
-ghost use Rattle.fx_base.specs.Rect.{Holds, IsWithin, IsNear, Reaches, within, rect_of, meet, hull, grown, shifted, floor, ceiling, cover};
+ghost use Rattle.fx_base.specs.Rect.{Holds, IsWithin, IsNear, IsUpTo, IsStep, Reaches, within, rect_of, columns, rows, meet, hull, grown, shifted, stretched, floor, ceiling, cover};
 
 use crate::Fix;
 use std::marker::Model;
@@ -53,6 +54,22 @@ impl Rect {
         self.x1 >= self.x2
     }
 
+    /// How many columns it has.
+    pub fn width(self) -> u64
+        ensures value { result ≡ columns self }
+        ensures near { IsNear self → result ≤ 2 ^ 31 }
+    {
+        offset(self.x1, self.x2) as u64
+    }
+
+    /// How many rows it has.
+    pub fn height(self) -> u64
+        ensures value { result ≡ rows self }
+        ensures near { IsNear self → result ≤ 2 ^ 31 }
+    {
+        offset(self.y1, self.y2) as u64
+    }
+
     /// Whether it holds the pixel at column x and row y.
     pub fn holds(self, x: i64, y: i64) -> bool
         ensures { result ≡ within self x y }
@@ -77,6 +94,7 @@ impl Rect {
     pub fn meet(self, other: Rect) -> Rect
         ensures bounds { result ≡ meet self other }
         ensures places { (x y : ℤ) → within result x y ≡ (within self x y && within other x y) }
+        ensures reach { (n : ℕ) → IsUpTo n self → IsUpTo n result }
     {
         Rect::of(
             self.x1.max(other.x1),
@@ -92,6 +110,7 @@ impl Rect {
         ensures holds_self { IsWithin self result }
         ensures holds_other { IsWithin other result }
         ensures smallest { (t : Bounds) → IsWithin self t → IsWithin other t → IsWithin result t }
+        ensures reach { (n : ℕ) → IsUpTo n self → IsUpTo n other → IsUpTo n result }
     {
         if self.is_empty() {
             other
@@ -118,16 +137,9 @@ impl Rect {
         requires v_high { v ≤ℤ pos 1073741824 }
         ensures bounds { result ≡ grown self h v }
         ensures places { (x y : ℤ) → Holds result x y ↔ Reaches self h v x y }
+        ensures reach { (n k : ℕ) → h ≤ℤ pos k → v ≤ℤ pos k → IsUpTo n self → IsUpTo (n + k) result }
     {
-        if self.is_empty() {
-            return self;
-        }
-        Rect {
-            x1: self.x1 - h,
-            y1: self.y1 - v,
-            x2: self.x2 + h,
-            y2: self.y2 + v,
-        }
+        self.stretched(-h, -v, h, v)
     }
 
     /// The rectangle moved by dx columns to the right and dy rows up. The empty one stays empty.
@@ -140,15 +152,28 @@ impl Rect {
         requires dy_high { dy ≤ℤ pos 1073741824 }
         ensures bounds { result ≡ shifted self dx dy }
         ensures places { (x y : ℤ) → within result (x +ℤ dx) (y +ℤ dy) ≡ within self x y }
+        ensures reach { (n k : ℕ) → IsStep k dx → IsStep k dy → IsUpTo n self → IsUpTo (n + k) result }
+    {
+        self.stretched(dx, dy, dx, dy)
+    }
+
+    // Each bound moved, so that no column and no row is lost. The empty one stays empty.
+    fn stretched(self, left: i64, bottom: i64, right: i64, top: i64) -> Rect
+        requires near { IsNear self }
+        requires columns { left ≤ℤ right }
+        requires rows { bottom ≤ℤ top }
+        requires low { (negsuc 1073741823 ≤ℤ left) × (negsuc 1073741823 ≤ℤ bottom) }
+        requires high { (right ≤ℤ pos 1073741824) × (top ≤ℤ pos 1073741824) }
+        ensures { result ≡ stretched self left bottom right top }
     {
         if self.is_empty() {
             return self;
         }
         Rect {
-            x1: self.x1 + dx,
-            y1: self.y1 + dy,
-            x2: self.x2 + dx,
-            y2: self.y2 + dy,
+            x1: self.x1 + left,
+            y1: self.y1 + bottom,
+            x2: self.x2 + right,
+            y2: self.y2 + top,
         }
     }
 
@@ -165,6 +190,14 @@ impl Rect {
     {
         Rect::of(floor(x1), floor(y1), ceiling(x2), ceiling(y2))
     }
+}
+
+/// How many columns or rows lie from one coordinate on before another.
+pub fn offset(from: i64, to: i64) -> usize
+    requires { from ≤ℤ to }
+    ensures { result ≡ int_gap from to }
+{
+    to.abs_diff(from) as usize
 }
 
 fn floor(number: Fix) -> i64

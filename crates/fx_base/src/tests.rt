@@ -1,4 +1,4 @@
-use crate::{Fix, Name, Names, Pattern, Rect, Status};
+use crate::{Fix, Grid, Name, Names, Pattern, Rect, Status, offset};
 use std::test::Fail;
 
 #[test]
@@ -73,6 +73,7 @@ fn names_are_kept(rt: HostRuntime) -> Result<(), Fail> {
     let alloc = rt.alloc();
     let name = Name::of(String::from_str(alloc, "Source")?);
     assert_eq!(rt; name.text(), "Source");
+    assert_eq!(rt; name.copied(alloc)?.text(), "Source");
     let names = Names::of(vec![in alloc; name]?);
     assert_eq!(rt; names.items().len(), 1);
     assert_eq!(rt; names.into_items().len(), 1);
@@ -93,6 +94,7 @@ fn rectangles_are_half_open(rt: HostRuntime) {
         assert_eq!(rt; r.holds(x, y), held, "at {x} {y}");
     }
     assert!(rt; !r.is_empty());
+    assert_eq!(rt; (r.width(), r.height(), offset(-1, 3)), (4, 2, 4));
     for none in [Rect::of(3, 0, 3, 9), Rect::of(0, 5, 9, 4)] {
         assert!(rt; none.is_empty());
         assert_eq!(rt; none, Rect::of(0, 0, 0, 0));
@@ -182,6 +184,23 @@ fn canonical_rectangles_are_covered(rt: HostRuntime) {
         );
         assert_eq!(rt; covered, pixels, "at {x1} {y1} {x2} {y2}");
     }
+}
+
+#[test]
+fn tiles_are_listed_by_rows(rt: HostRuntime) -> Result<(), Fail> {
+    let alloc = rt.alloc();
+    let grid = Grid { side: 64 };
+    assert_eq!(rt; grid.tile(-2, 3), Rect::of(-128, 192, -64, 256));
+    let left = Rect::of(-64, 0, 0, 64);
+    let right = Rect::of(0, 0, 64, 64);
+    let across = grid.tiles_of(alloc, Rect::of(-1, 0, 1, 1))?;
+    assert_eq!(rt; across.as_slice(), [left, right].as_slice());
+    let up = grid.tiles_of(alloc, Rect::of(-1, 63, 1, 65))?;
+    let above = [Rect::of(-64, 64, 0, 128), Rect::of(0, 64, 64, 128)];
+    assert_eq!(rt; up.as_slice(), [left, right, above[0], above[1]].as_slice());
+    assert_eq!(rt; grid.tiles_of(alloc, left)?.as_slice(), [left].as_slice());
+    assert!(rt; grid.tiles_of(alloc, Rect::of(0, 0, 0, 0))?.is_empty());
+    Ok(())
 }
 
 #[test]

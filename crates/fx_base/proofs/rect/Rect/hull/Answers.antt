@@ -2,8 +2,9 @@ use Rattle.std.proofs.Common.{◌∙◌, sym, subst, arith}
 use Rattle.std.proofs.lemmas.Bool.{both_ways}
 use Rattle.std.proofs.lemmas.Int.{to_z-of_z}
 use Rattle.fx_base.specs.Bounds.{IsRect}
-use Rattle.fx_base.specs.Rect.{IsWithin}
+use Rattle.fx_base.specs.Rect.{IsWithin, IsUpTo}
 use Rattle.fx_base.proofs.RectLemmas.{IsProper, IsProper-from_rect, is_empty-proper, is_empty-none, IsProper-hull, IsRect-proper, hull-second_empty, hull_made, IsWithin-hull_first, IsWithin-hull_second, IsWithin-hull}
+use Rattle.fx_base.proofs.RectLaws.{IsUpTo-hull}
 use Rattle.fx_base.proofs.rect.Rect.hull.Goals as goal
 
 pub returns-then-is_empty-2-clause-bounds : goal.returns-then-is_empty-2-clause-bounds
@@ -38,3 +39,7 @@ returns-else-is_empty-2-clause-holds_other c = subst (IsWithin c.args.other) (sy
 
 pub returns-else-is_empty-2-clause-smallest : goal.returns-else-is_empty-2-clause-smallest
 returns-else-is_empty-2-clause-smallest c t first second = subst (λ b. IsWithin b t) (sym (returns-else-is_empty-2-clause-bounds c)) (IsWithin-hull c.args.self c.args.other t first second)
+
+pub returns-else-is_empty-2-clause-reach : goal.returns-else-is_empty-2-clause-reach
+returns-else-is_empty-2-clause-reach c n first second =
+    subst (IsUpTo n) (sym (returns-else-is_empty-2-clause-bounds c)) (IsUpTo-hull n c.args.self c.args.other first second)

@@ -1,55 +1,17 @@
-use Rattle.std.proofs.Common.{◌+ℤ◌, ◌∙◌, sym, subst, ap, arith}
-use Rattle.std.proofs.lemmas.Bool.{both_ways}
+use Rattle.std.proofs.Common.{◌∙◌, ◌+◌, ◌+ℤ◌, sym, ap, subst, arith}
 use Rattle.std.proofs.lemmas.Int.{ints}
-use Rattle.fx_base.specs.Bounds.{IsRect}
-use Rattle.fx_base.specs.Rect.{within}
-use Rattle.fx_base.proofs.RectLemmas.{IsProper, IsProper-from_rect, IsProper-shifted, IsRect-proper, shifted_made, within-shifted}
+use Rattle.fx_base.specs.Rect.{IsUpTo, within}
+use Rattle.fx_base.proofs.RectLemmas.{within-shifted, stretched_by}
+use Rattle.fx_base.proofs.RectLaws.{IsUpTo-shifted}
 use Rattle.fx_base.proofs.rect.Rect.shift.Goals as goal
 
-pub overflow_add-result : goal.overflow_add-result
-overflow_add-result c =
-    let near = rw (← c.self.view_is) at c.requires.near in
-    let proper : IsProper c.args.self = IsProper-from_rect c.args.self (rw (← c.self.view_is) c.self.invariant) (λ e. both_ways _ c.if-is_empty.false (c.is_empty.ensures.bounds.1 e)) in
-    let some = rw (← c.self.view_is) at proper in
-    omega (arith, ints)
-
-pub overflow_add-result-2 : goal.overflow_add-result-2
-overflow_add-result-2 c =
-    let near = rw (← c.self.view_is) at c.requires.near in
-    let proper : IsProper c.args.self = IsProper-from_rect c.args.self (rw (← c.self.view_is) c.self.invariant) (λ e. both_ways _ c.if-is_empty.false (c.is_empty.ensures.bounds.1 e)) in
-    let some = rw (← c.self.view_is) at proper in
-    omega (arith, ints)
-
-pub overflow_add-result-3 : goal.overflow_add-result-3
-overflow_add-result-3 c =
-    let near = rw (← c.self.view_is) at c.requires.near in
-    let proper : IsProper c.args.self = IsProper-from_rect c.args.self (rw (← c.self.view_is) c.self.invariant) (λ e. both_ways _ c.if-is_empty.false (c.is_empty.ensures.bounds.1 e)) in
-    let some = rw (← c.self.view_is) at proper in
-    omega (arith, ints)
-
-pub overflow_add-result-4 : goal.overflow_add-result-4
-overflow_add-result-4 c =
-    let near = rw (← c.self.view_is) at c.requires.near in
-    let proper : IsProper c.args.self = IsProper-from_rect c.args.self (rw (← c.self.view_is) c.self.invariant) (λ e. both_ways _ c.if-is_empty.false (c.is_empty.ensures.bounds.1 e)) in
-    let some = rw (← c.self.view_is) at proper in
-    omega (arith, ints)
-
 pub returns-clause-bounds : goal.returns-clause-bounds
-returns-clause-bounds c =
-    let near = rw (← c.self.view_is) at c.requires.near in
-    let proper : IsProper c.args.self = IsProper-from_rect c.args.self (rw (← c.self.view_is) c.self.invariant) (λ e. both_ways _ c.if-is_empty.false (c.is_empty.ensures.bounds.1 e)) in
-    let some = rw (← c.self.view_is) at proper in
-    shifted_made c.args.self c.args.dx c.args.dy _ _ _ _ proper
-    (rw (← c.self.view_is) (omega (arith, ints)))
-    (rw (← c.self.view_is) (omega (arith, ints)))
-    (rw (← c.self.view_is) (omega (arith, ints)))
-    (rw (← c.self.view_is) (omega (arith, ints)))
-
-pub invariant_of-result-2 : goal.invariant_of-result-2
-invariant_of-result-2 c =
-    let proper : IsProper c.args.self = IsProper-from_rect c.args.self (rw (← c.self.view_is) c.self.invariant) (λ e. both_ways _ c.if-is_empty.false (c.is_empty.ensures.bounds.1 e)) in
-    subst IsRect (sym (returns-clause-bounds c)) (IsRect-proper _ (IsProper-shifted c.args.self c.args.dx c.args.dy proper))
+returns-clause-bounds c = c.stretched.ensures ∙ stretched_by c.args.self _ _ _ _ c.args.dx c.args.dy c.args.dx c.args.dy (omega (arith, ints)) (omega (arith, ints)) (omega (arith, ints)) (omega (arith, ints))
 
 pub returns-clause-places : goal.returns-clause-places
 returns-clause-places c x y =
     ap (λ b. within b (x +ℤ c.args.dx) (y +ℤ c.args.dy)) (returns-clause-bounds c) ∙ within-shifted c.args.self c.args.dx c.args.dy x y
+
+pub returns-clause-reach : goal.returns-clause-reach
+returns-clause-reach c n k columns rows up_to =
+    subst (IsUpTo (n + k)) (sym (returns-clause-bounds c)) (IsUpTo-shifted n k c.args.dx c.args.dy c.args.self columns rows up_to)
