@@ -1,6 +1,6 @@
 -- Entries of shared keys and values, seen as entries of what they hold.
 use Rattle.std.proofs.Common.{◌≡◌, ℕ, zero, suc, ◌-◌, ◌<◌, ◌≤◌, ◌==◌, Bool, true, false, cond, not, ◌||◌, ◌+◌, nat_lt, List, [], ◌∷◌, length, map, take, Option, Some, None, sym, refl, ap, subst, ◌∙◌, arith, eq-eqb, ne_eqb}
-use Rattle.std.proofs.lemmas.List.{length-map, take-map}
+use Rattle.std.proofs.lemmas.List.{length-map, take-map, take_all}
 use native.Mathlib.Decide.{ℕ_discrete}
 use mathlib.Core.Logic.{dite}
 use borrow.Author.Tests.{ltb-true, ltb-false}
@@ -55,17 +55,10 @@ module _ {A B K V : Type 0} (f : A → K) (g : B → V) where
     | false ↦ λ is. rw is (no_entry test xs (rw is at e))
   ]) refl
 
-  -- a list that is not full loses nothing to one of its length at most
-  whole : (es : List (A × B)) (c : ℕ) → length es ≤ c → take c es ≡ es
-  whole [] zero h = refl
-  whole [] (suc c) h = refl
-  whole (e ∷ es) zero h = absurd (omega arith)
-  whole (e ∷ es) (suc c) h = ap (λ l. e ∷ l) (whole es c (omega arith))
-
   room_made : (es : List (A × B)) (c : ℕ) → length es ≤ suc c → map both (take c es) ≡ (cond (length (map both es) == suc c) (take c (map both es)) (map both es))
   room_made es c h = rw (length-map es both) (dite (ℕ_discrete (length es) (suc c))
       (λ e. rw (eq-eqb (length es) (suc c) e) (sym (take-map both c es)))
-      (λ ne. rw (ne_eqb (length es) (suc c) ne) (ap (map both) (whole es c (omega arith)))))
+      (λ ne. rw (ne_eqb (length es) (suc c) ne) (ap (map both) (take_all c es (omega arith)))))
 
   -- a new pair in a cache
   pub with_new-map : (test : K → Bool) (es : List (A × B)) (c : ℕ) (a : A) (b : B) → 0 < c → length es ≤ c → lookup test (map both es) ≡ None

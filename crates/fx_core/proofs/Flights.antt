@@ -1,27 +1,18 @@
 -- A flight that stands is found by its number, leaves alone, and its key is not kept.
-use Rattle.std.proofs.Common.{◌≡◌, ℕ, zero, suc, ◌+◌, ◌≤◌, ◌==◌, Bool, true, false, cond, List, [], ◌∷◌, ◌++◌, take, Some, None, Contains, ◌⊎◌, inl, inr, sym, refl, ap, arith, eq-eqb, length}
+use Rattle.std.proofs.Common.{◌≡◌, ℕ, zero, suc, ◌+◌, ◌≤◌, ◌==◌, Bool, true, false, cond, List, [], ◌∷◌, ◌++◌, take, Some, None, Contains, ◌⊎◌, inl, inr, sym, refl, ap, ◌∙◌, subst, arith, eq-eqb, length}
+use Rattle.std.proofs.lemmas.List.Elements.{Contains-push}
 use Rattle.std.specs.Cmp.{IsEquivalence}
 use Rattle.std.specs.Map.{lookup, remove_entry}
 use Rattle.lru.proofs.CallerLemmas.{Contains-take, Contains-promoted}
 use Rattle.fx_core.specs.State.{State}
 use Rattle.fx_core.specs.Step.{with_front, with_new, key_of}
 use Rattle.fx_core.specs.Sound.{IsSound}
+use Rattle.fx_core.proofs.CallerLemmas.{cases, none_in, numbers_once, key_under}
 use Rattle.fx_core.proofs.Counting.{count, lookup_from_none}
-use Rattle.fx_core.proofs.Members.{cases, none_in, one_from_member}
+use Rattle.fx_core.proofs.Members.{one_from_member}
 use Rattle.fx_core.proofs.Soundness.{counted}
 
 module _ {K : Type 0} where
-  -- the key that flies under the number of a flight that stands
-  pub key_under : (fs : List (ℕ × K)) (f : ℕ × K) → count (λ g. g.0 == f.0) fs ≤ 1 → Contains fs f → lookup (λ m. m == f.0) fs ≡ Some f.1
-  key_under [] f once c = absurd (none_in f c)
-  key_under (g ∷ fs) f once c = elim (cases g fs f c) [
-    | inl e ↦ rw (eq-eqb g.0 f.0 (ap (λ (z : ℕ × K). z.0) e)) (ap (λ (z : ℕ × K). Some z.1) e)
-    | inr d ↦ let h = one_from_member (λ g. g.0 == f.0) fs f d (eq-eqb f.0 f.0 refl) in (elim (g.0 == f.0) as (λ b. (g.0 == f.0) ≡ b → lookup (λ m. m == f.0) (g ∷ fs) ≡ Some f.1) [
-      | true ↦ λ is. let two : 1 + count (λ g. g.0 == f.0) fs ≤ 1 = rw is at once in absurd (omega arith)
-      | false ↦ λ is. let rest : 0 + count (λ g. g.0 == f.0) fs ≤ 1 = rw is at once in rw is (key_under fs f (omega arith) d)
-    ]) refl
-  ]
-
   abbrev Left : List (ℕ × K) → ℕ × K → List (ℕ × K) → Type 0
   Left old f new = (before : List (ℕ × K)) × (after : List (ℕ × K)) × (old ≡ before ++ f ∷ after) × (new ≡ before ++ after)
 
@@ -37,9 +28,24 @@ module _ {K : Type 0} where
     ]) refl
   ]
 
+  -- the one that began last is the one that leaves
+  pub last_leaves : (others : List (ℕ × K)) (f : ℕ × K) → count (λ g. g.0 == f.0) (others ++ f ∷ []) ≤ 1 → remove_entry (λ m. m == f.0) (others ++ f ∷ []) ≡ others
+  last_leaves [] f once = rw (eq-eqb f.0 f.0 refl) refl
+  last_leaves (g ∷ others) f once =
+      let there = one_from_member (λ g. g.0 == f.0) (others ++ f ∷ []) f (Contains-push others f) (eq-eqb f.0 f.0 refl) in (elim (g.0 == f.0) as (λ b. (g.0 == f.0) ≡ b → remove_entry (λ m. m == f.0) (g ∷ (others ++ f ∷ [])) ≡ g ∷ others) [
+        | true ↦ λ is. let two : 1 + count (λ g. g.0 == f.0) (others ++ f ∷ []) ≤ 1 = rw is at once in absurd (omega arith)
+        | false ↦ λ is. let rest : 0 + count (λ g. g.0 == f.0) (others ++ f ∷ []) ≤ 1 = rw is at once in rw is (ap (λ (z : List (ℕ × K)). g ∷ z) (last_leaves others f (omega arith)))
+      ]) refl
+
+module _ {K V : Type 0} (eq : K → K → Bool) (laws : IsEquivalence eq) (s : State K V) (r : IsSound eq s) (f : ℕ × K) where
+  pub standing_last : (others : List (ℕ × K)) → s.flying ≡ others ++ f ∷ [] → remove_entry (λ m. m == f.0) s.flying ≡ others
+  standing_last others last =
+      let once = (counted eq laws s r).numbers f.0 in
+      ap (remove_entry (λ m. m == f.0)) last ∙ last_leaves others f (subst (λ (fs : List (ℕ × K)). count (λ g. g.0 == f.0) fs ≤ 1) last once)
+
 module _ {K V : Type 0} (eq : K → K → Bool) (laws : IsEquivalence eq) (s : State K V) (r : IsSound eq s) (f : ℕ × K) (stands : Contains s.flying f) where
   pub standing_key : key_of s f.0 ≡ Some f.1
-  standing_key = key_under s.flying f ((counted eq laws s r).numbers f.0) stands
+  standing_key = key_under s.flying f (numbers_once s.flying r.numbers_differ f.0) stands
 
   pub standing_leaves : (before : List (ℕ × K)) × (after : List (ℕ × K)) × (s.flying ≡ before ++ f ∷ after) × (remove_entry (λ m. m == f.0) s.flying ≡ before ++ after)
   standing_leaves = leaves s.flying f ((counted eq laws s r).numbers f.0) stands

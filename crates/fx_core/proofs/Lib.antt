@@ -1,3 +1,4 @@
+pub mod CallerLemmas
 pub mod Counting
 pub mod Entries
 pub mod Flights

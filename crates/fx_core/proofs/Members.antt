@@ -1,24 +1,10 @@
 -- The elements of a list, and what a look-up finds among them.
-use Rattle.std.proofs.Common.{◌≡◌, ℕ, zero, suc, ◌<◌, ◌≤◌, Bool, true, false, cond, List, [], ◌∷◌, length, take, get_or, Some, Contains, ◌⊎◌, inl, inr, sym, refl, ap, subst, arith}
+use Rattle.std.proofs.Common.{◌≡◌, ℕ, zero, suc, ◌≤◌, Bool, true, false, cond, List, [], ◌∷◌, take, Some, Contains, ◌⊎◌, inl, inr, sym, refl, ap, subst, arith}
 use Rattle.std.specs.Map.{lookup, remove_entry}
+use Rattle.fx_core.proofs.CallerLemmas.{cases, none_in, first, later}
 use Rattle.fx_core.proofs.Counting.{count}
 
 module _ {A : Type 0} where
-  pub cases : (y : A) (xs : List A) (x : A) → Contains (y ∷ xs) x → (y ≡ x) ⊎ Contains xs x
-  cases y xs x c = at c.0 c.1 c.2 where
-    at : (k : ℕ) → k < length (y ∷ xs) → get_or (y ∷ xs) k x ≡ x → (y ≡ x) ⊎ Contains xs x
-    at zero h e = inl e
-    at (suc k) h e = inr (k, omega arith, e)
-
-  pub none_in : (x : A) → Contains [] x → ⊥
-  none_in x c = let h : c.0 < 0 = c.1 in omega arith
-
-  pub first : (x : A) (xs : List A) → Contains (x ∷ xs) x
-  first x xs = (0, omega arith, refl)
-
-  pub later : (y : A) (xs : List A) (x : A) → Contains xs x → Contains (y ∷ xs) x
-  later y xs x c = let within = c.1 in (suc c.0, omega arith, c.2)
-
   pub one_from_member : (t : A → Bool) (xs : List A) (x : A) → Contains xs x → t x ≡ true → 1 ≤ count t xs
   one_from_member t [] x c is = absurd (none_in x c)
   one_from_member t (y ∷ xs) x c is = elim (cases y xs x c) [

@@ -17,7 +17,8 @@ use Rattle.fx_core.specs.Sound.{IsSound}
 use Rattle.fx_core.specs.Run.{Moment, IsStart, IsRun, flights_of, endings_of, last_landed, IsLastLanded, IsOnlyFlight, FliesOnce, NumbersDiffer}
 use Rattle.fx_core.proofs.Counting.{count, count_by-is, count-map, count-agree, none_from_any, distinct_from_once, count-remove_entry, entry_of, count-with_front}
 use Rattle.fx_core.proofs.Soundness.{counted, sound_step, turned, more}
-use Rattle.fx_core.proofs.Members.{cases, none_in, first, later, one_from_member, stays, lookup-agree, lookup-take}
+use Rattle.fx_core.proofs.CallerLemmas.{cases, none_in, first, later}
+use Rattle.fx_core.proofs.Members.{one_from_member, stays, lookup-agree, lookup-take}
 use Rattle.fx_core.proofs.Steps.{sound_start}
 
 at_most_one : (b : Bool) → cond {A = ℕ} b 1 0 ≤ 1

@@ -10,7 +10,8 @@ use Rattle.std.specs.Option.{option_map}
 use Rattle.fx_core.specs.State.{State}
 use Rattle.fx_core.specs.Step.{is_full, with_new, key_of, after_hit, after_busy, after_flight, after_landing, after_drop, is_flying, ask_step, step, Event, Ask, Land, Drop, Reply, Done}
 use Rattle.fx_core.specs.Sound.{IsSound}
-use Rattle.fx_core.proofs.Counting.{count, count-append, count-take-le, count-agree, count-map, none_from_any, any_from_none, once_from_distinct, distinct_from_once, count-remove_entry, length-remove_entry, entry_of, count-with_front, length-with_front, none_from_lookup, one_from_lookup}
+use Rattle.fx_core.proofs.CallerLemmas.{numbers_once}
+use Rattle.fx_core.proofs.Counting.{count, count_by-is, count-append, count-take-le, count-agree, count-map, none_from_any, any_from_none, once_from_distinct, distinct_from_once, count-remove_entry, length-remove_entry, entry_of, count-with_front, length-with_front, none_from_lookup, one_from_lookup}
 
 -- a count and a map's word test numbers the one way and the other
 pub turned : (n m : ℕ) → nat_eq n m ≡ (m == n)
@@ -77,8 +78,7 @@ module _ {K V : Type 0} (eq : K → K → Bool) (laws : IsEquivalence eq) where
           | None ↦ λ is. let none = none_from_lookup (eq k) s.kept is in omega arith
           | Some v ↦ λ is. let none = none_from_any (λ (f : ℕ × K). eq k f.1) s.flying (r.not_both k (rw is refl)) in omega arith
         ]) refl;
-    numbers = λ n. let c = once_from_distinct nat_eq nat_eq_equiv (keys_of s.flying) r.numbers_differ n in let c' = count-map (nat_eq n) (λ (f : ℕ × K). f.0) s.flying in
-        let t = count-agree (λ (f : ℕ × K). nat_eq n f.0) (λ f. f.0 == n) (λ f. turned n f.0) s.flying in omega arith;
+    numbers = λ n. let once = numbers_once s.flying r.numbers_differ n in let same = count_by-is (λ (f : ℕ × K). f.0 == n) s.flying in omega arith;
     below = λ n h. below_from_all s.flying s.next n r.numbers_below h;
     asks = r.asks;
     flights = r.flights;

@@ -1,5 +1,6 @@
 -- The totals of a run count what was done and what was answered.
-use Rattle.std.proofs.Common.{◌≡◌, ℕ, Bool, true, false, List, [], ◌∷◌, Option, Some, None, sym, refl, ◌∙◌, subst, arith}
+use Rattle.std.proofs.Common.{◌≡◌, ℕ, ◌+◌, Bool, true, false, cond, List, [], ◌∷◌, Option, Some, None, refl, subst, arith}
+use Rattle.std.specs.Prelude.{count_by}
 use Rattle.std.specs.Map.{lookup}
 use Rattle.std.specs.Option.{option_map}
 use Rattle.fx_core.specs.declared.totals.Totals.{Totals}
@@ -8,91 +9,72 @@ use Rattle.fx_core.specs.Step.{Event, Ask, Land, Drop, Reply, Done, key_of, afte
 use Rattle.fx_core.specs.Run.{Moment, IsRun, CountsRun, is_ask, is_land, is_drop, is_here, is_busy, is_fly}
 use Rattle.fx_core.proofs.Counting.{count, count_by-is}
 
+-- a count of a longer list
+one_more : {A : Type 0} (t : A → Bool) (x : A) (xs : List A) (old new : ℕ) → old ≡ count_by t xs → new ≡ (cond (t x) (old + 1) old) → new ≡ count_by t (x ∷ xs)
+one_more t x xs old new h e = by (t x) refl where
+  by : (b : Bool) → t x ≡ b → new ≡ count_by t (x ∷ xs)
+  by true is =
+      let rises : new ≡ old + 1 = rw is at e in
+      let one : cond {A = ℕ} (t x) 1 0 ≡ 1 = rw is refl in
+      let all : count_by t (x ∷ xs) ≡ cond {A = ℕ} (t x) 1 0 + count t xs = count_by-is t (x ∷ xs) in
+      let rest = count_by-is t xs in omega arith
+  by false is =
+      let stays : new ≡ old = rw is at e in
+      let none : cond {A = ℕ} (t x) 1 0 ≡ 0 = rw is refl in
+      let all : count_by t (x ∷ xs) ≡ cond {A = ℕ} (t x) 1 0 + count t xs = count_by-is t (x ∷ xs) in
+      let rest = count_by-is t xs in omega arith
+
 module _ {K V : Type 0} where
-  record Counts (moments : List (Moment K V)) (t : Totals) : Type 0 where
-    asks : t.asks ≡ count (λ m. is_ask m.event) moments
-    hits : t.hits ≡ count (λ m. is_here m.reply) moments
-    busies : t.busies ≡ count (λ m. is_busy m.reply) moments
-    flights : t.flights ≡ count (λ m. is_fly m.reply) moments
-    landed : t.landed ≡ count (λ m. is_land m.event) moments
-    dropped : t.dropped ≡ count (λ m. is_drop m.event) moments
+  -- what a moment adds to the totals
+  record Rises (m : Moment K V) (old new : Totals) : Type 0 where
+    asks : new.asks ≡ cond (is_ask m.event) (old.asks + 1) old.asks
+    hits : new.hits ≡ cond (is_here m.reply) (old.hits + 1) old.hits
+    busies : new.busies ≡ cond (is_busy m.reply) (old.busies + 1) old.busies
+    flights : new.flights ≡ cond (is_fly m.reply) (old.flights + 1) old.flights
+    landed : new.landed ≡ cond (is_land m.event) (old.landed + 1) old.landed
+    dropped : new.dropped ≡ cond (is_drop m.event) (old.dropped + 1) old.dropped
+
+  counts_more : (m : Moment K V) (ms : List (Moment K V)) (old new : Totals) → CountsRun ms old → Rises m old new → CountsRun (m ∷ ms) new
+  counts_more m ms old new c r = record {
+    asks = one_more (λ m. is_ask m.event) m ms old.asks new.asks c.asks r.asks;
+    hits = one_more (λ m. is_here m.reply) m ms old.hits new.hits c.hits r.hits;
+    busies = one_more (λ m. is_busy m.reply) m ms old.busies new.busies c.busies r.busies;
+    flights = one_more (λ m. is_fly m.reply) m ms old.flights new.flights c.flights r.flights;
+    landed = one_more (λ m. is_land m.event) m ms old.landed new.landed c.landed r.landed;
+    dropped = one_more (λ m. is_drop m.event) m ms old.dropped new.dropped c.dropped r.dropped;
+  }
 
   abbrev moment : Event K V → Reply V → Moment K V
   moment e r = record { event = e; reply = r }
 
 module _ {K V : Type 0} (eq : K → K → Bool) where
-  counts_ask : (ms : List (Moment K V)) (s : State K V) (k : K) → Counts ms s.totals → (o : Option V) (b : Bool) → Counts (moment (Ask k) (ask_step eq s k o b).0 ∷ ms) (ask_step eq s k o b).1.totals
-  counts_ask ms s k t (Some v) b = record {
-    asks = let c = t.asks in omega arith;
-    hits = let c = t.hits in omega arith;
-    busies = let c = t.busies in omega arith;
-    flights = let c = t.flights in omega arith;
-    landed = let c = t.landed in omega arith;
-    dropped = let c = t.dropped in omega arith;
-  }
-  counts_ask ms s k t None true = record {
-    asks = let c = t.asks in omega arith;
-    hits = let c = t.hits in omega arith;
-    busies = let c = t.busies in omega arith;
-    flights = let c = t.flights in omega arith;
-    landed = let c = t.landed in omega arith;
-    dropped = let c = t.dropped in omega arith;
-  }
-  counts_ask ms s k t None false = record {
-    asks = let c = t.asks in omega arith;
-    hits = let c = t.hits in omega arith;
-    busies = let c = t.busies in omega arith;
-    flights = let c = t.flights in omega arith;
-    landed = let c = t.landed in omega arith;
-    dropped = let c = t.dropped in omega arith;
-  }
+  rises_ask : (s : State K V) (k : K) (o : Option V) (b : Bool) → Rises {K = K} {V = V} (moment (Ask k) (ask_step eq s k o b).0) s.totals (ask_step eq s k o b).1.totals
+  rises_ask s k (Some v) b = record { asks = refl; hits = refl; busies = refl; flights = refl; landed = refl; dropped = refl }
+  rises_ask s k None true = record { asks = refl; hits = refl; busies = refl; flights = refl; landed = refl; dropped = refl }
+  rises_ask s k None false = record { asks = refl; hits = refl; busies = refl; flights = refl; landed = refl; dropped = refl }
 
-  counts_land : (ms : List (Moment K V)) (s : State K V) (n : ℕ) (k : K) (v : V) → Counts ms s.totals → Counts (moment (Land n v) Done ∷ ms) (after_landing s n k v).totals
-  counts_land ms s n k v t = record {
-    asks = let c = t.asks in omega arith;
-    hits = let c = t.hits in omega arith;
-    busies = let c = t.busies in omega arith;
-    flights = let c = t.flights in omega arith;
-    landed = let c = t.landed in omega arith;
-    dropped = let c = t.dropped in omega arith;
-  }
+  rises_land : (s : State K V) (n : ℕ) (k : K) (v : V) → Rises {K = K} {V = V} (moment (Land n v) Done) s.totals (after_landing s n k v).totals
+  rises_land s n k v = record { asks = refl; hits = refl; busies = refl; flights = refl; landed = refl; dropped = refl }
 
-  counts_drop : (ms : List (Moment K V)) (s : State K V) (n : ℕ) → Counts ms s.totals → Counts (moment (Drop n) Done ∷ ms) (after_drop s n).totals
-  counts_drop ms s n t = record {
-    asks = let c = t.asks in omega arith;
-    hits = let c = t.hits in omega arith;
-    busies = let c = t.busies in omega arith;
-    flights = let c = t.flights in omega arith;
-    landed = let c = t.landed in omega arith;
-    dropped = let c = t.dropped in omega arith;
-  }
+  rises_drop : (s : State K V) (n : ℕ) → Rises {K = K} {V = V} (moment (Drop n) Done) s.totals (after_drop s n).totals
+  rises_drop s n = record { asks = refl; hits = refl; busies = refl; flights = refl; landed = refl; dropped = refl }
 
-  counts_after : (ms : List (Moment K V)) (e : Event K V) (r : Reply V) (s : State K V) (p : Reply V × State K V) → Counts (moment e p.0 ∷ ms) p.1.totals → Some p ≡ Some (r, s) → Counts (moment e r ∷ ms) s.totals
-  counts_after ms e r s p t h = let same : p ≡ (r, s) = cc in subst (λ (q : Reply V × State K V). Counts (moment e q.0 ∷ ms) q.1.totals) same t
+  rises_after : (e : Event K V) (r : Reply V) (old : Totals) (s : State K V) (p : Reply V × State K V) → Rises {K = K} {V = V} (moment e p.0) old p.1.totals → Some p ≡ Some (r, s) → Rises {K = K} {V = V} (moment e r) old s.totals
+  rises_after e r old s p t h = let same : p ≡ (r, s) = cc in subst (λ (q : Reply V × State K V). Rises {K = K} {V = V} (moment e q.0) old q.1.totals) same t
 
-  counts_landing : (ms : List (Moment K V)) (b s : State K V) (n : ℕ) (v : V) (r : Reply V) → Counts ms b.totals → (o : Option K) → option_map {U = Reply V × State K V} (λ k. (Done, after_landing b n k v)) o ≡ Some (r, s) → Counts (moment (Land n v) r ∷ ms) s.totals
-  counts_landing ms b s n v r t None h = cc
-  counts_landing ms b s n v r t (Some k) h = counts_after ms (Land n v) r s (Done, after_landing b n k v) (counts_land ms b n k v t) h
+  rises_landing : (b s : State K V) (n : ℕ) (v : V) (r : Reply V) (o : Option K) → option_map {U = Reply V × State K V} (λ k. (Done, after_landing b n k v)) o ≡ Some (r, s) → Rises {K = K} {V = V} (moment (Land n v) r) b.totals s.totals
+  rises_landing b s n v r None h = cc
+  rises_landing b s n v r (Some k) h = rises_after (Land n v) r b.totals s (Done, after_landing b n k v) (rises_land b n k v) h
 
-  counts_dropping : (ms : List (Moment K V)) (b s : State K V) (n : ℕ) (r : Reply V) → Counts ms b.totals → (o : Option K) → option_map {U = Reply V × State K V} (λ (k : K). (Done, after_drop b n)) o ≡ Some (r, s) → Counts (moment (Drop n) r ∷ ms) s.totals
-  counts_dropping ms b s n r t None h = cc
-  counts_dropping ms b s n r t (Some k) h = counts_after ms (Drop n) r s (Done, after_drop b n) (counts_drop ms b n t) h
+  rises_dropping : (b s : State K V) (n : ℕ) (r : Reply V) (o : Option K) → option_map {U = Reply V × State K V} (λ (k : K). (Done, after_drop b n)) o ≡ Some (r, s) → Rises {K = K} {V = V} (moment (Drop n) r) b.totals s.totals
+  rises_dropping b s n r None h = cc
+  rises_dropping b s n r (Some k) h = rises_after (Drop n) r b.totals s (Done, after_drop b n) (rises_drop b n) h
 
-  counts_step : (ms : List (Moment K V)) (b s : State K V) (e : Event K V) (r : Reply V) → Counts ms b.totals → step eq b e ≡ Some (r, s) → Counts (moment e r ∷ ms) s.totals
-  counts_step ms b s (Ask k) r t h = counts_after ms (Ask k) r s (ask_step eq b k (lookup (eq k) b.kept) (is_flying eq b k)) (counts_ask ms b k t (lookup (eq k) b.kept) (is_flying eq b k)) h
-  counts_step ms b s (Land n v) r t h = counts_landing ms b s n v r t (key_of b n) h
-  counts_step ms b s (Drop n) r t h = counts_dropping ms b s n r t (key_of b n) h
-
-  counts : (ms : List (Moment K V)) (s : State K V) → IsRun eq ms s → Counts ms s.totals
-  counts [] s run = rw (run.2) record { asks = refl; hits = refl; busies = refl; flights = refl; landed = refl; dropped = refl }
-  counts (m ∷ ms) s run = counts_step ms run.0 s m.event m.reply (counts ms run.0 run.1) run.2
+  rises_step : (b s : State K V) (e : Event K V) (r : Reply V) → step eq b e ≡ Some (r, s) → Rises {K = K} {V = V} (moment e r) b.totals s.totals
+  rises_step b s (Ask k) r h = rises_after (Ask k) r b.totals s (ask_step eq b k (lookup (eq k) b.kept) (is_flying eq b k)) (rises_ask b k (lookup (eq k) b.kept) (is_flying eq b k)) h
+  rises_step b s (Land n v) r h = rises_landing b s n v r (key_of b n) h
+  rises_step b s (Drop n) r h = rises_dropping b s n r (key_of b n) h
 
   pub counts_run : (ms : List (Moment K V)) (s : State K V) → IsRun eq ms s → CountsRun ms s.totals
-  counts_run ms s run = let t = counts ms s run in record {
-    asks = t.asks ∙ sym (count_by-is (λ m. is_ask m.event) ms);
-    hits = t.hits ∙ sym (count_by-is (λ m. is_here m.reply) ms);
-    busies = t.busies ∙ sym (count_by-is (λ m. is_busy m.reply) ms);
-    flights = t.flights ∙ sym (count_by-is (λ m. is_fly m.reply) ms);
-    landed = t.landed ∙ sym (count_by-is (λ m. is_land m.event) ms);
-    dropped = t.dropped ∙ sym (count_by-is (λ m. is_drop m.event) ms);
-  }
+  counts_run [] s run = rw (run.2) record { asks = refl; hits = refl; busies = refl; flights = refl; landed = refl; dropped = refl }
+  counts_run (m ∷ ms) s run = counts_more m ms run.0.totals s.totals (counts_run ms run.0 run.1) (rises_step run.0 s m.event m.reply run.2)

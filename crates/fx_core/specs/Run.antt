@@ -16,10 +16,12 @@ module _ {K V : Type 0} where
   abbrev pub IsStart : State K V → Type 0
   IsStart s = (s.kept ≡ []) × (s.flying ≡ []) × (s.totals ≡ no_totals)
 
-  -- The moments, the latest first, lead from a start to the state: each is a step from the state to which the earlier ones lead.
+  -- The moments, the latest first, lead from a start to the state: each is a step from the state to which the
+  -- earlier ones lead.
   abbrev pub IsRun : (K → K → Bool) → List (Moment K V) → State K V → Type 0
   IsRun eq [] s = IsStart s
-  IsRun eq (m ∷ earlier) s = (before : State K V) × IsRun eq earlier before × (step eq before m.event ≡ Some (m.reply, s))
+  IsRun eq (m ∷ earlier) s =
+      (before : State K V) × IsRun eq earlier before × (step eq before m.event ≡ Some (m.reply, s))
 
   -- the flight that the moment began: its number and its key
   abbrev pub flight_of : Event K V → Reply V → Option (ℕ × K)
@@ -113,8 +115,12 @@ module _ {K V : Type 0} (eq : K → K → Bool) where
 
   -- Where an ask is answered by a flight, every earlier flight of the key has landed or was dropped.
   abbrev pub IsOnlyFlight : List (Moment K V) → Moment K V → Type 0
-  IsOnlyFlight earlier m = (k : K) (n : ℕ) (f : ℕ × K) → m.event ≡ Ask k → m.reply ≡ Fly n → Contains (flights_of earlier) f → eq k f.1 ≡ true → Contains (endings_of earlier) f.0
+  IsOnlyFlight earlier m =
+      (k : K) (n : ℕ) (f : ℕ × K) → m.event ≡ Ask k → m.reply ≡ Fly n
+      → Contains (flights_of earlier) f → eq k f.1 ≡ true → Contains (endings_of earlier) f.0
 
   -- Where values are kept, and none was dropped or evicted, each key was answered by one flight at most.
   abbrev pub FliesOnce : List (Moment K V) → State K V → Type 0
-  FliesOnce moments s = 0 < s.capacity → s.totals.dropped ≡ 0 → s.totals.evicted ≡ 0 → (k : K) → count_by (λ f. eq k f.1) (flights_of moments) ≤ 1
+  FliesOnce moments s =
+      0 < s.capacity → s.totals.dropped ≡ 0 → s.totals.evicted ≡ 0
+      → (k : K) → count_by (λ f. eq k f.1) (flights_of moments) ≤ 1

@@ -5,7 +5,7 @@ use Rattle.std.specs.List.{IsDistinct}
 use Rattle.fx_core.specs.State.{State}
 use Rattle.fx_core.specs.Step.{is_flying}
 
--- `eq` tells whether two keys are equal. The keys of `flying` are the flights' numbers, and its values are the flying keys.
+-- `eq` tells whether two keys are equal. The keys of `flying` are the flights' numbers, and its values the flying keys.
 pub record IsSound {K V : Type 0} (eq : K → K → Bool) (s : State K V) : Type 0 where
   -- kept keys differ, and there are at most as many as the capacity
   pub kept_differ : IsDistinct eq (keys_of s.kept)

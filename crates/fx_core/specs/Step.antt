@@ -39,40 +39,54 @@ module _ {K V : Type 0} where
 
   -- the entry of the key goes to the front
   abbrev pub after_hit : State K V → (K → Bool) → State K V
-  after_hit s test = record s { kept = with_front test s.kept; totals = record s.totals { asks = s.totals.asks + 1; hits = s.totals.hits + 1 } }
+  after_hit s test =
+      let t = s.totals in
+      record s { kept = with_front test s.kept; totals = record t { asks = t.asks + 1; hits = t.hits + 1 } }
 
   abbrev pub after_busy : State K V → State K V
   after_busy s = record s { totals = record s.totals { asks = s.totals.asks + 1; busies = s.totals.busies + 1 } }
 
   -- the key flies under the next number
   abbrev pub after_flight : State K V → K → State K V
-  after_flight s k = record s { flying = s.flying ++ (s.next, k) ∷ []; next = s.next + 1; totals = record s.totals { asks = s.totals.asks + 1; flights = s.totals.flights + 1 } }
+  after_flight s k =
+      let t = s.totals in
+      record s {
+        flying = s.flying ++ (s.next, k) ∷ [];
+        next = s.next + 1;
+        totals = record t { asks = t.asks + 1; flights = t.flights + 1 };
+      }
 
   -- the flight ends, and the value is kept under its key
   abbrev pub after_landing : State K V → ℕ → K → V → State K V
   after_landing s n k v =
+      let t = s.totals in
+      let evicted = t.evicted + (if is_full s.capacity s.kept then 1 else 0) in
       record s {
         kept = with_new s.capacity s.kept (k, v);
         flying = remove_entry (λ m. m == n) s.flying;
-        totals = record s.totals { landed = s.totals.landed + 1; evicted = s.totals.evicted + (if is_full s.capacity s.kept then 1 else 0) };
+        totals = record t { landed = t.landed + 1; evicted = evicted };
       }
 
   -- the flight ends
   abbrev pub after_drop : State K V → ℕ → State K V
-  after_drop s n = record s { flying = remove_entry (λ m. m == n) s.flying; totals = record s.totals { dropped = s.totals.dropped + 1 } }
+  after_drop s n =
+      let t = s.totals in
+      record s { flying = remove_entry (λ m. m == n) s.flying; totals = record t { dropped = t.dropped + 1 } }
 
   -- `eq` tells whether two keys are equal
   module _ (eq : K → K → Bool) where
     abbrev pub is_flying : State K V → K → Bool
     is_flying s k = list_any (λ f. eq k f.1) s.flying
 
-    -- the answer to an ask and the state after it, by the value that is kept under the key and by whether the key is flying
+    -- The answer to an ask and the state after it, by the value that is kept under the key and by whether the key is
+    -- flying
     abbrev pub ask_step : State K V → K → Option V → Bool → Reply V × State K V
     ask_step s k (Some v) flying = (Here v, after_hit s (eq k))
     ask_step s k None true = (Busy, after_busy s)
     ask_step s k None false = (Fly s.next, after_flight s k)
 
-    -- the answer to an event and the state after it. Nothing lands and nothing is dropped under a number that isn't flying
+    -- The answer to an event and the state after it. Nothing lands and nothing is dropped under a number that isn't
+    -- flying
     abbrev pub step : State K V → Event K V → Option (Reply V × State K V)
     step s (Ask k) = Some (ask_step s k (lookup (eq k) s.kept) (is_flying s k))
     step s (Land n v) = option_map (λ k. (Done, after_landing s n k v)) (key_of s n)

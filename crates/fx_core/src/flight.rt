@@ -1,11 +1,11 @@
-//! What goes into a core and comes out of it. A permit, a ticket and a flight are no values to let go:
-//! each is handed on until a call takes it.
+//! What goes into a core and comes out of it. A ticket and a flight are no values to let go: each is
+//! handed on until a call takes it.
 ghost use Rattle.std.specs.Prelude.{◌≡◌};
 
 use std::sync::Arc;
 
 /// The right to a core of a scene. The core gives it back where it ends.
-#[derive(Debug)]
+#[derive(Debug, Drop)]
 pub struct Permit {
     /// The scene's number.
     pub scene: u64,

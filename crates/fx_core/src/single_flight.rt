@@ -5,7 +5,7 @@ ghost use Rattle.std.specs.Arc.{arc_value};
 ghost use Rattle.fx_core.specs.State.{start, SameMake};
 ghost use Rattle.fx_core.specs.Step.{step, is_flying, Ask, Land, Drop, Done};
 ghost use Rattle.fx_core.specs.Sound.{IsSound};
-ghost use Rattle.fx_core.specs.Flight.{Stands, Leaves};
+ghost use Rattle.fx_core.specs.Flight.{Stands, Leaves, LeavesLast};
 ghost use Rattle.fx_core.specs.Answer.{reply_of, counted, IsKeptFor, IsFreshFor, Joins, KeepsNoMore, KeepsAtMost};
 
 use crate::flight::{Answer, Flight, Permit, Ticket};
@@ -19,6 +19,7 @@ use std::marker::Model;
 use std::sync::Arc;
 
 /// What was made for a scene, what is being made, and the counts. With capacity 0 nothing is kept.
+#[derive(Drop)]
 pub struct Core<K: Eq + Hash, V> {
     permit: Permit,
     kept: Kept<K, V>,
@@ -36,7 +37,8 @@ impl<K: Eq + Hash, V> Model for Core<K, V> {
 
     ghost view = { λ c. state_of c.permit.scene c.kept c.flying c.totals };
 
-    ghost invariant = { λ c. IsSound K.eq (state_of c.permit.scene c.kept c.flying c.totals) × (c.totals.asks ≤ 2 ^ 62) };
+    ghost invariant = { λ c. let state = state_of c.permit.scene c.kept c.flying c.totals in
+        IsSound K.eq state × (c.totals.asks ≤ 2 ^ 62) };
 }
 
 // A call that may run out of memory takes the allocator, though a core's lists keep their own.
@@ -123,6 +125,7 @@ impl<K: Eq + Hash + Drop, V: Drop> Core<K, V> {
 
         // What follows of what stays.
         ensures leaves { OnOk result (Leaves self.old.flying self.new.flying flight) }
+        ensures last { OnOk result (LeavesLast self.old.flying self.new.flying flight) }
         ensures counts { let old = self.old.totals in let evicted = self.new.totals.evicted in
             OnOk result (self.new.totals ≡ record old { landed = old.landed + 1; evicted = evicted }) }
         ensures kept { KeepsAtMost self.old.kept (arc_value flight.key, arc_value value) self.new.kept }
@@ -149,6 +152,7 @@ impl<K: Eq + Hash + Drop, V: Drop> Core<K, V> {
 
         // What follows of what stays.
         ensures leaves { Leaves self.old.flying self.new.flying flight }
+        ensures last { LeavesLast self.old.flying self.new.flying flight }
         ensures counts { let old = self.old.totals in self.new.totals ≡ record old { dropped = old.dropped + 1 } }
         ensures kept { self.new.kept ≡ self.old.kept }
         ensures same { SameMake self.old self.new }

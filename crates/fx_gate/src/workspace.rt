@@ -23,7 +23,8 @@ impl Workspace {
     /// Makes room: at least so many cells, with the old ones unchanged. At `Memory` nothing changed.
     pub fn room(&mut self, _alloc: Global, n: u32) -> Result<(), Memory>
         ensures enough { OnOk result (n ≤ vec_len self.new.cells) }
-        ensures cells { OnOk result (self.new.cells.items ≡ self.old.cells.items ++ replicate (n - vec_len self.old.cells) 0) }
+        ensures cells { let old = self.old.cells in
+            OnOk result (self.new.cells.items ≡ old.items ++ replicate (n - vec_len old) 0) }
         ensures err { OnErr result (self.new.cells.items ≡ self.old.cells.items) }
     {
         let count = n as usize;

@@ -3,3 +3,4 @@ pub mod Tally
 pub mod Memory
 pub mod Objects
 pub mod Sure
+pub mod Real

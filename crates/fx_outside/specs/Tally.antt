@@ -6,7 +6,8 @@ use Rattle.std.specs.List.{list_any}
 abbrev pub one_more : ℕ → ℕ
 one_more n = min (n + 1) (2 ^ 64 - 1)
 
--- the numbers of the calls that are to fail, counted from 1; how many calls came, and how many failed; the name of the last that did
+-- the numbers of the calls that are to fail, counted from 1; how many calls came, and how many failed; the name of the
+-- last that did
 pub record Calls : Type 0 where
   pub failing : List ℕ
   pub calls : ℕ
@@ -25,6 +26,10 @@ is_next_to_fail c = list_any (λ n. n == one_more c.calls) c.failing
 abbrev pub after_call : Calls → Calls
 after_call c = record { failing = c.failing; calls = one_more c.calls; faults = c.faults; last = c.last }
 
+-- the call that came, with this name, failed
+abbrev pub with_fault : List ℕ → Calls → Calls
+with_fault name c = record { failing = c.failing; calls = c.calls; faults = one_more c.faults; last = name }
+
 -- one more call came, with this name, and failed
 abbrev pub after_fault : List ℕ → Calls → Calls
-after_fault name c = record { failing = c.failing; calls = one_more c.calls; faults = one_more c.faults; last = name }
+after_fault name c = with_fault name (after_call c)

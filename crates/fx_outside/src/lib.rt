@@ -3,7 +3,7 @@
 //! streams tell nothing but their counts: they are the edge that is trusted.
 #![tactic(auto)]
 
-mod faults;
+mod fault;
 mod files;
 mod memory;
 mod real;
@@ -13,7 +13,7 @@ mod tally;
 mod tests;
 mod traits;
 
-pub use faults::{FetchFault, PutFault};
+pub use fault::{FetchFault, PutFault};
 pub use memory::{MemoryDepot, MemoryLibrary, MemorySink};
 pub use real::{FileDepot, FileLibrary, StdSink};
 pub use sure::{SureDepot, SureLibrary, SureSink};

@@ -3,7 +3,7 @@
 ghost use Rattle.std.specs.Prelude.{◌≡◌, ◌≢◌, ◌≤◌, ◌⊎◌, ◌++◌, ℕ, List, [], true, OnOk, OnErr, IfOk, IsErrOf, option_map, None, Some};
 ghost use Rattle.fx_outside.specs.Memory.{first_of};
 ghost use Rattle.fx_outside.specs.Outside.{SameFiles, Sets};
-ghost use Rattle.fx_outside.specs.Tally.{no_calls, is_next_to_fail, after_call, after_fault, one_more};
+ghost use Rattle.fx_outside.specs.Tally.{no_calls, is_next_to_fail, after_call, after_fault};
 ghost use Rattle.fx_outside.specs.Objects.{library_files, library_calls, depot_files, depot_calls, sink_bytes, sink_calls};
 
 use crate::files::{bytes_of, first_of, keep};
@@ -33,17 +33,6 @@ impl MemoryLibrary {
     }
 }
 
-fn fetch_fault(alloc: Global, tally: &mut Tally, name: &str) -> FetchFault
-    ensures failed { result ≡ FetchFault.Failed → tally.new ≡ record tally.old { faults = one_more tally.old.faults; last = name.now } }
-    ensures memory { result ≡ FetchFault.Memory → tally.new ≡ tally.old }
-    ensures later { tally.old.faults ≤ tally.new.faults }
-{
-    match tally.note_fault(alloc, name) {
-        Ok(()) => FetchFault::Failed,
-        Err(_) => FetchFault::Memory,
-    }
-}
-
 impl Library for MemoryLibrary {
     ghost tells = { Unit {0} };
 
@@ -58,16 +47,23 @@ impl Library for MemoryLibrary {
         ensures same { SameFiles (library_files self.old) (library_files self.new) }
         ensures later { (library_calls self.old).faults ≤ (library_calls self.new).faults }
         ensures listed { OnOk result (is_next_to_fail (library_calls self.old) ≢ true) }
-        ensures only_listed { IsErrOf result FetchFault.Failed → (is_next_to_fail (library_calls self.old) ≡ true) ⊎ (library_files self.old name.now ≡ None) }
-        ensures failed { IsErrOf result FetchFault.Failed → library_calls self.new ≡ after_fault name.now (library_calls self.old) }
-        ensures passed { (IsErrOf result FetchFault.Failed → ⊥) → library_calls self.new ≡ after_call (library_calls self.old) }
+        ensures only_listed { IsErrOf result FetchFault.Failed
+            → (is_next_to_fail (library_calls self.old) ≡ true) ⊎ (library_files self.old name.now ≡ None) }
+        ensures failed { IsErrOf result FetchFault.Failed
+            → library_calls self.new ≡ after_fault name.now (library_calls self.old) }
+        ensures passed { (IsErrOf result FetchFault.Failed → ⊥)
+            → library_calls self.new ≡ after_call (library_calls self.old) }
     {
         if self.tally.is_failing() {
-            return Err(fetch_fault(alloc, &mut self.tally, name));
+            self.tally.note_fault(alloc, name)?;
+            return Err(FetchFault::Failed);
         }
         match first_of(&self.files, name) {
             Some(file) => Ok(file.1.to_vec(alloc)?),
-            None => Err(fetch_fault(alloc, &mut self.tally, name)),
+            None => {
+                self.tally.note_fault(alloc, name)?;
+                Err(FetchFault::Failed)
+            }
         }
     }
 }
@@ -99,17 +95,6 @@ impl MemoryDepot {
     }
 }
 
-fn put_fault(alloc: Global, tally: &mut Tally, name: &str) -> PutFault
-    ensures failed { result ≡ PutFault.Failed → tally.new ≡ record tally.old { faults = one_more tally.old.faults; last = name.now } }
-    ensures memory { result ≡ PutFault.Memory → tally.new ≡ tally.old }
-    ensures later { tally.old.faults ≤ tally.new.faults }
-{
-    match tally.note_fault(alloc, name) {
-        Ok(()) => PutFault::Failed,
-        Err(_) => PutFault::Memory,
-    }
-}
-
 impl Depot for MemoryDepot {
     ghost tells = { Unit {0} };
 
@@ -125,11 +110,14 @@ impl Depot for MemoryDepot {
         ensures later { (depot_calls self.old).faults ≤ (depot_calls self.new).faults }
         ensures listed { OnOk result (is_next_to_fail (depot_calls self.old) ≢ true) }
         ensures only_listed { IsErrOf result PutFault.Failed → is_next_to_fail (depot_calls self.old) ≡ true }
-        ensures failed { IsErrOf result PutFault.Failed → depot_calls self.new ≡ after_fault name.now (depot_calls self.old) }
-        ensures passed { (IsErrOf result PutFault.Failed → ⊥) → depot_calls self.new ≡ after_call (depot_calls self.old) }
+        ensures failed { IsErrOf result PutFault.Failed
+            → depot_calls self.new ≡ after_fault name.now (depot_calls self.old) }
+        ensures passed { (IsErrOf result PutFault.Failed → ⊥)
+            → depot_calls self.new ≡ after_call (depot_calls self.old) }
     {
         if self.tally.is_failing() {
-            return Err(put_fault(alloc, &mut self.tally, name));
+            self.tally.note_fault(alloc, name)?;
+            return Err(PutFault::Failed);
         }
         keep(alloc, &mut self.files, name, bytes)?;
         Ok(())
@@ -176,11 +164,14 @@ impl Sink for MemorySink {
         ensures later { (sink_calls self.old).faults ≤ (sink_calls self.new).faults }
         ensures listed { OnOk result (is_next_to_fail (sink_calls self.old) ≢ true) }
         ensures only_listed { IsErrOf result PutFault.Failed → is_next_to_fail (sink_calls self.old) ≡ true }
-        ensures failed { IsErrOf result PutFault.Failed → sink_calls self.new ≡ after_fault [] (sink_calls self.old) }
-        ensures passed { (IsErrOf result PutFault.Failed → ⊥) → sink_calls self.new ≡ after_call (sink_calls self.old) }
+        ensures failed { IsErrOf result PutFault.Failed
+            → sink_calls self.new ≡ after_fault [] (sink_calls self.old) }
+        ensures passed { (IsErrOf result PutFault.Failed → ⊥)
+            → sink_calls self.new ≡ after_call (sink_calls self.old) }
     {
         if self.tally.is_failing() {
-            return Err(put_fault(alloc, &mut self.tally, ""));
+            self.tally.note_fault(alloc, "")?;
+            return Err(PutFault::Failed);
         }
         self.bytes.extend_from_slice(bytes)?;
         Ok(())

@@ -1,96 +1,109 @@
 //! The outside for real: files by their paths from the working folder, and the standard streams. They
 //! tell nothing of what they hold, and count their faults. This is the edge that is trusted.
-ghost use Rattle.std.specs.Prelude.{◌≡◌, None, []};
+//!
+//! `Memory` comes from copying the name and from opening alone. Once a file is open or a byte was taken,
+//! whatever goes wrong is a fault: it is `Failed`, and counted.
+ghost use Rattle.std.specs.Prelude.{◌≡◌, ◌≤◌, ◌<◌, ◌^◌, None, [], IfOk, IfErr, IfSome, OnOk, OnErr, IsErrOf, vec_len};
+ghost use Rattle.std.specs.Io.KnownBytes.{Appends};
+ghost use Rattle.fx_outside.specs.Outside.{HasRisen};
+ghost use Rattle.fx_outside.specs.Real.{stream, stream_faults};
+ghost use Rattle.fx_outside.specs.Tally.{one_more};
 
 use crate::{Depot, FetchFault, Library, PutFault, Sink};
 use fx_base::Name;
-use std::alloc::{AllocError, Global};
+use std::alloc::Global;
 use std::io::{ErrorKind, Read, Write};
 use std::rt::Files;
 use std::{fs, io};
 
-// How many bytes one read asks for.
-const PIECE: usize = 65536;
-
-// The longest file that is read.
+// The longest file that is read, in bytes.
 const LONGEST: u64 = 1 << 32;
 
-fn fetch_fault(e: io::Error) -> FetchFault {
-    if e.kind() == ErrorKind::OutOfMemory {
-        FetchFault::Memory
-    } else {
-        FetchFault::Failed
+// How many calls failed, and the name of the last that did.
+#[derive(Drop)]
+struct Faults {
+    count: u64,
+    last: Name,
+}
+
+impl Faults {
+    fn none(alloc: Global) -> Faults
+        ensures { result.count ≡ 0 }
+    {
+        Faults {
+            count: 0,
+            last: Name::of(String::new(alloc)),
+        }
+    }
+
+    fn note(&mut self, name: Name)
+        ensures count { self.new.count ≡ one_more self.old.count }
+        ensures later { self.old.count ≤ self.new.count }
+        ensures last { self.new.last ≡ name }
+    {
+        self.last = name;
+        self.count = self.count.saturating_add(1);
     }
 }
 
-fn put_fault(e: io::Error) -> PutFault {
-    if e.kind() == ErrorKind::OutOfMemory {
-        PutFault::Memory
-    } else {
-        PutFault::Failed
-    }
+fn is_memory(e: &io::Error) -> bool {
+    e.kind() == ErrorKind::OutOfMemory
 }
 
-fn zeros(alloc: Global, length: usize) -> Result<Vec<u8>, AllocError> {
-    vec![in alloc; 0u8; length]
-}
-
-fn is_too_long(length: usize, more: usize) -> bool {
-    (length as u64).saturating_add(more as u64) > LONGEST
-}
-
-// All that the reader gives: a read that gives nothing is its end.
-fn read_all<F: Read>(alloc: Global, file: &mut F) -> Result<Vec<u8>, FetchFault> {
+/// All that the reader gives. More than so many bytes are a fault, and so is whatever goes wrong.
+pub fn read_all<F: Read + Drop>(
+    alloc: Global,
+    reader: F,
+    longest: u64,
+) -> Result<Vec<u8>, FetchFault>
+    requires { longest < 2 ^ 63 }
+    ensures all { IfOk result (λ bytes. IfSome (F.remaining reader) (λ given. bytes.items ≡ given)) }
+    ensures fits { IfOk result (λ bytes. vec_len bytes ≤ longest) }
+    ensures failed { IfErr result (λ fault. fault ≡ FetchFault.Failed) }
+{
     let mut bytes = Vec::new(alloc);
-    let mut piece = zeros(alloc, PIECE)?;
-    for _ in 0..u64::MAX {
-        let n = match file.read(&mut piece) {
-            Ok(n) => n,
-            Err(e) if e.kind() == ErrorKind::Interrupted => continue,
-            Err(e) => return Err(fetch_fault(e)),
-        };
-        if n == 0 {
-            return Ok(bytes);
-        }
-        if is_too_long(bytes.len(), n) {
-            return Err(FetchFault::Failed);
-        }
-        bytes.extend_from_slice(&piece[..n])?;
-    }
-    Err(FetchFault::Failed)
-}
-
-// Writes all the bytes: a write that takes nothing is a fault.
-fn write_all<W: Write>(writer: &mut W, bytes: &[u8]) -> Result<(), PutFault> {
-    let mut rest = bytes;
-    for _ in 0..u64::MAX {
-        if rest.is_empty() {
-            return Ok(());
-        }
-        let n = match writer.write(rest) {
-            Ok(n) => n,
-            Err(e) if e.kind() == ErrorKind::Interrupted => continue,
-            Err(e) => return Err(put_fault(e)),
-        };
-        if n == 0 {
-            return Err(PutFault::Failed);
-        }
-        rest = &rest[n..];
-    }
-    Err(PutFault::Failed)
-}
-
-fn read_file<R: Files>(rt: &R, alloc: Global, name: &str) -> Result<Vec<u8>, FetchFault> {
-    match fs::open(rt, name) {
-        Ok(mut file) => read_all(alloc, &mut file),
-        Err(e) => Err(fetch_fault(e)),
+    // One byte more shows that there are too many.
+    match reader.take(longest + 1).read_to_end(&mut bytes) {
+        Ok(_) if bytes.len() as u64 <= longest => Ok(bytes),
+        _ => Err(FetchFault::Failed),
     }
 }
 
-fn write_file<R: Files>(rt: &R, name: &str, bytes: &[u8]) -> Result<(), PutFault> {
-    match fs::create(rt, name) {
+/// Writes all the bytes. Whatever goes wrong is a fault.
+pub fn write_all<W: Write>(writer: &mut W, bytes: &[u8]) -> Result<(), PutFault>
+    ensures all { OnOk result (Appends (W.contents writer.old) (W.contents writer.new) bytes.now) }
+    ensures failed { IfErr result (λ fault. fault ≡ PutFault.Failed) }
+{
+    writer.write_all(bytes).map_err(|_| PutFault::Failed)
+}
+
+// Reads the file of this name, which comes back where that fails.
+fn read_file<R: Files>(rt: &R, alloc: Global, name: Name) -> Result<Vec<u8>, (Name, FetchFault)>
+    ensures { IfErr result (λ e. e.0 ≡ name) }
+{
+    let read = match fs::open(rt, name.text()) {
+        Ok(file) => read_all(alloc, file, LONGEST),
+        Err(e) if is_memory(&e) => Err(FetchFault::Memory),
+        Err(_) => Err(FetchFault::Failed),
+    };
+    match read {
+        Ok(bytes) => Ok(bytes),
+        Err(fault) => Err((name, fault)),
+    }
+}
+
+// Writes the file of this name, which comes back where that fails.
+fn write_file<R: Files>(rt: &R, name: Name, bytes: &[u8]) -> Result<(), (Name, PutFault)>
+    ensures { IfErr result (λ e. e.0 ≡ name) }
+{
+    let written = match fs::create(rt, name.text()) {
         Ok(mut file) => write_all(&mut file, bytes),
-        Err(e) => Err(put_fault(e)),
+        Err(e) if is_memory(&e) => Err(PutFault::Memory),
+        Err(_) => Err(PutFault::Failed),
+    };
+    match written {
+        Ok(()) => Ok(()),
+        Err(fault) => Err((name, fault)),
     }
 }
 
@@ -98,8 +111,7 @@ fn write_file<R: Files>(rt: &R, name: &str, bytes: &[u8]) -> Result<(), PutFault
 #[derive(Drop)]
 pub struct FileLibrary<'r, R: Files> {
     rt: &'r R,
-    faults: u64,
-    last: Name,
+    faults: Faults,
 }
 
 impl<'r, R: Files> FileLibrary<'r, R> {
@@ -109,8 +121,7 @@ impl<'r, R: Files> FileLibrary<'r, R> {
     {
         FileLibrary {
             rt,
-            faults: 0,
-            last: Name::of(String::new(alloc)),
+            faults: Faults::none(alloc),
         }
     }
 }
@@ -120,18 +131,17 @@ impl<'r, R: Files> Library for FileLibrary<'r, R> {
 
     ghost file = { λ l name. None };
 
-    ghost faults = { λ l. l.faults };
+    ghost faults = { λ l. l.faults.count };
 
-    ghost last = { λ l. l.last };
+    ghost last = { λ l. l.faults.last };
 
     fn fetch(&mut self, alloc: Global, name: &str) -> Result<Vec<u8>, FetchFault> {
-        let last = String::from_str(alloc, name)?;
-        match read_file(self.rt, alloc, name) {
+        let copy = Name::of(String::from_str(alloc, name)?);
+        match read_file(self.rt, alloc, copy) {
             Ok(bytes) => Ok(bytes),
-            Err(FetchFault::Memory) => Err(FetchFault::Memory),
-            Err(FetchFault::Failed) => {
-                self.last = Name::of(last);
-                self.faults = self.faults.saturating_add(1);
+            Err((_, FetchFault::Memory)) => Err(FetchFault::Memory),
+            Err((read, FetchFault::Failed)) => {
+                self.faults.note(read);
                 Err(FetchFault::Failed)
             }
         }
@@ -142,8 +152,7 @@ impl<'r, R: Files> Library for FileLibrary<'r, R> {
 #[derive(Drop)]
 pub struct FileDepot<'r, R: Files> {
     rt: &'r R,
-    faults: u64,
-    last: Name,
+    faults: Faults,
 }
 
 impl<'r, R: Files> FileDepot<'r, R> {
@@ -153,8 +162,7 @@ impl<'r, R: Files> FileDepot<'r, R> {
     {
         FileDepot {
             rt,
-            faults: 0,
-            last: Name::of(String::new(alloc)),
+            faults: Faults::none(alloc),
         }
     }
 }
@@ -164,25 +172,24 @@ impl<'r, R: Files> Depot for FileDepot<'r, R> {
 
     ghost file = { λ d name. None };
 
-    ghost faults = { λ d. d.faults };
+    ghost faults = { λ d. d.faults.count };
 
-    ghost last = { λ d. d.last };
+    ghost last = { λ d. d.faults.last };
 
     fn put(&mut self, alloc: Global, name: &str, bytes: &[u8]) -> Result<(), PutFault> {
-        let last = String::from_str(alloc, name)?;
-        match write_file(self.rt, name, bytes) {
+        let copy = Name::of(String::from_str(alloc, name)?);
+        match write_file(self.rt, copy, bytes) {
             Ok(()) => Ok(()),
-            Err(PutFault::Memory) => Err(PutFault::Memory),
-            Err(PutFault::Failed) => {
-                self.last = Name::of(last);
-                self.faults = self.faults.saturating_add(1);
+            Err((_, PutFault::Memory)) => Err(PutFault::Memory),
+            Err((written, PutFault::Failed)) => {
+                self.faults.note(written);
                 Err(PutFault::Failed)
             }
         }
     }
 }
 
-/// A standard stream.
+/// A standard stream. It never answers `Memory`.
 #[derive(Drop)]
 pub struct StdSink<W: Write + Drop> {
     writer: W,
@@ -192,7 +199,8 @@ pub struct StdSink<W: Write + Drop> {
 impl<W: Write + Drop> StdSink<W> {
     /// The stream that this writer writes to. No fault yet.
     pub fn new(writer: W) -> StdSink<W>
-        ensures { ⟦<StdSink<W> as Sink>⟧.faults result ≡ 0 }
+        ensures stream { stream result ≡ writer }
+        ensures none { stream_faults result ≡ 0 }
     {
         StdSink { writer, faults: 0 }
     }
@@ -203,13 +211,18 @@ impl<W: Write + Drop> Sink for StdSink<W> {
 
     ghost written = { λ s. [] };
 
-    ghost faults = { λ s. s.faults };
+    ghost faults = { stream_faults };
 
-    fn write(&mut self, _alloc: Global, bytes: &[u8]) -> Result<(), PutFault> {
+    fn write(&mut self, _alloc: Global, bytes: &[u8]) -> Result<(), PutFault>
+        ensures all { OnOk result (Appends (W.contents (stream self.old)) (W.contents (stream self.new)) bytes.now) }
+        ensures later { stream_faults self.old ≤ stream_faults self.new }
+        ensures failed { OnErr result (HasRisen (stream_faults self.old) (stream_faults self.new)) }
+        ensures count_stays { OnOk result (stream_faults self.new ≡ stream_faults self.old) }
+        ensures no_memory { IsErrOf result PutFault.Memory → ⊥ }
+    {
         match write_all(&mut self.writer, bytes) {
             Ok(()) => Ok(()),
-            Err(PutFault::Memory) => Err(PutFault::Memory),
-            Err(PutFault::Failed) => {
+            Err(_) => {
                 self.faults = self.faults.saturating_add(1);
                 Err(PutFault::Failed)
             }

@@ -1,6 +1,6 @@
 //! Which calls of an object in memory fail: those with given numbers, counted from 1.
 ghost use Rattle.std.specs.Prelude.{◌≡◌, ◌≤◌, OnOk, OnErr};
-ghost use Rattle.fx_outside.specs.Tally.{one_more, no_calls, is_next_to_fail, after_call};
+ghost use Rattle.fx_outside.specs.Tally.{no_calls, is_next_to_fail, after_call, with_fault};
 
 use fx_base::Name;
 use std::alloc::{AllocError, Global};
@@ -46,7 +46,7 @@ impl Tally {
 
     /// Notes that the call failed, which had this name. Where memory is wanting, nothing changed.
     pub fn note_fault(&mut self, alloc: Global, name: &str) -> Result<(), AllocError>
-        ensures ok { OnOk result (self.new ≡ record self.old { faults = one_more self.old.faults; last = name.now }) }
+        ensures ok { OnOk result (self.new ≡ with_fault name.now self.old) }
         ensures err { OnErr result (self.new ≡ self.old) }
         ensures later { self.old.faults ≤ self.new.faults }
     {

@@ -1,3 +1,4 @@
+use crate::real::read_all;
 use crate::{
     Depot, FetchFault, FileDepot, FileLibrary, FreePace, Library, MemoryDepot, MemoryLibrary,
     MemorySink, Pace, PutFault, Sink, StdSink, SureDepot, SureLibrary, SureSink,
@@ -86,6 +87,16 @@ fn sure_sink_takes_every_write(rt: HostRuntime) -> Result<(), Fail> {
     sink.write(alloc, b"ab")?;
     sink.write(alloc, b"c")?;
     assert_eq!(rt; sink.bytes(), b"abc".as_slice());
+    Ok(())
+}
+
+#[test]
+fn reader_is_read_up_to_the_limit(rt: HostRuntime) -> Result<(), Fail> {
+    let alloc = rt.alloc();
+    for (longest, want) in [(3, Some(3)), (4, Some(3)), (2, None)] {
+        let read = read_all(alloc, b"abc".as_slice(), longest);
+        assert_eq!(rt; read.ok().map(|bytes| bytes.len()), want, "at {longest}");
+    }
     Ok(())
 }
 

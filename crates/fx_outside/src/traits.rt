@@ -28,7 +28,8 @@ pub trait Library {
         ensures later { faults self.old ≤ faults self.new }
         ensures failed { IsErrOf result FetchFault.Failed → HasRisen (faults self.old) (faults self.new) }
         ensures named { IsErrOf result FetchFault.Failed → last self.new ≡ name.now }
-        ensures last_stays { (IsErrOf result FetchFault.Failed → ⊥) → last self.new ≡ last self.old };
+        ensures last_stays { (IsErrOf result FetchFault.Failed → ⊥) → last self.new ≡ last self.old }
+        ensures count_stays { (IsErrOf result FetchFault.Failed → ⊥) → faults self.new ≡ faults self.old };
 }
 
 /// Where frames are put.
@@ -54,7 +55,8 @@ pub trait Depot {
         ensures later { faults self.old ≤ faults self.new }
         ensures failed { IsErrOf result PutFault.Failed → HasRisen (faults self.old) (faults self.new) }
         ensures named { IsErrOf result PutFault.Failed → last self.new ≡ name.now }
-        ensures last_stays { (IsErrOf result PutFault.Failed → ⊥) → last self.new ≡ last self.old };
+        ensures last_stays { (IsErrOf result PutFault.Failed → ⊥) → last self.new ≡ last self.old }
+        ensures count_stays { (IsErrOf result PutFault.Failed → ⊥) → faults self.new ≡ faults self.old };
 }
 
 /// Where reports and error lines are written.
@@ -75,7 +77,8 @@ pub trait Sink {
         ensures front { tells → AddsPrefix bytes.now (written self.old) (written self.new) }
         ensures memory { tells → IsErrOf result PutFault.Memory → written self.new ≡ written self.old }
         ensures later { faults self.old ≤ faults self.new }
-        ensures failed { IsErrOf result PutFault.Failed → HasRisen (faults self.old) (faults self.new) };
+        ensures failed { IsErrOf result PutFault.Failed → HasRisen (faults self.old) (faults self.new) }
+        ensures count_stays { (IsErrOf result PutFault.Failed → ⊥) → faults self.new ≡ faults self.old };
 }
 
 /// When a worker draws its next piece of work. It does nothing that a contract sees.

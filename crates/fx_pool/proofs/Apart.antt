@@ -1,5 +1,5 @@
 -- What the turns made of items, put in order and taken apart.
-use Rattle.std.proofs.Common.{◌≡◌, ℕ, zero, suc, List, [], ◌∷◌, All, Option, Some, None, length, get_or, map, sum_by, sym, refl, ap, ◌∙◌, subst, arith}
+use Rattle.std.proofs.Common.{◌≡◌, ◌<◌, ℕ, zero, suc, List, [], ◌∷◌, All, Option, Some, None, length, get_or, map, sum_by, sym, refl, ap, ◌∙◌, subst, arith}
 use Rattle.std.proofs.lemmas.List.{length-map}
 use Rattle.std.proofs.lemmas.List.FromFn.{length-range_with_len, get_or-range_with_len}
 use Rattle.std.proofs.lemmas.List.Sums.{sum_by-cons}
@@ -17,6 +17,17 @@ stood : {I : Type 0} (xs : List I) (k : ℕ) (x i : I) → get_elem? (map Some x
 stood [] k x i e = absurd (some-ne-none (Some x) (sym e))
 stood {I} (y ∷ xs) zero x i e = let h : ◌≡◌ {A = Option I} (Some y) (Some x) = some-injective (Some y) (Some x) e in cc
 stood (y ∷ xs) (suc k) x i e = stood xs k x i e
+
+within : {I : Type 0} (xs : List I) (k : ℕ) (x : I) → get_elem? (map Some xs) k ≡ some (Some x) → k < length xs
+within [] k x e = absurd (some-ne-none (Some x) (sym e))
+within (y ∷ xs) zero x e = omega arith
+within (y ∷ xs) (suc k) x e = let h = within xs k x e in omega arith
+
+-- what is asked of each item holds of what stands in the slots
+pub asked_of : {I : Type 0} (takes : ℕ → I → Type 0) (items : List I) (slots : List (Option I)) → slots ≡ map Some items → ((k : ℕ) (i : I) → k < length items → takes k (get_or items k i)) → (k : ℕ) (i : I) → get_elem? slots k ≡ some (Some i) → takes k i
+asked_of takes items slots same all k i e =
+    let e' : get_elem? (map Some items) k ≡ some (Some i) = subst (λ (l : List (Option _)). get_elem? l k ≡ some (Some i)) same e in
+    subst (takes k) (sym (stood items k i i e')) (all k i (within items k i e'))
 
 module _ {A B : Type 0} (f : A → B) where
   mapped_at : (xs : List A) (k : ℕ) (d : A) → get_or (map f xs) k (f d) ≡ f (get_or xs k d)

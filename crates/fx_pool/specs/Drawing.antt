@@ -1,4 +1,5 @@
--- The rule of a draw. Its one word counts the draws: each number below the count was drawn by one seat, once the word is past it.
+-- The rule of a draw. Its one word counts the draws: each number below the count was drawn by one seat, once the word
+-- is past it.
 use Rattle.std.specs.Prelude.{◌≡◌, ℕ, ◌+◌, ◌-◌, ◌<◌, ◌≤◌, min, List, [], ◌∷◌, ◌++◌, length, slice_index, sum_by}
 use mathlib.Core.Option.{some}
 use lib.ListN.{get_elem?}
@@ -45,16 +46,19 @@ module _ {S : Type 0} where
     pub once : (x : ℕ) → sum_by (λ h. times x h.drawn) s.views ≡ once_below x (min (slice_index s.words 0) count)
     pub most : slice_index s.words 0 ≤ count + sum_by (λ h. length h.past) s.views
     pub last : 0 < sum_by (λ h. length h.past) s.views → count ≤ slice_index s.words 0
-    pub home : (k : ℕ) (x : S) → slice_index s.words 0 ≤ k → get_elem? items k ≡ some x → get_elem? s.homes k ≡ some (some x)
+    pub home : (k : ℕ) (x : S) → slice_index s.words 0 ≤ k → get_elem? items k ≡ some x
+        → get_elem? s.homes k ≡ some (some x)
 
   -- the number that was found is the seat's, or no number is left
   abbrev pub Drawn : Step S → Me S (Hand S) → ℕ → Me S (Hand S) → Type 0
-  Drawn t me found after = (found < me.0.count → after ≡ (drew me.0 found, me.1)) × (me.0.count ≤ found → after ≡ (ended me.0 found, me.1))
+  Drawn t me found after =
+      (found < me.0.count → after ≡ (drew me.0 found, me.1)) × (me.0.count ≤ found → after ≡ (ended me.0 found, me.1))
 
   -- the same, and the seat has the number's slot, with what stood there at first
   abbrev pub TakenOut : Step S → Me S (Hand S) → ℕ → Me S (Hand S) → Type 0
   TakenOut t me found after =
-      (found < me.0.count → (x : S) × (get_elem? me.0.items found ≡ some x) × (after ≡ (drew me.0 found, (found, x) ∷ me.1)))
+      (found < me.0.count
+      → (x : S) × (get_elem? me.0.items found ≡ some x) × (after ≡ (drew me.0 found, (found, x) ∷ me.1)))
       × (me.0.count ≤ found → after ≡ (ended me.0 found, me.1))
 
   -- the slot that the seat took last is at home
@@ -67,7 +71,9 @@ module _ {S : Type 0} where
 
   -- how a draw and its seats show themselves
   abbrev pub draw_of : TableId → ℕ → List S → DrawState S
-  draw_of z count items = record { count = count; items = items; stamp = z.words ∷ z.slots ∷ z.views_name ∷ z.atom ∷ z.block ∷ z.offset ∷ z.slot_names }
+  draw_of z count items =
+      let stamp = z.words ∷ z.slots ∷ z.views_name ∷ z.atom ∷ z.block ∷ z.offset ∷ z.slot_names in
+      record { count = count; items = items; stamp = stamp }
 
   abbrev pub seat_view : TableId → Hand S → DrawSeatState S
   seat_view z h = record { draw = draw_of z h.count h.items; parts = h.parts; drawn = h.drawn; past = h.past }

@@ -3,7 +3,8 @@ use Rattle.std.specs.Prelude.{◌≡◌, ℕ, ◌+◌, ◌-◌, ◌<◌, ◌≤�
 use mathlib.Core.Option.{some}
 use lib.ListN.{get_elem?}
 
--- A draw of the numbers below a count. Where the numbers have slots, the items stood in these at first. No other draw has its stamp
+-- A draw of the numbers below a count. Where the numbers have slots, the items stood in these at first. No other draw
+-- has its stamp
 pub record DrawState (S : Type 0) : Type 0 where
   pub count : ℕ
   pub items : List S
@@ -31,7 +32,8 @@ once_below x n = if nat_lt x n then 1 else 0
 abbrev pub AllDrawn : ℕ → List ℕ → Type 0
 AllDrawn count ns = (x : ℕ) → times x ns ≡ once_below x count
 
--- What a seat with all parts has: the numbers below some number, each once, and no others. Once it was told that no number is left, these are all below the count
+-- What a seat with all parts has: the numbers below some number, each once, and no others. Once it was told that no
+-- number is left, these are all below the count
 pub record HasAll (count : ℕ) (drawn past : List ℕ) : Type 0 where
   pub next : ℕ
   pub within : next ≤ count

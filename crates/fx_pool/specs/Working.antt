@@ -23,7 +23,8 @@ module _ {S D T : Type 0} where
     pub outs : w.outs.items ≡ []
     pub works : w.failed ≡ false
 
-  -- A worker that has ended. Where memory was not wanting, it was told that no number is left, and its outs are those of the numbers that it drew
+  -- A worker that has ended. Where memory was not wanting, it was told that no number is left, and its outs are those
+  -- of the numbers that it drew
   pub record HasEnded (d : DrawState D) (w : Worker S D T) : Type 0 where
     pub draw : w.draw.draw ≡ d
     pub parts : w.draw.parts ≡ 1
@@ -65,9 +66,12 @@ module _ {I : Type 0} where
     MadeRight slots n made = (item : I) × IsItem slots n item × right n item made.0 made.1
 
     -- what a worker v that takes items has become in the end
-    pub record HasWorkedItems {S : Type 0} (fits : S → Type 0) (weight : S → ℕ × ℕ) (out_weight : T → ℕ × ℕ) (d : DrawState (Option I)) (v w : Worker S (Option I) (I × T)) : Type 0 where
+    pub record HasWorkedItems {S : Type 0} (fits : S → Type 0) (weight : S → ℕ × ℕ) (out_weight : T → ℕ × ℕ)
+        (d : DrawState (Option I)) (v w : Worker S (Option I) (I × T)) : Type 0 where
       pub worked : HasWorked fits (MadeRight d.items) weight (λ made. out_weight made.1) d v w
 
     -- each out is right for its index, the item before and the item after
     abbrev pub EachRight : List I → List I → List T → Type 0
-    EachRight before after outs = (k : ℕ) (i : I) (o : T) → k < length before → right k (slice_index_or before k i) (slice_index_or after k i) (slice_index_or outs k o)
+    EachRight before after outs =
+        (k : ℕ) (i : I) (o : T) → k < length before
+        → right k (slice_index_or before k i) (slice_index_or after k i) (slice_index_or outs k o)

@@ -139,7 +139,8 @@ impl<I> Draw<Option<I>> {
         requires draw { seat.old.draw ≡ self.now }
         requires none_yet { seat.old.past ≡ [] }
         requires items { HasItems self.now }
-        ensures item { IfSome result (λ r. (r.0 < self.now.count) × IsItem self.now.items r.0 r.1 × (seat.new ≡ with_drawn seat.old r.0)) }
+        ensures item { IfSome result (λ r.
+            (r.0 < self.now.count) × IsItem self.now.items r.0 r.1 × (seat.new ≡ with_drawn seat.old r.0)) }
         ensures none { IfNone result ((word : ℕ) × (self.now.count ≤ word) × (seat.new ≡ with_past seat.old word)) }
     {
         let word = self

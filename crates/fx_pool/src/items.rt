@@ -1,6 +1,6 @@
 //! Workers that take the items of a list one by one, and do the job for each.
 ghost use Rattle.std.specs.Prelude.{◌≡◌, ℕ, ◌^◌, ◌<◌, ◌≤◌, All, IfErr, IfOk, Some, length, map, slice_index_or, vec_len};
-ghost use Rattle.fx_pool.specs.Draws.{HasItems, first_seat};
+ghost use Rattle.fx_pool.specs.Draws.{HasItems, IsItem, first_seat};
 ghost use Rattle.fx_pool.specs.Weights.{plus, weigh};
 ghost use Rattle.fx_pool.specs.Working.{EachRight, HasWorkedItems, Ready};
 
@@ -26,10 +26,10 @@ pub struct WorkedItems<S, I, T> {
     pub outs: Vec<T>,
 }
 
-/// Does the job for each item, by one worker for each seat. Each worker calls `pace.before_draw` with
-/// its number before it draws an item. Where no thread can be made the workers run one after another.
-/// `Memory` comes where memory is wanting, once all workers have ended, and hands the seats back; the
-/// items are then let go.
+/// Does the job for each item, which takes each under its index, by one worker for each seat. Each worker
+/// calls `pace.before_draw` with its number before it draws an item. Where no thread can be made the
+/// workers run one after another. `Memory` comes where memory is wanting, once all workers have ended, and
+/// hands the seats back; the items are then let go.
 pub fn work_items<R: Threads + Wait + Sync, I: Send + Drop, J: ItemJob<I>, P: Pace>(
     rt: &R,
     alloc: Global,
@@ -41,11 +41,18 @@ pub fn work_items<R: Threads + Wait + Sync, I: Send + Drop, J: ItemJob<I>, P: Pa
     requires few { vec_len items ≤ 2 ^ 32 }
     requires seats { (1 ≤ vec_len seats) × (vec_len seats ≤ 64) }
     requires fit { All (J.fits job.now) seats.items }
-    ensures seats { IfOk result (λ worked. (vec_len worked.seats ≡ vec_len seats) × All (J.fits job.now) worked.seats.items) }
-    ensures count { IfOk result (λ worked. (vec_len worked.items ≡ vec_len items) × (vec_len worked.outs ≡ vec_len items)) }
-    ensures right { IfOk result (λ worked. EachRight (J.right job.now) items.items worked.items.items worked.outs.items) }
-    ensures weighs { IfOk result (λ worked. weigh J.weight worked.seats.items ≡ plus (weigh J.weight seats.items) (weigh J.out_weight worked.outs.items)) }
-    ensures back { IfErr result (λ refused. (vec_len refused.0 ≡ vec_len seats) × All (J.fits job.now) refused.0.items) }
+    requires takes { (k : ℕ) (i : I) → k < vec_len items → J.takes job.now k (slice_index_or items.items k i) }
+    ensures seats { IfOk result (λ worked.
+        (vec_len worked.seats ≡ vec_len seats) × All (J.fits job.now) worked.seats.items) }
+    ensures count { IfOk result (λ worked.
+        (vec_len worked.items ≡ vec_len items) × (vec_len worked.outs ≡ vec_len items)) }
+    ensures right { IfOk result (λ worked.
+        EachRight (J.right job.now) items.items worked.items.items worked.outs.items) }
+    ensures weighs { IfOk result (λ worked.
+        weigh J.weight worked.seats.items
+        ≡ plus (weigh J.weight seats.items) (weigh J.out_weight worked.outs.items)) }
+    ensures back { IfErr result (λ refused.
+        (vec_len refused.0 ≡ vec_len seats) × All (J.fits job.now) refused.0.items) }
 {
     let Ok((draw, mut all)) = in_slots(alloc, items) else {
         return Err((seats, Memory));
@@ -112,6 +119,7 @@ fn run<R: Wait, I: Send + Drop, J: ItemJob<I>, P: Pace>(
 )
     requires items { HasItems draw.now }
     requires ready { Ready (J.fits job.now) draw.now worker.old }
+    requires takes { (k : ℕ) (i : I) → IsItem draw.now.items k i → J.takes job.now k i }
     ensures { HasWorkedItems (J.right job.now) (J.fits job.now) J.weight J.out_weight draw.now worker.old worker.new }
 {
     for _ in rt.forever() {
@@ -146,14 +154,20 @@ fn run_all<R: Threads + Wait + Sync, I: Send + Drop, J: ItemJob<I>, P: Pace>(
     requires items { HasItems draw.now }
     requires some { (0 < vec_len workers.old) × (vec_len workers.old ≤ 64) }
     requires ready { All (Ready (J.fits job.now) draw.now) workers.old.items }
+    requires takes { (k : ℕ) (i : I) → IsItem draw.now.items k i → J.takes job.now k i }
     ensures count { length workers.new.items ≡ length workers.old.items }
     ensures len { vec_len workers.new ≡ vec_len workers.old }
-    ensures each { (i : ℕ) (d : Worker J.Seat _ (_ × J.Out)) → i < length workers.old.items → HasWorkedItems (J.right job.now) (J.fits job.now) J.weight J.out_weight draw.now (slice_index_or workers.old.items i d) (slice_index_or workers.new.items i d) }
+    ensures each { (i : ℕ) (d : Worker J.Seat _ (_ × J.Out)) → i < length workers.old.items
+        → HasWorkedItems (J.right job.now) (J.fits job.now) J.weight J.out_weight draw.now
+        (slice_index_or workers.old.items i d) (slice_index_or workers.new.items i d) }
 {
     let threads = workers.len();
     let each = |place: usize, worker: &mut Worker<J::Seat, Option<I>, (I, J::Out)>|
-        requires { (place < 64) × HasItems draw.now × Ready (J.fits job.now) draw.now worker.now }
-        ensures { HasWorkedItems (J.right job.entry.now) (J.fits job.entry.now) J.weight J.out_weight draw.entry.now worker.entry.now worker.exit.now }
+        requires { (place < 64) × HasItems draw.now × Ready (J.fits job.now) draw.now worker.now
+            × ((k : ℕ) (i : I) → IsItem draw.now.items k i → J.takes job.now k i) }
+        ensures { let now = job.entry.now in
+            HasWorkedItems (J.right now) (J.fits now) J.weight J.out_weight draw.entry.now
+            worker.entry.now worker.exit.now }
     { run(rt, alloc, pace, place as u32, draw, job, worker) };
     thread::for_each_mut(rt, workers.as_mut_slice(), threads, &each);
 }

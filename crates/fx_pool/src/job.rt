@@ -6,8 +6,8 @@ use fx_base::Memory;
 use std::alloc::Global;
 use std::sync::Wait;
 
-/// A job for each number. It says which seats fit it, which outs are right for a number, and what a
-/// seat and an out weigh: two whole numbers, each of them added by itself.
+/// A job for numbers. It says which seats fit it, which numbers it takes, which outs are right for a
+/// number, and what a seat and an out weigh: two whole numbers, each of them added by itself.
 pub trait Job: Sync {
     /// What a worker works with: each worker has one, and brings it to each of its turns.
     type Seat: Send;
@@ -17,6 +17,9 @@ pub trait Job: Sync {
 
     /// Which seats fit the job.
     ghost fits: { Self → Self.Seat → Type 0 };
+
+    /// Which numbers it takes.
+    ghost takes: { Self → ℕ → Type 0 };
 
     /// Which outs are right for a number.
     ghost right: { Self → ℕ → Self.Out → Type 0 };
@@ -36,14 +39,16 @@ pub trait Job: Sync {
         seat: &mut Self::Seat,
         index: u64,
     ) -> Result<Self::Out, Memory>
-        requires { fits self.now seat.old }
+        requires fits { fits self.now seat.old }
+        requires takes { takes self.now index }
         ensures fits { fits self.now seat.new }
         ensures right { IfOk result (λ out. right self.now index out) }
         ensures weighs { IfOk result (λ out. weight seat.new ≡ plus (weight seat.old) (out_weight out)) };
 }
 
-/// A job for each item of a list. It says which seats fit it, which outs are right for an index, the
-/// item before and the item after, and what a seat and an out weigh, as a `Job` does.
+/// A job for the items of a list. It says which seats fit it, which items it takes under which index,
+/// which outs are right for an index, the item before and the item after, and what a seat and an out
+/// weigh, as a `Job` does.
 pub trait ItemJob<I>: Sync {
     /// What a worker works with: each worker has one, and brings it to each of its turns.
     type Seat: Send;
@@ -53,6 +58,9 @@ pub trait ItemJob<I>: Sync {
 
     /// Which seats fit the job.
     ghost fits: { Self → Self.Seat → Type 0 };
+
+    /// Which items it takes, under which index.
+    ghost takes: { Self → ℕ → I → Type 0 };
 
     /// Which outs are right for an index, the item before and the item after.
     ghost right: { Self → ℕ → I → I → Self.Out → Type 0 };
@@ -73,7 +81,8 @@ pub trait ItemJob<I>: Sync {
         index: u64,
         item: &mut I,
     ) -> Result<Self::Out, Memory>
-        requires { fits self.now seat.old }
+        requires fits { fits self.now seat.old }
+        requires takes { takes self.now index item.old }
         ensures fits { fits self.now seat.new }
         ensures right { IfOk result (λ out. right self.now index item.old item.new out) }
         ensures weighs { IfOk result (λ out. weight seat.new ≡ plus (weight seat.old) (out_weight out)) };

@@ -22,10 +22,10 @@ pub struct Worked<S, T> {
     pub outs: Vec<(u64, T)>,
 }
 
-/// Does the job for each number below `count`, by one worker for each seat. Each worker calls
-/// `pace.before_draw` with its number before each draw. Where no thread can be made the workers run
-/// one after another. `Memory` comes where memory is wanting, once all workers have ended, and hands
-/// the seats back.
+/// Does the job for each number below `count`, all of which it takes, by one worker for each seat. Each
+/// worker calls `pace.before_draw` with its number before each draw. Where no thread can be made the
+/// workers run one after another. `Memory` comes where memory is wanting, once all workers have ended, and
+/// hands the seats back.
 pub fn work<R: Threads + Wait + Sync, J: Job, P: Pace>(
     rt: &R,
     alloc: Global,
@@ -37,11 +37,16 @@ pub fn work<R: Threads + Wait + Sync, J: Job, P: Pace>(
     requires few { count ≤ 2 ^ 32 }
     requires seats { (1 ≤ vec_len seats) × (vec_len seats ≤ 64) }
     requires fit { All (J.fits job.now) seats.items }
-    ensures seats { IfOk result (λ worked. (vec_len worked.seats ≡ vec_len seats) × All (J.fits job.now) worked.seats.items) }
+    requires takes { (k : ℕ) → k < count → J.takes job.now k }
+    ensures seats { IfOk result (λ worked.
+        (vec_len worked.seats ≡ vec_len seats) × All (J.fits job.now) worked.seats.items) }
     ensures numbers { IfOk result (λ worked. numbers_of worked.outs.items ≡ numbers_below count) }
     ensures right { IfOk result (λ worked. All (λ out. J.right job.now out.0 out.1) worked.outs.items) }
-    ensures weighs { IfOk result (λ worked. weigh J.weight worked.seats.items ≡ plus (weigh J.weight seats.items) (weigh (λ out. J.out_weight out.1) worked.outs.items)) }
-    ensures back { IfErr result (λ refused. (vec_len refused.0 ≡ vec_len seats) × All (J.fits job.now) refused.0.items) }
+    ensures weighs { IfOk result (λ worked.
+        weigh J.weight worked.seats.items
+        ≡ plus (weigh J.weight seats.items) (weigh (λ out. J.out_weight out.1) worked.outs.items)) }
+    ensures back { IfErr result (λ refused.
+        (vec_len refused.0 ≡ vec_len seats) × All (J.fits job.now) refused.0.items) }
 {
     let Ok((draw, mut all)) = Draw::new(alloc, count) else {
         return Err((seats, Memory));
@@ -67,7 +72,8 @@ fn run<R: Wait, J: Job, P: Pace>(
     job: &J,
     worker: &mut Worker<J::Seat, (), J::Out>,
 )
-    requires { Ready (J.fits job.now) draw.now worker.old }
+    requires ready { Ready (J.fits job.now) draw.now worker.old }
+    requires takes { (k : ℕ) → k < draw.now.count → J.takes job.now k }
     ensures { HasWorked (J.fits job.now) (J.right job.now) J.weight J.out_weight draw.now worker.old worker.new }
 {
     for _ in rt.forever() {
@@ -101,14 +107,19 @@ fn run_all<R: Threads + Wait + Sync, J: Job, P: Pace>(
 )
     requires some { (0 < vec_len workers.old) × (vec_len workers.old ≤ 64) }
     requires ready { All (Ready (J.fits job.now) draw.now) workers.old.items }
+    requires takes { (k : ℕ) → k < draw.now.count → J.takes job.now k }
     ensures count { length workers.new.items ≡ length workers.old.items }
     ensures len { vec_len workers.new ≡ vec_len workers.old }
-    ensures each { (i : ℕ) (d : Worker J.Seat (Unit {0}) J.Out) → i < length workers.old.items → HasWorked (J.fits job.now) (J.right job.now) J.weight J.out_weight draw.now (slice_index_or workers.old.items i d) (slice_index_or workers.new.items i d) }
+    ensures each { (i : ℕ) (d : Worker J.Seat (Unit {0}) J.Out) → i < length workers.old.items
+        → HasWorked (J.fits job.now) (J.right job.now) J.weight J.out_weight draw.now
+        (slice_index_or workers.old.items i d) (slice_index_or workers.new.items i d) }
 {
     let threads = workers.len();
     let each = |place: usize, worker: &mut Worker<J::Seat, (), J::Out>|
-        requires { (place < 64) × Ready (J.fits job.now) draw.now worker.now }
-        ensures { HasWorked (J.fits job.entry.now) (J.right job.entry.now) J.weight J.out_weight draw.entry.now worker.entry.now worker.exit.now }
+        requires { (place < 64) × Ready (J.fits job.now) draw.now worker.now
+            × ((k : ℕ) → k < draw.now.count → J.takes job.now k) }
+        ensures { let now = job.entry.now in
+            HasWorked (J.fits now) (J.right now) J.weight J.out_weight draw.entry.now worker.entry.now worker.exit.now }
     { run(rt, alloc, pace, place as u32, draw, job, worker) };
     thread::for_each_mut(rt, workers.as_mut_slice(), threads, &each);
 }

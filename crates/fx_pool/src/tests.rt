@@ -5,7 +5,7 @@ use fx_base::Memory;
 use fx_outside::{FreePace, Pace};
 use std::alloc::{AllocError, Global};
 use std::sync::Wait;
-use std::sync::atomic::{AtomicBool, Ordering};
+use std::sync::atomic::{AtomicBool, AtomicU64, Ordering};
 use std::test::Fail;
 use std::thread;
 
@@ -18,6 +18,8 @@ impl Job for Notes {
     type Out = u64;
 
     ghost fits = { λ _ _. Unit {0} };
+
+    ghost takes = { λ _ _. Unit {0} };
 
     ghost right = { λ _ index out. out ≡ index };
 
@@ -50,6 +52,8 @@ impl Job for FailsFirst {
 
     ghost fits = { λ _ _. Unit {0} };
 
+    ghost takes = { λ _ _. Unit {0} };
+
     ghost right = { λ _ index out. out ≡ index };
 
     ghost weight = { λ _. (0, 0) };
@@ -80,6 +84,8 @@ impl ItemJob<u64> for AddsIndex {
     type Out = u64;
 
     ghost fits = { λ _ _. Unit {0} };
+
+    ghost takes = { λ _ _ _. Unit {0} };
 
     ghost right = { λ _ index before after out. (after ≡ (before + index) % 2 ^ 64) × (out ≡ before) };
 
@@ -122,6 +128,13 @@ impl HoldPace {
         }
     }
 
+    // Whether both workers came, and neither gave up.
+    fn held_both(&self) -> bool {
+        self.first.load(Ordering::SeqCst)
+            && self.second.load(Ordering::SeqCst)
+            && !self.gave_up.load(Ordering::SeqCst)
+    }
+
     fn hold(&self, mine: &AtomicBool, other: &AtomicBool) {
         if mine.swap(true, Ordering::SeqCst) {
             return;
@@ -142,6 +155,39 @@ impl Pace for HoldPace {
             0 => self.hold(&self.first, &self.second),
             1 => self.hold(&self.second, &self.first),
             _ => {}
+        }
+    }
+}
+
+// Counts its calls for each worker.
+#[derive(Drop)]
+struct CountPace {
+    calls: Vec<AtomicU64>,
+}
+
+impl CountPace {
+    fn of(alloc: Global, workers: usize) -> Result<CountPace, AllocError> {
+        let mut calls = Vec::new(alloc);
+        for _ in 0..workers {
+            calls.push(AtomicU64::new(0))?;
+        }
+        Ok(CountPace { calls })
+    }
+
+    // Whether each worker called it once more than it drew a number: its seat has what it drew. The
+    // last seat is the first worker's.
+    fn was_asked(&self, seats: &[Vec<u64>]) -> bool {
+        self.calls.len() == seats.len()
+            && self.calls.iter().zip(seats.iter().rev()).all(|(calls, seat)| calls.load(
+                Ordering::SeqCst,
+            ) == seat.len() as u64 + 1)
+    }
+}
+
+impl Pace for CountPace {
+    fn before_draw(&self, worker: u32) {
+        if let Some(calls) = self.calls.get(worker as usize) {
+            calls.fetch_add(1, Ordering::SeqCst);
         }
     }
 }
@@ -260,7 +306,7 @@ fn workers_run_beside_each_other(rt: HostRuntime) -> Result<(), Fail> {
     let seats = empty_seats(alloc, 2)?;
     let worked = work(&rt, alloc, &pace, 3, seats, &Notes).map_err(|refused| refused.1)?;
     assert_eq!(rt; worked.outs.as_slice(), [(0, 0), (1, 1), (2, 2)].as_slice());
-    assert!(rt; !pace.gave_up.load(Ordering::SeqCst));
+    assert!(rt; pace.held_both());
     Ok(())
 }
 
@@ -274,6 +320,24 @@ fn workers_on_items_run_beside_each_other(rt: HostRuntime) -> Result<(), Fail> {
         |refused| refused.1,
     )?;
     assert_eq!(rt; worked.items.as_slice(), [10, 21, 32].as_slice());
-    assert!(rt; !pace.gave_up.load(Ordering::SeqCst));
+    assert!(rt; pace.held_both());
+    Ok(())
+}
+
+// Three workers draw twenty numbers, and then twenty items.
+#[test]
+fn pace_is_asked_before_each_draw(rt: HostRuntime) -> Result<(), Fail> {
+    let alloc = rt.alloc();
+    let pace = CountPace::of(alloc, 3)?;
+    let seats = empty_seats(alloc, 3)?;
+    let worked = work(&rt, alloc, &pace, 20, seats, &Notes).map_err(|refused| refused.1)?;
+    assert!(rt; pace.was_asked(worked.seats.as_slice()));
+    let pace = CountPace::of(alloc, 3)?;
+    let seats = empty_seats(alloc, 3)?;
+    let items = vec![in alloc; 5u64; 20]?;
+    let worked = work_items(&rt, alloc, &pace, items, seats, &AddsIndex).map_err(
+        |refused| refused.1,
+    )?;
+    assert!(rt; pace.was_asked(worked.seats.as_slice()));
     Ok(())
 }

@@ -34,7 +34,8 @@ pub(crate) fn set_up<S, D, T>(
     requires draw { (all.old.draw ≡ draw.now) × (all.old.past ≡ []) }
     requires parts { vec_len seats.old < all.old.parts }
     requires room { (workers.old.items ≡ []) × (vec_len seats.old ≤ vec_capacity workers.old) }
-    ensures all { (all.new.draw ≡ draw.now) × (all.new.past ≡ all.old.past) × (all.new.drawn ≡ all.old.drawn) × (all.new.parts + vec_len seats.old ≡ all.old.parts) }
+    ensures all { (all.new.draw ≡ draw.now) × (all.new.past ≡ all.old.past) × (all.new.drawn ≡ all.old.drawn)
+        × (all.new.parts + vec_len seats.old ≡ all.old.parts) }
     ensures seats { (seats.new.items ≡ []) × (vec_capacity seats.new ≡ vec_capacity seats.old) }
     ensures workers { seats_of workers.new.items ≡ reverse seats.old.items }
     ensures count { vec_len workers.new ≡ vec_len seats.old }
@@ -126,7 +127,8 @@ impl<T: Drop> Gathered<T> {
 // Where these are the numbers below a count, each once, they stand in their order afterwards.
 fn sort_by_number<T>(outs: &mut Vec<(u64, T)>)
     ensures same { IsPermutation outs.old.items outs.new.items }
-    ensures rising { (count : ℕ) → AllDrawn count (numbers_of outs.old.items) → numbers_of outs.new.items ≡ numbers_below count }
+    ensures rising { (count : ℕ) → AllDrawn count (numbers_of outs.old.items)
+        → numbers_of outs.new.items ≡ numbers_below count }
 {
     outs.as_mut_slice().sort_unstable_by_key(|out| out.0);
 }

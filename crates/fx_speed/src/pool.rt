@@ -21,6 +21,8 @@ impl Job for Steps {
 
     ghost fits = { λ _ _. Unit {0} };
 
+    ghost takes = { λ _ _. Unit {0} };
+
     ghost right = { λ _ _ _. Unit {0} };
 
     ghost weight = { λ _. (0, 0) };

@@ -18,7 +18,8 @@ use Rattle.fx_turn.specs.Seats.{IsPlain}
 use Rattle.fx_turn.specs.Turning.{seen_turn, turn_of, with_turn, one_less, one_part, both, spent, Knows, AtHome, Filled, Ruled, given, Taken, Given, Won}
 use Rattle.fx_turn.proofs.Lists.{there, at_lt, at_one, at_alone, sum_set, sum_at, sum_two, sum_none, sum_alone, sum_sole}
 use Rattle.fx_turn.proofs.Tallying.{six_at}
-use Rattle.fx_turn.proofs.ClaimsLemmas.{times-append, marked_once, mark_in-append, after_among, times-claims_after}
+use Rattle.fx_turn.proofs.CallerLemmas.{times-append, marked_once, mark_in-append}
+use Rattle.fx_turn.proofs.ClaimsLemmas.{after_among, times-claims_after}
 
 -- the holder of k becomes id
 abbrev pub held_by : (ℕ → ℕ) → ℕ → ℕ → ℕ → ℕ

@@ -19,7 +19,8 @@ use Rattle.fx_turn.specs.Seats.{all_parts, IsPlain}
 use Rattle.fx_turn.specs.Turning.{seen_turn, turn_of, stage_of, with_turn, Knows, AtHome, Unfilled, Filled, Ruled, Reached, Moved, MayStand}
 use Rattle.fx_turn.proofs.Lists.{zeros_at, at_lt, at_one, at_alone, at_replicate, sum_alone, sole, sum_sole, all_at, at_all, at_append, at_end, mapped}
 use Rattle.fx_turn.proofs.Tallying.{six_at, six_is}
-use Rattle.fx_turn.proofs.ClaimsLemmas.{times-append, marked_once, same_claims}
+use Rattle.fx_turn.proofs.CallerLemmas.{times-append, marked_once}
+use Rattle.fx_turn.proofs.ClaimsLemmas.{same_claims}
 use Rattle.fx_turn.proofs.Keeps.{filled_of}
 
 module _ {N V M : Type 0} (fits : N → V → Type 0) (tally : V → List ℕ) (claims : V → List (ℕ × M)) where

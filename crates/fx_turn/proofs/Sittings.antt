@@ -1,5 +1,5 @@
 -- What the views of a row and of its seats tell of the fields behind them.
-use Rattle.std.proofs.Common.{◌≡◌, ℕ, ◌<◌, List, [], ◌∷◌, Option, Some, None, IsSomeAnd, IfSome, refl, sym, ap, subst, ◌∙◌}
+use Rattle.std.proofs.Common.{◌≡◌, ℕ, ◌<◌, List, [], ◌∷◌, Option, Some, None, IsSomeAnd, IfSome, refl, ap, subst, ◌∙◌}
 use Rattle.atomic_table.specs.Table.{Me}
 use Rattle.atomic_table.specs.Seated.{TableId}
 use Rattle.fx_turn.specs.declared.rule.View.{View}
@@ -67,11 +67,3 @@ module _ {T : Type 0} where
   pub if_some_is : (o : Option T) (P : T → Type 0) → ((x : T) → o ≡ Some x → P x) → IfSome o P
   if_some_is None P h = tt
   if_some_is (Some x) P h = h x refl
-
--- For callers: a turn from its take to its give. The seat s is t while it has the turn, and u after
-module _ {N V M : Type 0} (s t u : SeatState N V M) (slot : ℕ) (before : V) (took : t ≡ record s { turn = Some (slot, before) }) where
-  pub while_taken : (P : ℕ × V → Type 0) → P (slot, before) → IfSome t.turn P
-  while_taken P h = subst (λ (o : Option (ℕ × V)). IfSome o P) (sym (ap (λ z. z.turn) took)) h
-
-  pub one_turn : (tally : V → List ℕ) (claims : V → List (ℕ × M)) (now : V) → IfSome t.turn (λ x. u ≡ after_turn tally claims x.1 now t) → u ≡ after_turn tally claims before now s
-  one_turn tally claims now gave = if_some t.turn (λ x. u ≡ after_turn tally claims x.1 now t) (slot, before) gave (ap (λ z. z.turn) took) ∙ ap (after_turn tally claims before now) took

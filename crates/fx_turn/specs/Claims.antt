@@ -1,4 +1,5 @@
--- A claim is a number with a mark, which is plain data. The claims of a value are those of the seats of its row: each is with one seat.
+-- A claim is a number with a mark, which is plain data. The claims of a value are those of the seats of its row: each
+-- is with one seat.
 use Rattle.std.specs.Prelude.{◌≡◌, ℕ, ◌≤◌, ◌==◌, ◌⊎◌, List, ◌++◌, count_by, filter, Option, Some, option_map, is_none}
 use Rattle.std.specs.List.{filter_map}
 use Rattle.std.specs.Map.{lookup}
@@ -21,7 +22,8 @@ module _ {M : Type 0} where
 
   -- each claim that left, while the value was held, was the seat's
   abbrev pub OnlyOwnLeft : List (ℕ × M) → List (ℕ × M) → List (ℕ × M) → Type 0
-  OnlyOwnLeft mine before now = (n : ℕ) (m : M) → mark_of n before ≡ Some m → (mark_of n now ≡ Some m) ⊎ (mark_of n mine ≡ Some m)
+  OnlyOwnLeft mine before now =
+      (n : ℕ) (m : M) → mark_of n before ≡ Some m → (mark_of n now ≡ Some m) ⊎ (mark_of n mine ≡ Some m)
 
   -- those of the seat's claims whose number the value still has, with the mark that it has there
   abbrev pub still : List (ℕ × M) → List (ℕ × M) → List (ℕ × M)

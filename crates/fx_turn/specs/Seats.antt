@@ -9,7 +9,8 @@ pub record Row (N : Type 0) : Type 0 where
   pub name : N
   pub stamp : List ℕ
 
--- The turn that a seat has, if it has one: the slot, and the value as it was taken. Of the row's tally and claims it has its own part
+-- The turn that a seat has, if it has one: the slot, and the value as it was taken. Of the row's tally and claims it
+-- has its own part
 pub record SeatState (N V M : Type 0) : Type 0 where
   pub row : Row N
   pub parts : ℕ
@@ -45,7 +46,9 @@ module _ {N V M : Type 0} where
   module _ (tally : V → List ℕ) (claims : V → List (ℕ × M)) where
     -- the first seat of a row has all parts, and what the values have
     abbrev pub first_seat : Row N → List V → SeatState N V M
-    first_seat row values = record { row = row; parts = all_parts; turn = None; tally = tally_of_all tally values; claims = flat_map claims values }
+    first_seat row values =
+        let counted = tally_of_all tally values in
+        record { row = row; parts = all_parts; turn = None; tally = counted; claims = flat_map claims values }
 
     -- what the seat has of tally and claims is in the value
     abbrev pub Agrees : SeatState N V M → V → Type 0
@@ -53,4 +56,9 @@ module _ {N V M : Type 0} where
 
     -- the seat gave its turn back, with the second value in place of the first
     abbrev pub after_turn : V → V → SeatState N V M → SeatState N V M
-    after_turn before now s = record s { turn = None; tally = tally_after (tally before) (tally now) s.tally; claims = claims_after (claims before) (claims now) s.claims }
+    after_turn before now s =
+        record s {
+          turn = None;
+          tally = tally_after (tally before) (tally now) s.tally;
+          claims = claims_after (claims before) (claims now) s.claims;
+        }

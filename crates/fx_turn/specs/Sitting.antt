@@ -7,11 +7,14 @@ use Rattle.fx_turn.specs.Seats.{Row, SeatState}
 use Rattle.fx_turn.specs.Turning.{seen_turn, turn_of, slots_of}
 
 abbrev pub row_of : {N : Type 0} → N → TableId → Row N
-row_of n z = record { slots = z.slots; name = n; stamp = z.words ∷ z.views_name ∷ z.atom ∷ z.block ∷ z.offset ∷ z.slot_names }
+row_of n z =
+    let stamp = z.words ∷ z.views_name ∷ z.atom ∷ z.block ∷ z.offset ∷ z.slot_names in
+    record { slots = z.slots; name = n; stamp = stamp }
 
 module _ {N V M : Type 0} where
   abbrev pub seat_view : N → TableId → View N V M → SeatState N V M
-  seat_view n z w = record { row = row_of n z; parts = w.parts; turn = seen_turn w.turn; tally = w.tally; claims = w.claims }
+  seat_view n z w =
+      record { row = row_of n z; parts = w.parts; turn = seen_turn w.turn; tally = w.tally; claims = w.claims }
 
   -- a seat knows the name, has a part and a tally, and has the slot of its turn and no other
   pub record IsSeat (name : N) (z : TableId) (me : Me (Option V) (View N V M)) : Type 0 where

@@ -65,21 +65,31 @@ fn one_value_is_taken_and_given(rt: HostRuntime) -> Result<(), Fail> {
     Ok(())
 }
 
+// Takes the value of a slot, adds one to it, and answers what it was.
+fn add_one<R: Wait>(rt: &R, turns: &Turns<u32, u64>, seat: &mut Seat<u32, u64>, slot: u32) -> u64
+    requires { (seat.old.row ≡ turns.now) × (seat.old.turn ≡ None) × (slot < turns.now.slots) }
+    ensures { (seat.new.row ≡ turns.now) × (seat.new.turn ≡ None) × (seat.new.parts ≡ seat.old.parts) }
+{
+    let mut held = turns.take(rt, seat, slot);
+    let value = *held.value();
+    *held.value_mut() = value.wrapping_add(1);
+    turns.give(seat, held);
+    value
+}
+
+// No clause says which value stands in which slot: `new`, `renew` and `close` keep them in their order.
 #[test]
-fn a_row_is_renewed(rt: HostRuntime) -> Result<(), Fail> {
+fn values_keep_their_slots(rt: HostRuntime) -> Result<(), Fail> {
     let alloc = rt.alloc();
     let values = vec![in alloc; 10u64, 20, 30]?;
     let (turns, mut seat) = Turns::new(alloc, 5u32, values).map_err(|e| e.1)?;
-    let mut held = turns.take(&rt, &mut seat, 1);
-    *held.value_mut() = 21;
-    turns.give(&mut seat, held);
+    assert_eq!(rt; add_one(&rt, &turns, &mut seat, 0), 10);
+    assert_eq!(rt; add_one(&rt, &turns, &mut seat, 1), 20);
     let (turns, mut seat) = turns.renew(alloc, seat, 6).map_err(|e| e.3)?;
-    let mut held = turns.take(&rt, &mut seat, 2);
-    assert_eq!(rt; *held.value(), 30);
-    *held.value_mut() = 31;
-    turns.give(&mut seat, held);
+    assert_eq!(rt; add_one(&rt, &turns, &mut seat, 0), 11);
+    assert_eq!(rt; add_one(&rt, &turns, &mut seat, 2), 30);
     let values = turns.close(alloc, seat).map_err(|e| e.2)?;
-    assert_eq!(rt; values.as_slice(), [10, 21, 31].as_slice());
+    assert_eq!(rt; values.as_slice(), [12, 21, 31].as_slice());
     Ok(())
 }
 
@@ -128,8 +138,10 @@ fn split_off(
     count: u32,
 ) -> Result<Vec<Seat<u32, Count>>, Memory>
     requires { (first.old.row ≡ turns.now) × (first.old.turn ≡ None) × (count < first.old.parts) }
-    ensures ok { IfOk result (λ seats. (vec_len seats ≡ count) × All (λ s. (s.row ≡ turns.now) × (s.turn ≡ None) × (s.parts ≡ 1)) seats.items) }
-    ensures first { IfOk result (λ seats. (first.new.row ≡ turns.now) × (first.new.turn ≡ None) × (first.new.parts + count ≡ first.old.parts)) }
+    ensures ok { IfOk result (λ seats. (vec_len seats ≡ count)
+        × All (λ s. (s.row ≡ turns.now) × (s.turn ≡ None) × (s.parts ≡ 1)) seats.items) }
+    ensures first { IfOk result (λ _. (first.new.row ≡ turns.now) × (first.new.turn ≡ None)
+        × (first.new.parts + count ≡ first.old.parts)) }
 {
     let mut seats = Vec::new(alloc);
     for _ in 0..count {
@@ -146,7 +158,8 @@ fn join_all(
 )
     requires first { (first.old.row ≡ turns.now) × (first.old.turn ≡ None) }
     requires seats { All (λ s. (s.row ≡ turns.now) × (s.turn ≡ None) × (s.parts ≡ 1)) seats.items }
-    ensures { (first.new.row ≡ turns.now) × (first.new.turn ≡ None) × (first.new.parts ≡ first.old.parts + vec_len seats) }
+    ensures { (first.new.row ≡ turns.now) × (first.new.turn ≡ None)
+        × (first.new.parts ≡ first.old.parts + vec_len seats) }
 {
     while let Some(seat) = seats.pop() {
         turns.join(first, seat);

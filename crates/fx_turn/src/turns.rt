@@ -1,5 +1,5 @@
 //! The row and its calls.
-ghost use Rattle.std.specs.Prelude.{◌≡◌, ◌+◌, ◌-◌, ◌<◌, All, IfErr, IfOk, IsSomeAnd, IfSome, [], None, OnErr, Some, flat_map, vec_len};
+ghost use Rattle.std.specs.Prelude.{◌≡◌, ◌+◌, ◌-◌, ◌<◌, All, IfErr, IfOk, IsSomeAnd, IfSome, [], None, OnErr, Some, flat_map, length, vec_len};
 ghost use Rattle.fx_turn.specs.Tallies.{IsAtMost, tally_of_all};
 ghost use Rattle.fx_turn.specs.Claims.{OnlyOwnLeft, SameClaims};
 ghost use Rattle.fx_turn.specs.Seats.{Agrees, IsPlain, after_turn, all_parts, first_seat, joined, new_seat, with_one_part_less};
@@ -129,7 +129,8 @@ impl<N: Drop, V: Fits<N>> Turns<N, V> {
 }
 
 impl<N, V: Fits<N>> Turns<N, V> {
-    /// Takes the turn of a slot, and its value. Waits while another seat has the turn.
+    /// Takes the turn of a slot, and its value. Waits while another seat has the turn. What the seat has
+    /// of tally and claims is in the value.
     pub fn take<R: Wait>(&self, rt: &R, seat: &mut Seat<N, V>, slot: u32) -> Held<V>
         requires slot { slot < self.now.slots }
         requires row { seat.old.row ≡ self.now }
@@ -137,6 +138,7 @@ impl<N, V: Fits<N>> Turns<N, V> {
         ensures slot { result.slot ≡ slot }
         ensures fit { V.fits self.now.name result.value }
         ensures agrees { Agrees V.tally V.claims seat.old result.value }
+        ensures six { length seat.old.tally ≡ 6 }
         ensures seat { seat.new ≡ record seat.old { turn = Some (slot, result.value) } }
     {
         let place = slot as usize;
@@ -206,7 +208,8 @@ fn win<R: Wait, N, V: Fits<N>>(
     token: &mut Token<N, V, V::Mark>,
     place: usize,
 )
-    requires row { (token.old.table_id ≡ slots.now.shared.table_id) × (slots.now.shared.table_id.words ≡ slots.now.shared.table_id.slots) }
+    requires row { let table = slots.now.shared.table_id in
+        (token.old.table_id ≡ table) × (table.words ≡ table.slots) }
     requires place { place < slots.now.shared.table_id.slots }
     requires free { (token.old.me.1 ≡ []) × (0 < token.old.me.0.parts) × (token.old.me.0.turn ≡ Free) }
     ensures row { token.new.table_id ≡ token.old.table_id }

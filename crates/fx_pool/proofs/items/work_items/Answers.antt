@@ -3,7 +3,7 @@ use Rattle.std.proofs.lemmas.List.{length-map}
 use Rattle.fx_pool.specs.Working.{EachRight, MadeRight, numbers_below}
 use Rattle.fx_pool.specs.Weights.{plus, weigh}
 use Rattle.fx_pool.proofs.Together.{all_ready, all_back, all_right, all_weigh}
-use Rattle.fx_pool.proofs.Apart.{none_of, count_of, each_right, weigh-map}
+use Rattle.fx_pool.proofs.Apart.{asked_of, none_of, count_of, each_right, weigh-map}
 use Rattle.fx_pool.proofs.items.work_items.Goals as goal
 
 pub run_all-requires-clause-items : goal.run_all-requires-clause-items
@@ -62,3 +62,6 @@ returns-in-Ok-apart-clause-weighs g c =
     (λ i e h. (c.run_all.ensures.each i e h).worked) c.in-Some.ensures.works c.args.seats.items c.set_up.ensures.workers made c.in-Some.ensures.outs
     ∙ ap (plus (weigh g.J.ItemJob.weight c.args.seats.items))
     (sym (weigh-map {A = Made} {B = T} (λ x. x.1.1) g.J.ItemJob.out_weight made) ∙ ap (weigh g.J.ItemJob.out_weight) (sym c.in-Ok-apart.ensures.outs)))
+
+pub run_all-requires-clause-takes : goal.run_all-requires-clause-takes
+run_all-requires-clause-takes g c κs within = asked_of (g.J.ItemJob.takes c.args.job.now) c.args.items.items c.in-Ok.draw.items c.in-Ok.ensures.items (λ k i h. c.requires.takes k i (omega arith))

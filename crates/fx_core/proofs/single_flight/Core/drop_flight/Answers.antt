@@ -5,7 +5,7 @@ use Rattle.fx_core.specs.State.{State}
 use Rattle.fx_core.specs.Step.{step, Drop, Done}
 use Rattle.fx_core.specs.Sound.{IsSound}
 use Rattle.fx_core.specs.Seen.{state_of}
-use Rattle.fx_core.proofs.Flights.{standing_key, standing_leaves}
+use Rattle.fx_core.proofs.Flights.{standing_key, standing_leaves, standing_last}
 use Rattle.fx_core.proofs.Soundness.{sound_step}
 use Rattle.fx_core.proofs.Steps.{drop_step}
 use Rattle.fx_core.proofs.single_flight.Core.drop_flight.Given.{Over}
@@ -45,6 +45,12 @@ returns-clause-leaves g c' =
     let c = (goal.at.returns-clause-leaves g c').After-end in
     let l = standing_leaves g.K.PartialEq.eq g.met.K.Eq.laws (before g c) c.self.invariant.0 (c.args.flight.ticket.number, arc_value c.args.flight.key) (stands g c) in
     (l.0, l.1, ap (λ (s : State g.row.K.Denot g.row.V.Denot). s.flying) (sym c.self.view_is) ∙ l.2, left g c ∙ l.3)
+
+pub returns-clause-last : goal.returns-clause-last
+returns-clause-last g c' others last =
+    let c = (goal.at.returns-clause-last g c').After-end in
+    left g c ∙ standing_last g.K.PartialEq.eq g.met.K.Eq.laws (before g c) c.self.invariant.0 (c.args.flight.ticket.number, arc_value c.args.flight.key) others
+    (ap (λ (s : State g.row.K.Denot g.row.V.Denot). s.flying) c.self.view_is ∙ last)
 
 pub returns-clause-sound : goal.returns-clause-sound
 returns-clause-sound g c = sound g (goal.at.returns-clause-sound g c).After-end

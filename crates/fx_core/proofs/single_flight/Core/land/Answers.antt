@@ -5,7 +5,7 @@ use Rattle.fx_core.specs.State.{State}
 use Rattle.fx_core.specs.Step.{step, Land, Done}
 use Rattle.fx_core.specs.Sound.{IsSound}
 use Rattle.fx_core.specs.Seen.{state_of}
-use Rattle.fx_core.proofs.Flights.{standing_key, standing_leaves, not_kept, with_new-member}
+use Rattle.fx_core.proofs.Flights.{standing_key, standing_leaves, standing_last, not_kept, with_new-member}
 use Rattle.fx_core.proofs.Soundness.{sound_step}
 use Rattle.fx_core.proofs.Steps.{land_step, as_number}
 use Rattle.fx_core.proofs.single_flight.Core.land.Given.{Over}
@@ -55,6 +55,12 @@ returns-in-Ok-clause-leaves g c' =
     let c = (goal.at.returns-in-Ok-clause-leaves g c').After-from in
     let l = standing_leaves g.K.PartialEq.eq g.met.K.Eq.laws (before g c) c.self.invariant.0 (c.args.flight.ticket.number, arc_value c.args.flight.key) (stands g c) in
     (l.0, l.1, ap (λ (s : State g.row.K.Denot g.row.V.Denot). s.flying) (sym c.self.view_is) ∙ l.2, left g c ∙ l.3)
+
+pub returns-in-Ok-clause-last : goal.returns-in-Ok-clause-last
+returns-in-Ok-clause-last g c' others last =
+    let c = (goal.at.returns-in-Ok-clause-last g c').After-from in
+    left g c ∙ standing_last g.K.PartialEq.eq g.met.K.Eq.laws (before g c) c.self.invariant.0 (c.args.flight.ticket.number, arc_value c.args.flight.key) others
+    (ap (λ (s : State g.row.K.Denot g.row.V.Denot). s.flying) c.self.view_is ∙ last)
 
 pub returns-in-Ok-clause-kept : goal.returns-in-Ok-clause-kept
 returns-in-Ok-clause-kept g c =

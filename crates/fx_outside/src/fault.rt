@@ -1,7 +1,7 @@
 //! Why a call of the outside fails.
 ghost use Rattle.std.specs.Prelude.{◌≡◌};
-ghost use Rattle.fx_outside.specs.declared.faults.FetchFault.TheVariants.{Memory as FetchMemory};
-ghost use Rattle.fx_outside.specs.declared.faults.PutFault.TheVariants.{Memory as PutMemory};
+ghost use Rattle.fx_outside.specs.declared.fault.FetchFault.TheVariants.{Memory as FetchMemory};
+ghost use Rattle.fx_outside.specs.declared.fault.PutFault.TheVariants.{Memory as PutMemory};
 
 use std::alloc::{AllocError, AllocFailed};
 
