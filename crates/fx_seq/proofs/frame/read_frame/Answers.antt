@@ -1,6 +1,6 @@
 use Rattle.std.proofs.lemmas.Result.{err_from_is_err_and}
 use Rattle.fx_seq.proofs.FillingLemmas.{told_under}
-use Rattle.fx_seq.proofs.store.read_frame.Goals as goal
+use Rattle.fx_seq.proofs.frame.read_frame.Goals as goal
 
 pub returns-in_err-bytes-clause-refused : goal.returns-in_err-bytes-clause-refused
 returns-in_err-bytes-clause-refused g c = λ tells. let p = err_from_is_err_and c.from_residual.result c.from_residual.ensures.1 in rw (p.1, p.2) (λ limit sum. c.in_err-bytes.ensures.no_refusal _)
