@@ -2,17 +2,19 @@
 use Rattle.std.specs.Prelude.{◌≡◌, ℕ, zero, suc, ◌<◌, ◌≤◌, ◌+◌, ◌*◌, ◌/◌, ℤ, pos, negsuc, ◌<ℤ◌, ◌≤ℤ◌, ◌+ℤ◌, ◌-ℤ◌, ◌*ℤ◌, neg_ℤ, true, false, List, [], ◌∷◌, ◌++◌, map, All, AllPairs, refl}
 use Rattle.std.specs.Int.{int_gap}
 use Rattle.std.specs.List.{Contains, flat_map}
-use Rattle.std.proofs.Common.{inl, inr, ◌⊎◌, ⊎_elim, sym, subst, ap, arith, ◌∙◌, append_assoc, append-nil}
+use Rattle.std.proofs.Common.{inl, inr, ⊎_elim, sym, subst, ap, arith, ◌∙◌, append_assoc, append-nil}
 use Rattle.std.proofs.Math.IntN.{suc_ℤ, suc_ℤ-*ℤ}
 use Rattle.std.proofs.Math.Nat.{div-mul-le_self, mod-lt}
 use Rattle.std.proofs.lemmas.Bool.{cases_Bool}
-use Rattle.std.proofs.lemmas.Int.{ints, by_lt_z}
+use Rattle.std.proofs.lemmas.Int.{ints}
 use Rattle.std.proofs.lemmas.Nat.{div-add-mod'}
-use Rattle.std.proofs.lemmas.List.Elements.{All-nil, All-cons, All-append, All-map, All-contains, Contains-append_left, Contains-append_right}
+use Rattle.std.proofs.lemmas.List.Elements.{All-nil, All-map, All-contains}
 use Rattle.fx_base.specs.Bounds.{Bounds, IsRect}
 use Rattle.fx_base.specs.Rect.{Holds, is_empty}
-use Rattle.fx_base.specs.Grid.{int_run, int_range, tile_at, tile_of, tiles_between, tiles_in_rows, tiles_of, IsTileOf, IsBefore}
+use Rattle.fx_base.specs.Run.{int_run, int_range}
+use Rattle.fx_base.specs.Grid.{tile_at, tile_of, tiles_between, tiles_in_rows, tiles_of, IsTileOf, IsBefore}
 use Rattle.fx_base.proofs.RectLaws.{gap_is}
+use Rattle.fx_base.proofs.RunLaws.{order, AllPairs-nil, AllPairs-cons, AllPairs-append, Contains-range, Contains-map, Contains-flat_map, int_range-step, int_range-end, All-run, All-range, All-flat_map}
 use Rattle.fx_base.proofs.RectLemmas.{IsInside-from_holds, Holds-from_inside, IsProper-from_test, is_empty-holds}
 
 -- ---- products by a side
@@ -59,9 +61,6 @@ pub tile_of-high : (side : ℕ) (x : ℤ) → 0 < side → x <ℤ ((tile_of side
 tile_of-high s (pos n) h = let a = div-add-mod' n s in let b = mod-lt n h in omega (arith, ints)
 tile_of-high s (negsuc n) h = let a = div-mul-le_self n s in high_at s (n / s) n a
 
-order : (a b : ℤ) → (a ≤ℤ b) ⊎ ((b +ℤ pos 1) ≤ℤ a)
-order a b = by_lt_z b a (λ above. inr (omega (arith, ints))) (λ le. inl le)
-
 apart : (side : ℕ) (x a b : ℤ) → (a *ℤ pos side) ≤ℤ x → x <ℤ ((b *ℤ pos side) +ℤ pos side) → a ≤ℤ b
 apart side x a b low high = elim (order a b) [
   | inl le ↦ le
@@ -79,67 +78,6 @@ tile_of-only side x a some low high =
     let up = apart side x a (tile_of side x) low (tile_of-high side x some) in
     let down = apart side x (tile_of side x) a (tile_of-low side x some) high in
     omega (arith, ints)
-
--- ---- lists
-
--- P holds of each pair of an earlier and a later element
-pub AllPairs-nil : {X : Type 0} (R : X → X → Type 0) → AllPairs R []
-AllPairs-nil R i j d lt low = absurd (omega arith)
-
-AllPairs-cons : {X : Type 0} (R : X → X → Type 0) (x : X) (xs : List X) → All (R x) xs → AllPairs R xs → AllPairs R (x ∷ xs)
-AllPairs-cons R x xs first rest i zero d lt low = absurd (omega arith)
-AllPairs-cons R x xs first rest zero (suc j) d lt low = first j d (omega arith)
-AllPairs-cons R x xs first rest (suc i) (suc j) d lt low = rest i j d (omega arith) (omega arith)
-
-AllPairs-append : {X : Type 0} (R : X → X → Type 0) (xs ys : List X) → AllPairs R xs → AllPairs R ys → All (λ x. All (R x) ys) xs → AllPairs R (xs ++ ys)
-AllPairs-append R [] ys first second across = second
-AllPairs-append R (x ∷ xs) ys first second across =
-    AllPairs-cons R x (xs ++ ys)
-    (All-append (R x) xs ys (λ k d low. first 0 (suc k) d (omega arith) (omega arith)) (across 0 x (omega arith)))
-    (AllPairs-append R xs ys (λ i j d lt low. first (suc i) (suc j) d (omega arith) (omega arith)) second (λ k d low. across (suc k) d (omega arith)))
-
-Contains-rest : {X : Type 0} (x y : X) (xs : List X) → Contains xs y → Contains (x ∷ xs) y
-Contains-rest x y xs (k, low, is) = (suc k, omega arith, is)
-
-pub Contains-run : (a : ℤ) (n : ℕ) (b : ℤ) → a ≤ℤ b → b <ℤ (a +ℤ pos n) → Contains (int_run a n) b
-Contains-run a zero b low high = absurd (omega (arith, ints))
-Contains-run a (suc n) b low high = elim (order (a +ℤ pos 1) b) [
-  | inl above ↦ Contains-rest a b (int_run (a +ℤ pos 1) n) (Contains-run (a +ℤ pos 1) n b above (omega (arith, ints)))
-  | inr below ↦ (0, omega arith, omega (arith, ints))
-]
-
-pub Contains-range : (first end b : ℤ) → first ≤ℤ b → b <ℤ end → Contains (int_range first end) b
-Contains-range first end b low high =
-    let whole = gap_is first end (omega (arith, ints)) in
-    Contains-run first (int_gap first end) b low (omega (arith, ints))
-
--- one step of a loop over whole numbers
-pub int_range-step : (a b : ℤ) → a <ℤ b → int_range a b ≡ a ∷ int_range (a +ℤ pos 1) b
-int_range-step a b lt =
-    let here = gap_is a b (omega (arith, ints)) in
-    let next = gap_is (a +ℤ pos 1) b (omega (arith, ints)) in
-    let long : int_gap a b ≡ suc (int_gap (a +ℤ pos 1) b) = omega (arith, ints) in
-    ap (int_run a) long
-
-gap_none : (a b : ℤ) → b ≤ℤ a → int_gap a b ≡ 0
-gap_none (pos a) (pos b) le = omega (arith, ints)
-gap_none (pos a) (negsuc b) le = refl
-gap_none (negsuc a) (pos b) le = absurd (omega (arith, ints))
-gap_none (negsuc a) (negsuc b) le = omega (arith, ints)
-
-pub int_range-end : (a b : ℤ) → b ≤ℤ a → int_range a b ≡ []
-int_range-end a b le = ap (int_run a) (gap_none a b le)
-
-Contains-map : {X Y : Type 0} (f : X → Y) (xs : List X) (x : X) → Contains xs x → Contains (map f xs) (f x)
-Contains-map f [] x (k, low, is) = absurd (omega arith)
-Contains-map f (y ∷ xs) x (zero, low, is) = (0, omega arith, ap f is)
-Contains-map f (y ∷ xs) x (suc k, low, is) = Contains-rest (f y) (f x) (map f xs) (Contains-map f xs x (k, omega arith, is))
-
-Contains-flat_map : {X Y : Type 0} (f : X → List Y) (xs : List X) (x : X) (y : Y) → Contains xs x → Contains (f x) y → Contains (flat_map f xs) y
-Contains-flat_map f [] x y (k, low, is) there = absurd (omega arith)
-Contains-flat_map f (z ∷ xs) x y (zero, low, is) there = Contains-append_left (f z) (flat_map f xs) y (subst (λ w. Contains (f w) y) (sym is) there)
-Contains-flat_map f (z ∷ xs) x y (suc k, low, is) there =
-    Contains-append_right (f z) (flat_map f xs) y (Contains-flat_map f xs x y (k, omega arith, is) there)
 
 -- ---- the tile of a place
 
@@ -193,24 +131,6 @@ Contains-tiles_of side r x y some held =
     (Contains-range (left_of side r) (right_of side r) (tile_of side x) (tile_of-rises side r.x1 x some inside.left) (omega (arith, ints)))))
 
 -- ---- what the list has
-
-All-flat_map : {X Y : Type 0} (P : Y → Type 0) (f : X → List Y) (xs : List X) → All (λ x. All P (f x)) xs → All P (flat_map f xs)
-All-flat_map P f [] each = All-nil P
-All-flat_map P f (x ∷ xs) each = All-append P (f x) (flat_map f xs) (each 0 x (omega arith)) (All-flat_map P f xs (λ k d low. each (suc k) d (omega arith)))
-
-All-run : (P : ℤ → Type 0) (a : ℤ) (n : ℕ) → ((b : ℤ) → a ≤ℤ b → b <ℤ (a +ℤ pos n) → P b) → All P (int_run a n)
-All-run P a zero each = All-nil P
-All-run P a (suc n) each =
-    All-cons P a (int_run (a +ℤ pos 1) n) (each a (omega (arith, ints)) (omega (arith, ints)))
-    (All-run P (a +ℤ pos 1) n (λ b low high. each b (omega (arith, ints)) (omega (arith, ints))))
-
-All-range : (P : ℤ → Type 0) (first end : ℤ) → ((b : ℤ) → first ≤ℤ b → b <ℤ end → P b) → All P (int_range first end)
-All-range P first end each = elim (order end first) [
-  | inl none ↦ rw (int_range-end first end none) (All-nil P)
-  | inr some ↦
-      let whole = gap_is first end (omega (arith, ints)) in
-      All-run P first (int_gap first end) (λ b low high. each b low (omega (arith, ints)))
-]
 
 -- a place of r in the same column or row of tiles as any between the ends
 shared : (side : ℕ) (low high i : ℤ) → 0 < side → low <ℤ high → tile_of side low ≤ℤ i → i ≤ℤ tile_of side (high -ℤ pos 1) → (x : ℤ) × (low ≤ℤ x) × (x <ℤ high) × ((i *ℤ pos side) ≤ℤ x) × (x <ℤ ((i *ℤ pos side) +ℤ pos side))

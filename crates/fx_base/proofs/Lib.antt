@@ -4,3 +4,4 @@ pub mod PatternLaws
 pub mod PatternLemmas
 pub mod RectLaws
 pub mod RectLemmas
+pub mod RunLaws

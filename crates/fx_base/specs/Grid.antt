@@ -1,18 +1,10 @@
 -- Grids of square tiles: tile (0, 0) has its bottom left corner at the place (0, 0).
-use Rattle.std.specs.Prelude.{◌≡◌, ℕ, zero, suc, ℤ, pos, ◌<ℤ◌, ◌+ℤ◌, ◌-ℤ◌, ◌*ℤ◌, ◌⊎◌, List, [], ◌∷◌, map, if◌then◌else◌}
-use Rattle.std.specs.Int.{int_gap, int_div_euclid}
+use Rattle.std.specs.Prelude.{◌≡◌, ℕ, ℤ, pos, ◌<ℤ◌, ◌+ℤ◌, ◌-ℤ◌, ◌*ℤ◌, ◌⊎◌, List, [], map, if◌then◌else◌}
+use Rattle.std.specs.Int.{int_div_euclid}
 use Rattle.std.specs.List.{flat_map}
 use Rattle.fx_base.specs.Bounds.{Bounds}
 use Rattle.fx_base.specs.Rect.{Holds, is_empty}
-
--- n whole numbers from a on
-abbrev pub int_run : ℤ → ℕ → List ℤ
-int_run a zero = []
-int_run a (suc n) = a ∷ int_run (a +ℤ pos 1) n
-
--- the whole numbers from the first up to the end, without it
-abbrev pub int_range : ℤ → ℤ → List ℤ
-int_range first end = int_run first (int_gap first end)
+use Rattle.fx_base.specs.Run.{int_range}
 
 -- the tile in column i and row j of the grid of this side
 abbrev pub tile_at : ℕ → ℤ → ℤ → Bounds

@@ -1,5 +1,5 @@
 -- The pixels of an image, by the bytes of its rows.
-use Rattle.std.proofs.Common.{◌≡◌, ◌≤◌, ◌<◌, inl, inr, ℕ, ◌+◌, ◌*◌, ℤ, pos, negsuc, ◌+ℤ◌, ◌-ℤ◌, ◌≤ℤ◌, ◌<ℤ◌, Bool, true, false, length, replicate, slice_index, refl, ap, rules, arith, ◌∙◌, FitsSigned, w64, to_z, of_z}
+use Rattle.std.proofs.Common.{◌≡◌, ◌≤◌, ◌<◌, inl, inr, ℕ, ◌+◌, ◌*◌, ◌/◌, ◌^◌, ℤ, pos, negsuc, ◌+ℤ◌, ◌-ℤ◌, ◌≤ℤ◌, ◌<ℤ◌, Bool, true, false, replicate, slice_index, refl, ap, arith, ◌∙◌, FitsSigned, w64, to_z, of_z, List}
 use Rattle.std.specs.Int.{int_gap}
 use Rattle.std.proofs.lemmas.Int.{ints, to_z-of_z}
 use Rattle.std.proofs.lemmas.List.{places}
@@ -10,12 +10,13 @@ use Rattle.fx_pixel.specs.declared.Depth.{Depth}
 use Rattle.fx_pixel.specs.declared.Depth.TheVariants.{Byte, Short}
 use Rattle.fx_pixel.specs.declared.Components.{Components}
 use Rattle.fx_pixel.specs.declared.Components.TheVariants as components
-use Rattle.fx_pixel.specs.Pixel.{zero}
-use Rattle.fx_image.specs.Rows.{row_of, HasRows}
-use Rattle.fx_image.specs.Stored.{Stored, IsStored, pixel_size, pixel_in, shown}
-use Rattle.fx_image.specs.Runs.{IsRun, place_of, bytes_of, run_of}
-use Rattle.fx_image.proofs.RowsLaws.{row_length, rows_apart}
-use Rattle.fx_image.proofs.PixelLaws.{pixel_of_run}
+use Rattle.fx_pixel.specs.Pixel.{zero, components_of, IsOfDepth}
+use Rattle.fx_image.specs.Image.{PixelsFit}
+use Rattle.fx_image.specs.Rows.{row_of, block_of, start_of, AreBytes}
+use Rattle.fx_image.specs.Stored.{Stored, IsStored, image_of, pixel_size, pixel_in, shown}
+use Rattle.fx_image.specs.Runs.{IsRun, place_of, bytes_of, run_of, ShowsPixels}
+use Rattle.fx_image.proofs.RowsLaws.{rows_apart}
+use Rattle.fx_image.proofs.PixelLaws.{pixel_of_run, pixel_fits, pixel_components, run_of_bytes}
 
 -- how far one number lies behind another
 pub gap_is : (a b : ℤ) → a ≤ℤ b → a +ℤ pos (int_gap a b) ≡ b
@@ -87,12 +88,6 @@ run_fits s x y n is run =
 pub row_there : (s : Stored) (x y : ℤ) (n : ℕ) → IsStored s → IsRun s x y n → int_gap s.rect.y1 y < s.raster.height
 row_there s x y n is run = rw is.row_count (gap_below s.rect.y1 y s.rect.y2 run.from_bottom run.to_top)
 
-pub length-run_of : (s : Stored) (x y : ℤ) (n : ℕ) → IsStored s → HasRows s.raster → IsRun s x y n → length (run_of s x y n) ≡ n * pixel_size s.depth s.components
-length-run_of s x y n is has run =
-    let whole = row_length s.raster (int_gap s.rect.y1 y) has (row_there s x y n is run) in
-    let fits = run_fits s x y n is run in
-    search (rules, places)
-
 -- the pixels of a run are the image's
 pub run_shown : (s : Stored) (x y : ℤ) (n i : ℕ) → IsRun s x y n → i < n → pixel_in s.depth s.components (run_of s x y n) i ≡ shown s (x +ℤ pos i) y
 run_shown s x y n i run low =
@@ -141,6 +136,24 @@ near_inside r s y there near above below =
       top = omega (arith, ints, there.top, near.top);
     }
 
+-- a rectangle within a near one is near
+pub near_within : (r s : Bounds) → IsRect r → IsWithin r s → IsNear s → IsNear r
+near_within r s (inl is) within_s near = rw is (record { left = omega (arith, ints); right = omega (arith, ints); bottom = omega (arith, ints); top = omega (arith, ints) })
+near_within r s (inr is) within_s near =
+    let low : r.y1 ≤ℤ r.y1 = omega (arith, ints) in
+    near_inside r s r.y1 (inside_from r s r.y1 (inr is) within_s low is.1) near low is.1
+
+-- a row of a rectangle has no more bytes than a row of the image
+pub row_is_small : (s : Stored) (r : Bounds) → IsStored s → IsRect r → IsWithin r s.rect → columns r * pixel_size s.depth s.components < 2 ^ 32
+row_is_small s r stored (inl is) within_s = rw is (omega arith)
+row_is_small s r stored (inr is) within_s =
+    let low : r.y1 ≤ℤ r.y1 = omega (arith, ints) in
+    let there = inside_from r s.rect r.y1 (inr is) within_s low is.1 in
+    let whole = gap_is r.x1 r.x2 (omega (arith, ints, there.wide)) in
+    let all = gap_is s.rect.x1 s.rect.x2 (omega (arith, ints, there.left, there.wide, there.right)) in
+    let few : columns r ≤ columns s.rect = omega (arith, ints, whole, all, there.left, there.right) in
+    omega (arith, mul-le-mul_right (pixel_size s.depth s.components) few, stored.row_fits, stored.narrow)
+
 pub row_run : (s : Stored) (r : Bounds) (y : ℤ) → IsInside r s.rect y → IsRun s r.x1 y (columns r)
 row_run s r y there =
     let whole = gap_is r.x1 r.x2 (omega (arith, ints, there.wide)) in
@@ -156,6 +169,47 @@ row_shown s r y there x inside =
     let here = gap_is r.x1 x place.left in
     run_shown s r.x1 y (columns r) (int_gap r.x1 x) (row_run s r y there) (gap_below r.x1 x r.x2 place.left place.right) ∙ ap (λ column. shown s column y) here
 
--- the left column of a rectangle with a row, as the code has it
-pub left_column : (r s : Bounds) (y x : ℤ) → IsInside r s y → r.x2 ≤ℤ pos 1073741824 → negsuc 1073741823 ≤ℤ r.x1 → x ≡ r.x1 → to_z w64 (of_z w64 x) ≡ r.x1
-left_column r s y x there right left is = ap (λ z. to_z w64 (of_z w64 z)) is ∙ to_z-of_z w64 r.x1 (fits_near r.x1 left (omega (arith, ints, there.wide)))
+-- row y of a rectangle within an image, as the code reads it: x is the rectangle's left column
+module _ (s : Stored) (r : Bounds) (y x : ℤ) (stored : IsStored s) (is : IsRect r) (inside : IsWithin r s.rect) (above : r.y1 ≤ℤ y) (below : y <ℤ r.y2) (x_is : x ≡ r.x1) where
+  there : IsInside r s.rect y
+  there = inside_from r s.rect y is inside above below
+
+  -- the left column
+  pub left_column : to_z w64 (of_z w64 x) ≡ r.x1
+  left_column =
+      let near = near_inside r s.rect y there stored.near above below in
+      ap (λ z. to_z w64 (of_z w64 z)) x_is ∙ to_z-of_z w64 r.x1 (fits_near r.x1 near.left (omega (arith, ints, there.wide, near.right)))
+
+  pub row_of_rect : (n : ℕ) → n ≡ columns r → FitsSigned w64 y → IsRun s (to_z w64 (of_z w64 x)) (to_z w64 (of_z w64 y)) n
+  row_of_rect n few fy = rw (left_column, to_z-of_z w64 y fy, few) (row_run s r y there)
+
+  pub shows_pixels : (n : ℕ) (bytes : List ℕ) → n ≡ columns r → FitsSigned w64 y → bytes ≡ run_of s (to_z w64 (of_z w64 x)) (to_z w64 (of_z w64 y)) n → ShowsPixels s r y bytes
+  shows_pixels n bytes few fy run z held =
+      let value = rw (left_column, to_z-of_z w64 y fy, few) at run in
+      ap (λ ws. pixel_in s.depth s.components ws (int_gap r.x1 z)) value ∙ row_shown s r y there z held
+
+zero_fits : (depth : Depth) (c : Components) → IsOfDepth depth (zero c)
+zero_fits Byte components.Rgba = (omega arith, omega arith, omega arith, omega arith)
+zero_fits Short components.Rgba = (omega arith, omega arith, omega arith, omega arith)
+zero_fits Byte components.Alpha = omega arith
+zero_fits Short components.Alpha = omega arith
+
+zero_components : (c : Components) → components_of (zero c) ≡ c
+zero_components components.Rgba = refl
+zero_components components.Alpha = refl
+
+module _ (s : Stored) (bytes : AreBytes s.raster.blocks) where
+  row_bytes : (y : ℤ) (j : ℕ) → slice_index (bytes_of s y) j ≤ 255
+  row_bytes y = let k = int_gap s.rect.y1 y in run_of_bytes (block_of s.raster k) (start_of s.raster k) s.raster.pitch (bytes (k / s.raster.step))
+
+  shown_fits : (x y : ℤ) (b : Bool) → within s.rect x y ≡ b → IsOfDepth s.depth (shown s x y)
+  shown_fits x y true is = rw is (pixel_fits s.depth s.components (bytes_of s y) (int_gap s.rect.x1 x) (row_bytes y))
+  shown_fits x y false is = rw is (zero_fits s.depth s.components)
+
+  shown_components : (x y : ℤ) (b : Bool) → within s.rect x y ≡ b → components_of (shown s x y) ≡ s.components
+  shown_components x y true is = rw is (pixel_components s.depth s.components (bytes_of s y) (int_gap s.rect.x1 x))
+  shown_components x y false is = rw is (zero_components s.components)
+
+  -- the pixels of an image whose rows are of bytes
+  pub all_fit : PixelsFit (image_of s)
+  all_fit = record { depth = λ x y. shown_fits x y (within s.rect x y) refl; components = λ x y. shown_components x y (within s.rect x y) refl }

@@ -4,3 +4,5 @@ pub mod PixelLaws
 pub mod ImageLaws
 pub mod ImageWrites
 pub mod PartLaws
+pub mod RowsCut
+pub mod BandLaws

@@ -2,13 +2,14 @@
 use Rattle.std.proofs.Common.{◌≡◌, ◌≢◌, ◌⊎◌, inl, inr, ℕ, ◌+◌, ◌*◌, ℤ, pos, ◌+ℤ◌, ◌≤ℤ◌, ◌<ℤ◌, List, length, refl, sym, subst, arith, ◌∙◌}
 use Rattle.std.specs.Int.{int_gap}
 use Rattle.std.proofs.lemmas.Int.{ints, by_lt_z}
-use Rattle.fx_base.specs.Rect.{Holds, columns}
+use Rattle.fx_base.specs.Bounds.{Bounds, IsRect}
+use Rattle.fx_base.specs.Rect.{Holds, IsWithin, columns}
 use Rattle.fx_pixel.specs.declared.Pixel.{Pixel}
 use Rattle.fx_image.specs.Rows.{HasRows}
 use Rattle.fx_image.specs.Stored.{Stored, IsStored, SameFrame, pixel_size, pixel_in, shown}
 use Rattle.fx_image.specs.Runs.{IsRun}
 use Rattle.fx_image.specs.ImageLending.{with_row}
-use Rattle.fx_image.specs.Part.{IsPart, SamePart, part_with, WroteRows}
+use Rattle.fx_image.specs.Part.{IsPart, SamePart, part_with, with_run, narrowed, WroteRows, IsNextRow}
 use Rattle.fx_image.specs.declared.part.Part.{Part}
 use Rattle.fx_image.proofs.ImageLaws.{gap_is, IsInside, inside_from, row_run, place_from, place_to}
 use Rattle.fx_image.proofs.ImageWrites.{same_frame, written_inside, written_beside, written_other}
@@ -69,6 +70,17 @@ wrote_row p q y f ws same part is has low high long right before =
       (same.0, same.1, same_again same.2 (same_frame q.image.now q.rect.x1 y ws)),
       rw same.1 (row_written p q.image.now y f ws is has (row_run q.image.now p.rect y inside) (omega (arith, ints, there.wide)) low high long right before),
     )
+
+-- the same of a rectangle within the part
+pub wrote_within : (p q : Part) (rect : Bounds) (y : ℤ) (f : ℤ → ℤ → Pixel) (ws : List ℕ) → q.rect ≡ p.rect → IsNextRow (narrowed p rect) (narrowed q rect) y f ws
+    → SamePart p (with_run q rect.x1 y ws) × WroteRows (narrowed p rect) (with_run q rect.x1 y ws).image.now (y +ℤ pos 1) f
+wrote_within p q rect y f ws same_rect next =
+    let wrote = wrote_row (narrowed p rect) (narrowed q rect) y f ws next.same next.part next.stored next.rows next.above next.below next.long next.right next.before in
+    ((wrote.0.0, same_rect, wrote.0.2), wrote.1)
+
+-- a rectangle within a part is a part of the image
+pub part_within : (p : Part) (rect : Bounds) → IsPart p → IsRect rect → IsWithin rect p.rect → IsPart (narrowed p rect)
+part_within p rect is bounds inside = record { rect = bounds; within = λ x y there. is.within x y (inside x y there) }
 
 -- the same of row z of a part whose rows count from 0
 pub wrote_row_up : (p q : Part) (y : ℕ) (z : ℤ) (f : ℤ → ℤ → Pixel) (ws : List ℕ) → z ≡ pos y → SamePart p q → IsPart p → IsStored q.image.now → HasRows q.image.now.raster → p.rect.y1 ≡ pos 0 → pos y <ℤ p.rect.y2 → length ws ≡ columns p.rect * pixel_size q.image.now.depth q.image.now.components

@@ -1,14 +1,18 @@
 -- The pixels of a row of bytes, read from a run of it and after a run was written.
-use Rattle.std.proofs.Common.{◌≡◌, ◌≤◌, ◌<◌, ℕ, ◌+◌, ◌-◌, ◌*◌, List, length, take, drop, slice_index, ap, arith, ◌∙◌}
-use Rattle.std.proofs.lemmas.List.{places}
+use Rattle.std.proofs.Common.{◌≡◌, ◌≤◌, ◌<◌, ◌⊎◌, inl, inr, ℕ, ◌+◌, ◌-◌, ◌*◌, List, length, take, drop, slice_index, refl, ap, rules, arith, ◌∙◌}
+use Rattle.std.proofs.lemmas.Bool.{cases_lt}
+use Rattle.std.proofs.Math.Nat.{mul-le-mul_right}
+use Rattle.std.proofs.lemmas.List.{places, same_lists}
+use borrow.Rule.Slice.PartMut.{put_mid}
 use Rattle.fx_pixel.specs.declared.Depth.{Depth}
 use Rattle.fx_pixel.specs.declared.Depth.TheVariants.{Byte, Short}
 use Rattle.fx_pixel.specs.declared.Components.{Components}
 use Rattle.fx_pixel.specs.declared.Components.TheVariants as components
 use Rattle.fx_pixel.specs.declared.Pixel.TheVariants.{Rgba, Alpha}
-use Rattle.fx_pixel.specs.Pixel.{size}
+use Rattle.fx_pixel.specs.Pixel.{size, components_of, IsOfDepth}
 use Rattle.fx_image.specs.Rows.{written}
 use Rattle.fx_image.specs.Stored.{pixel_size, sample_in, pixel_in}
+use Rattle.fx_image.proofs.RowsLaws.{rows_apart}
 
 read_run : (xs : List ℕ) (from n i : ℕ) → i < n → slice_index (take n (drop from xs)) i ≡ slice_index xs (from + i)
 read_run xs from n i h = grind (arith, places)
@@ -102,3 +106,54 @@ pixel_right Short components.Rgba row ws first column fits h =
     (sample_above Short row ws (first * 8) (4 * column + 2) fits (omega arith)) (sample_above Short row ws (first * 8) (4 * column + 3) fits (omega arith))
 pixel_right Byte components.Alpha row ws first column fits h = ap Alpha (sample_above Byte row ws (first * 1) column fits (omega arith))
 pixel_right Short components.Alpha row ws first column fits h = ap Alpha (sample_above Short row ws (first * 2) column fits (omega arith))
+
+-- the pixels of a row of bytes are within their depth
+short_fits : (a b : ℕ) → a ≤ 255 → b ≤ 255 → 256 * a + b ≤ 65535
+short_fits a b p q = omega arith
+
+pub pixel_fits : (depth : Depth) (c : Components) (row : List ℕ) (i : ℕ) → ((j : ℕ) → slice_index row j ≤ 255) → IsOfDepth depth (pixel_in depth c row i)
+pixel_fits Byte components.Rgba row i bytes = (bytes (4 * i), bytes (4 * i + 1), bytes (4 * i + 2), bytes (4 * i + 3))
+pixel_fits Short components.Rgba row i bytes = (
+  short_fits _ _ (bytes (2 * (4 * i))) (bytes (2 * (4 * i) + 1)),
+  short_fits _ _ (bytes (2 * (4 * i + 1))) (bytes (2 * (4 * i + 1) + 1)),
+  short_fits _ _ (bytes (2 * (4 * i + 2))) (bytes (2 * (4 * i + 2) + 1)),
+  short_fits _ _ (bytes (2 * (4 * i + 3))) (bytes (2 * (4 * i + 3) + 1)),
+)
+pixel_fits Byte components.Alpha row i bytes = bytes i
+pixel_fits Short components.Alpha row i bytes = short_fits _ _ (bytes (2 * i)) (bytes (2 * i + 1))
+
+pub pixel_components : (depth : Depth) (c : Components) (row : List ℕ) (i : ℕ) → components_of (pixel_in depth c row i) ≡ c
+pixel_components depth components.Rgba row i = refl
+pixel_components depth components.Alpha row i = refl
+
+-- a part of a row of bytes is of bytes
+pub run_of_bytes : (xs : List ℕ) (from n : ℕ) → ((j : ℕ) → slice_index xs j ≤ 255) → (j : ℕ) → slice_index (take n (drop from xs)) j ≤ 255
+run_of_bytes xs from n bytes j = go (cases_lt j n)
+  where
+    go : (j < n) ⊎ (n ≤ j) → slice_index (take n (drop from xs)) j ≤ 255
+    go (inl low) = rw (read_run xs from n j low) (bytes (from + j))
+    go (inr high) = let none : slice_index (take n (drop from xs)) j ≡ 0 = grind (arith, places) in rw none (omega arith)
+
+-- what the loan of a part of a row leaves
+put_is : (from n : ℕ) (row ws : List ℕ) → length ws ≡ n → from + n ≤ length row → put_mid from n row ws ≡ written row from ws
+put_is from n row ws long room = same_lists _ _ (search (rules, places)) (λ i d h. grind (arith, places))
+
+module _ (depth : Depth) (c : Components) (row source : List ℕ) (first count : ℕ) (room : (first + count) * pixel_size depth c ≤ length row) (long : length source ≡ count * pixel_size depth c) where
+  abbrev pub copied : List ℕ
+  copied = put_mid (first * pixel_size depth c) ((first + count) * pixel_size depth c - first * pixel_size depth c) row source
+
+  whole : copied ≡ written row (first * pixel_size depth c) source
+  whole = put_is (first * pixel_size depth c) ((first + count) * pixel_size depth c - first * pixel_size depth c) row source (omega (arith, long)) (omega (arith, room))
+
+  fits : first * pixel_size depth c + length source ≤ length row
+  fits = omega (arith, room, long)
+
+  pub pixel_copied : (i : ℕ) → i < count → pixel_in depth c copied (first + i) ≡ pixel_in depth c source i
+  pixel_copied i low =
+      let there = rows_apart i count (pixel_size depth c) low in
+      let back : (first + i) - first ≡ i = omega arith in
+      ap (λ l. pixel_in depth c l (first + i)) whole ∙ pixel_inside depth c row source first (first + i) fits (omega arith) (rw back (rw long there)) ∙ ap (pixel_in depth c source) back
+
+  pub pixel_kept : (j : ℕ) → (j < first) ⊎ (first + count ≤ j) → pixel_in depth c copied j ≡ pixel_in depth c row j
+  pixel_kept j (inl before) = ap (λ l. pixel_in depth c l j) whole ∙ pixel_left depth c row source first j fits before
+  pixel_kept j (inr behind) = ap (λ l. pixel_in depth c l j) whole ∙ pixel_right depth c row source first j fits (omega (arith, long, mul-le-mul_right (pixel_size depth c) behind))

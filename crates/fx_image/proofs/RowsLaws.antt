@@ -1,6 +1,5 @@
 -- Where rows lie in their block, and what is read after a run was written.
-use Rattle.std.proofs.Common.{ℕ, ◌≡◌, ◌≤◌, ◌<◌, ◌+◌, ◌-◌, ◌*◌, ◌/◌, ◌%◌, List, [], ◌++◌, length, take, drop, slice_index_or, slice_set, refl, sym, ap, rules, arith, ◌∙◌, ◌≢◌, ◌⊎◌, inl, inr}
-use Rattle.std.specs.List.{length_refill}
+use Rattle.std.proofs.Common.{ℕ, ◌≡◌, ◌≤◌, ◌<◌, ◌+◌, ◌-◌, ◌*◌, ◌/◌, ◌%◌, List, [], length, take, drop, slice_index_or, slice_set, sym, ap, rules, arith, ◌∙◌, ◌≢◌, ◌⊎◌, inl, inr}
 use Rattle.std.proofs.Math.Nat.{suc-mul, mul-le-mul_right}
 use Rattle.std.proofs.lemmas.Bool.{cases_eq, cases_order}
 use Rattle.std.proofs.lemmas.Nat.{mod_below, div-add-mod'}
@@ -12,9 +11,6 @@ row_fits y step pitch h = omega (arith, suc-mul (y % step) pitch, mul-le-mul_rig
 
 pub run_read : (xs : List ℕ) (start pitch from to : ℕ) → from ≤ to → to ≤ pitch → take ((start + to) - (start + from)) (drop (start + from) xs) ≡ take (to - from) (drop from (take pitch (drop start xs)))
 run_read xs start pitch from to p q = same_lists _ _ (search (rules, places)) (λ k d h. grind (arith, places))
-
-pub length-written : (xs : List ℕ) (from : ℕ) (ws : List ℕ) → length (written xs from ws) ≡ length xs
-length-written xs from ws = sym (length_refill (length xs) xs (take from xs ++ (ws ++ drop (length ws) (drop from xs))) refl)
 
 pub written_within : (xs : List ℕ) (start pitch from : ℕ) (ws : List ℕ) → start + pitch ≤ length xs → from + length ws ≤ pitch → take pitch (drop start (written xs (start + from) ws)) ≡ written (take pitch (drop start xs)) from ws
 written_within xs start pitch from ws p q = same_lists _ _ (search (rules, places)) (λ k d h. grind (arith, places))

@@ -10,7 +10,7 @@ use Rattle.fx_image.proofs.RowsLaws.{rows_apart}
 pub place_of : (y step height : ℕ) → 0 < step → y < height → (y % step < step) × (y % step < height - (y / step) * step)
 place_of y step height pos h = (mod_below y step pos, omega (arith, div-add-mod' y step))
 
-get_push : {X : Type 0} (bands : List X) (b : X) (k : ℕ) (d c : X) → ((k < length bands) → slice_index_or bands k d ≡ c) → (k ≡ length bands → b ≡ c) → k < length bands + 1 → (k < length bands) ⊎ (length bands ≤ k) → slice_index_or (bands ++ b ∷ []) k d ≡ c
+pub get_push : {X : Type 0} (bands : List X) (b : X) (k : ℕ) (d c : X) → ((k < length bands) → slice_index_or bands k d ≡ c) → (k ≡ length bands → b ≡ c) → k < length bands + 1 → (k < length bands) ⊎ (length bands ≤ k) → slice_index_or (bands ++ b ∷ []) k d ≡ c
 get_push bands b k d c old new low (inl h) = get_or_append_left bands (b ∷ []) d k h ∙ old h
 get_push bands b k d c old new low (inr h) = let e : k ≡ length bands = omega arith in get_or_push bands b d k (sym e) ∙ new e
 

@@ -5,7 +5,7 @@ use Rattle.fx_base.specs.Rect.{within}
 use Rattle.fx_pixel.specs.declared.Depth.{Depth}
 use Rattle.fx_pixel.specs.declared.Components.{Components}
 use Rattle.fx_pixel.specs.declared.Pixel.{Pixel}
-use Rattle.fx_pixel.specs.Pixel.{zero}
+use Rattle.fx_pixel.specs.Pixel.{zero, components_of, IsOfDepth}
 
 pub record Image : Type 0 where
   pub rect : Bounds
@@ -23,3 +23,8 @@ pub record SameImage (a b : Image) : Type 0 where
   pub depth : a.depth ≡ b.depth
   pub components : a.components ≡ b.components
   pub pixels : (x y : ℤ) → pixel_at a x y ≡ pixel_at b x y
+
+-- each pixel has the image's components, and no sample above its depth's greatest
+pub record PixelsFit (image : Image) : Type 0 where
+  pub depth : (x y : ℤ) → IsOfDepth image.depth (pixel_at image x y)
+  pub components : (x y : ℤ) → components_of (pixel_at image x y) ≡ image.components

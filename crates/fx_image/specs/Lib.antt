@@ -6,3 +6,4 @@ pub mod Runs
 pub mod ImageLending
 pub mod Part
 pub mod View
+pub mod Bands

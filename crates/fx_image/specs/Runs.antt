@@ -1,8 +1,10 @@
 -- Runs of pixels in a row of an image.
-use Rattle.std.specs.Prelude.{ℤ, ℕ, pos, ◌+ℤ◌, ◌*◌, ◌≤ℤ◌, ◌<ℤ◌, List, take, drop}
+use Rattle.std.specs.Prelude.{◌≡◌, ℤ, ℕ, pos, ◌+ℤ◌, ◌*◌, ◌≤ℤ◌, ◌<ℤ◌, List, take, drop}
 use Rattle.std.specs.Int.{int_gap}
 use Rattle.fx_image.specs.Rows.{row_of}
-use Rattle.fx_image.specs.Stored.{Stored, pixel_size}
+use Rattle.fx_base.specs.Bounds.{Bounds}
+use Rattle.fx_base.specs.Rect.{Holds, columns}
+use Rattle.fx_image.specs.Stored.{Stored, pixel_size, pixel_in, shown}
 
 -- row y of the image has n pixels from column x on
 pub record IsRun (s : Stored) (x y : ℤ) (n : ℕ) : Type 0 where
@@ -22,3 +24,12 @@ bytes_of s y = row_of s.raster (int_gap s.rect.y1 y)
 -- the bytes of those pixels
 abbrev pub run_of : Stored → ℤ → ℤ → ℕ → List ℕ
 run_of s x y n = take (n * pixel_size s.depth s.components) (drop (place_of s x) (bytes_of s y))
+
+-- how many bytes a row of a rectangle has
+abbrev pub row_size : Stored → Bounds → ℕ
+row_size s rect = columns rect * pixel_size s.depth s.components
+
+-- the bytes show the image's pixels in row y of the rectangle
+abbrev pub ShowsPixels : Stored → Bounds → ℤ → List ℕ → Type 0
+ShowsPixels s rect y bytes =
+    (x : ℤ) → Holds rect x y → pixel_in s.depth s.components bytes (int_gap rect.x1 x) ≡ shown s x y

@@ -24,7 +24,9 @@ sample_in Short row i = 256 * slice_index row (2 * i) + slice_index row (2 * i +
 
 -- pixel i of a row of bytes
 abbrev pub pixel_in : Depth → Components → List ℕ → ℕ → Pixel
-pixel_in depth components.Rgba row i = Rgba (sample_in depth row (4 * i)) (sample_in depth row (4 * i + 1)) (sample_in depth row (4 * i + 2)) (sample_in depth row (4 * i + 3))
+pixel_in depth components.Rgba row i =
+    let sample = sample_in depth row in
+    Rgba (sample (4 * i)) (sample (4 * i + 1)) (sample (4 * i + 2)) (sample (4 * i + 3))
 pixel_in depth components.Alpha row i = Alpha (sample_in depth row i)
 
 -- what contracts see of an image: its rectangle, depth and components, and its rows

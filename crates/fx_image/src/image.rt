@@ -4,8 +4,9 @@ ghost use Rattle.std.specs.Int.{int_gap};
 ghost use Rattle.fx_base.specs.Rect.{Holds, IsWithin, columns, rows, IsNear};
 ghost use Rattle.fx_pixel.specs.Pixel.{zero, size, components_of, IsOfDepth};
 ghost use Rattle.fx_image.specs.Rows.{HasRows};
-ghost use Rattle.fx_image.specs.Stored.{IsStored, pixel_size, pixel_in, shown};
-ghost use Rattle.fx_image.specs.Runs.{IsRun, run_of};
+ghost use Rattle.fx_image.specs.Image.{PixelsFit};
+ghost use Rattle.fx_image.specs.Stored.{IsStored, image_of, pixel_size, pixel_in, shown};
+ghost use Rattle.fx_image.specs.Runs.{IsRun, run_of, row_size, ShowsPixels};
 
 use crate::rows::Rows;
 use crate::samples::{pixel, pixel_size, set_pixel};
@@ -18,10 +19,10 @@ use std::marker::Model;
 /// from the bottom up.
 #[derive(Debug, Drop)]
 pub struct Image {
-    rect: Rect,
-    depth: Depth,
-    components: Components,
-    rows: Rows,
+    pub(crate) rect: Rect,
+    pub(crate) depth: Depth,
+    pub(crate) components: Components,
+    pub(crate) rows: Rows,
 }
 
 impl Model for Image {
@@ -100,6 +101,13 @@ impl Image {
         }
     }
 
+    /// Each pixel is within the image's depth and has its components. It computes nothing.
+    pub fn pixels_fit(&self)
+        ensures { PixelsFit (image_of self.now) }
+    {
+        self.rows.are_bytes();
+    }
+
     fn inside(&self, x: i64, y: i64) -> Pixel
         requires { Holds self.now.rect x y }
         ensures { result ≡ shown self.now x y }
@@ -111,13 +119,26 @@ impl Image {
     pub(crate) fn row(&self, rect: Rect, y: i64) -> &[u8]
         requires within { IsWithin rect self.now.rect }
         requires inside { (rect.y1 ≤ℤ y) × (y <ℤ rect.y2) }
-        ensures len { length result.now ≡ columns rect * pixel_size self.now.depth self.now.components }
-        ensures pixels { (x : ℤ) → Holds rect x y → pixel_in self.now.depth self.now.components result.now (int_gap rect.x1 x) ≡ shown self.now x y }
+        ensures len { length result.now ≡ row_size self.now rect }
+        ensures pixels { ShowsPixels self.now rect y result.now }
     {
         // Reading it tells the proof that the rows are there.
         let _stored = self.depth;
         let x = rect.x1;
         self.run(x, y, columns_in(rect))
+    }
+
+    // How many bytes a row of a rectangle of the image has.
+    pub(crate) fn bytes_in(&self, rect: Rect) -> usize
+        requires { IsWithin rect self.now.rect }
+        ensures value { result ≡ row_size self.now rect }
+        ensures small { result < 2 ^ 32 }
+        ensures near { IsNear rect }
+    {
+        // Reading it tells the proof that its bounds are a rectangle's.
+        let _bounds = rect.x1;
+        let size = pixel_size(self.depth, self.components);
+        columns_in(rect) * size
     }
 
     // The bytes of n pixels of row y from column x on.
@@ -158,8 +179,8 @@ impl Image {
         ensures* writes_back { sem 𝓛 (LendsRow self.entry rect.x1 y result) }
         ensures stored { IsStored self.old }
         ensures rows { HasRows self.old.raster }
-        ensures len { length result.now ≡ columns rect * pixel_size self.old.depth self.old.components }
-        ensures pixels { (x : ℤ) → Holds rect x y → pixel_in self.old.depth self.old.components result.now (int_gap rect.x1 x) ≡ shown self.old x y }
+        ensures len { length result.now ≡ row_size self.old rect }
+        ensures pixels { ShowsPixels self.old rect y result.now }
     {
         // Reading it tells the proof that the rows are there.
         let _stored = self.depth;
@@ -214,7 +235,7 @@ pub(crate) fn columns_in(rect: Rect) -> usize
 }
 
 // How many rows it has.
-fn rows_in(rect: Rect) -> usize
+pub(crate) fn rows_in(rect: Rect) -> usize
     requires { IsNear rect }
     ensures value { result ≡ rows rect }
     ensures small { result < 2 ^ 32 }

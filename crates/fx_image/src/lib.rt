@@ -3,8 +3,10 @@
 //! (OpenFX 1.4, "Images and Clips"; a row's samples stand in the order r, g, b, a).
 #![tactic(auto)]
 
+mod bands;
 mod image;
 pub mod laws;
+mod layout;
 mod part;
 mod rows;
 pub mod samples;
@@ -13,5 +15,6 @@ mod tests;
 mod view;
 
 pub use image::Image;
+pub use layout::Layout;
 pub use part::Part;
 pub use view::View;

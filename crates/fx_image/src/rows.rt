@@ -1,8 +1,8 @@
 //! Rows of bytes, kept in blocks of whole rows: a tile or a source frame is one block, and a frame that
 //! workers write has a block for each band, so that a band is moved without copying a pixel.
-ghost use Rattle.std.specs.Prelude.{◌≡◌, ◌≤◌, ◌<◌, ◌+◌, ◌-◌, ◌*◌, ◌^◌, ℕ, ◌/◌, ◌%◌, IfOk, length, take, drop, replicate};
+ghost use Rattle.std.specs.Prelude.{◌≡◌, ◌≤◌, ◌<◌, ◌+◌, ◌-◌, ◌*◌, ◌^◌, ℕ, ◌/◌, ◌%◌, IfOk, length, take, drop, slice_index, replicate};
 ghost use Rattle.std.specs.Borrow.{sem};
-ghost use Rattle.fx_image.specs.Rows.{Raster, row_of, HasRows};
+ghost use Rattle.fx_image.specs.Rows.{Raster, row_of, HasRows, AreBytes, AreBlocks, HaveRows, no_rows};
 ghost use Rattle.fx_image.specs.RowsLending.{LendsBytes, LendsRun};
 
 use std::alloc::{AllocError, Global};
@@ -30,6 +30,13 @@ impl Block {
         &self.bytes[from..to]
     }
 
+    // Its items are bytes. It computes nothing.
+    fn is_bytes(&self)
+        ensures { (i : ℕ) → slice_index self.now i ≤ 255 }
+    {
+        items_are_bytes(&self.bytes);
+    }
+
     fn run_mut(&mut self, from: usize, to: usize) -> &mut [u8]
         requires { (from ≤ to) × (to ≤ length self.old) }
         ensures* writes_back { sem 𝓛 (LendsBytes self.entry from result) }
@@ -37,6 +44,13 @@ impl Block {
     {
         self.bytes.slice_mut(from..to)
     }
+}
+
+// The items of a slice of bytes are bytes. It computes nothing.
+fn items_are_bytes(bytes: &[u8])
+    ensures { (i : ℕ) → slice_index bytes.now i ≤ 255 }
+{
+    let _len = bytes.len();
 }
 
 /// Rows of `pitch` bytes, `step` of them in each block.
@@ -49,14 +63,13 @@ pub struct Rows {
 }
 
 impl Model for Rows {
-    ghost use Rattle.std.specs.Prelude.{◌<◌, ◌*◌, ◌^◌};
-    ghost use Rattle.fx_image.specs.Rows.{Raster, HasRows};
+    ghost use Rattle.fx_image.specs.Rows.{Raster, IsKept};
 
     ghost Value = { Raster };
 
     ghost view = { λ a. record { pitch = a.pitch; height = a.height; step = a.step; blocks = a.blocks.items } };
 
-    ghost invariant = { λ a. (a.step * a.pitch < 2 ^ 32) × HasRows (record { pitch = a.pitch; height = a.height; step = a.step; blocks = a.blocks.items }) };
+    ghost invariant = { λ a. IsKept (record { pitch = a.pitch; height = a.height; step = a.step; blocks = a.blocks.items }) };
 }
 
 impl Rows {
@@ -100,12 +113,91 @@ impl Rows {
         })
     }
 
+    /// Cuts them into their blocks, from the bottom, each with rows of its own. It copies no row.
+    pub fn into_bands(self, alloc: Global) -> Result<Vec<Rows>, AllocError>
+        ensures bands { IfOk result (λ bands. AreBlocks self bands.items) }
+        ensures rows { IfOk result (λ bands. HaveRows self bands.items) }
+    {
+        let Rows {
+            pitch,
+            height,
+            step,
+            blocks,
+        } = self;
+        let mut bands = Vec::new(alloc);
+        let mut left = height;
+        for block in blocks {
+            let rows = step.min(left);
+            let mut own = Vec::new(alloc);
+            own.push(block)?;
+            bands.push(Rows {
+                pitch,
+                height: rows,
+                step,
+                blocks: own,
+            })?;
+            left -= rows;
+        }
+        Ok(bands)
+    }
+
+    /// Puts such rows together again. It copies no row.
+    pub fn of_bands(
+        alloc: Global,
+        pitch: usize,
+        height: usize,
+        step: usize,
+        bands: Vec<Rows>,
+    ) -> Result<Rows, AllocError>
+        requires step { 0 < step }
+        requires small { step * pitch < 2 ^ 32 }
+        requires bands { AreBlocks (no_rows pitch height step) bands.items }
+        ensures pitch { IfOk result (λ s. s.pitch ≡ pitch) }
+        ensures height { IfOk result (λ s. s.height ≡ height) }
+        ensures step { IfOk result (λ s. s.step ≡ step) }
+        ensures rows { IfOk result (λ s. HaveRows s bands.items) }
+    {
+        let mut blocks = Vec::new(alloc);
+        for band in bands {
+            let Rows {
+                pitch: _,
+                height: _,
+                step: _,
+                blocks: mut own,
+            } = band;
+            blocks.append(&mut own)?;
+        }
+        Ok(Rows {
+            pitch,
+            height,
+            step,
+            blocks,
+        })
+    }
+
+    /// How many rows a block has, but for the last.
+    pub fn step(&self) -> usize
+        ensures value { result ≡ self.now.step }
+        ensures some { 0 < result }
+    {
+        self.step
+    }
+
     /// How many bytes a row has.
     pub fn pitch(&self) -> usize
         ensures value { result ≡ self.now.pitch }
         ensures small { result < 2 ^ 32 }
     {
         self.pitch
+    }
+
+    /// Its blocks are of bytes. It computes nothing.
+    pub fn are_bytes(&self)
+        ensures { AreBytes self.now.blocks }
+    {
+        for block in &self.blocks {
+            block.is_bytes();
+        }
     }
 
     /// The bytes of row y from `from` up to `to`.

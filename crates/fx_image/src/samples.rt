@@ -1,6 +1,6 @@
 //! Samples and pixels in the bytes of a row: a pixel's samples stand in the order r, g, b, a, a short
 //! sample with the more significant byte first. Kernels read and write rows through these.
-ghost use Rattle.std.specs.Prelude.{◌≡◌, ◌≢◌, ◌≤◌, ◌+◌, ◌*◌, ℕ, length};
+ghost use Rattle.std.specs.Prelude.{◌≡◌, ◌≢◌, ◌≤◌, ◌<◌, ◌⊎◌, ◌+◌, ◌*◌, ℕ, length};
 ghost use Rattle.fx_pixel.specs.Pixel.{size, greatest, components_of, IsOfDepth};
 ghost use Rattle.fx_image.specs.Stored.{pixel_size, sample_in, pixel_in};
 
@@ -26,7 +26,8 @@ pub fn sample(depth: Depth, row: &[u8], i: usize) -> u16
     }
 }
 
-fn set_sample(depth: Depth, row: &mut [u8], i: usize, s: u16)
+/// Sets sample i of a row. No other sample of the row changes.
+pub fn set_sample(depth: Depth, row: &mut [u8], i: usize, s: u16)
     requires room { size depth * i + size depth ≤ length row.old }
     requires depth { s ≤ greatest depth }
     ensures there { sample_in depth row.new i ≡ s }
@@ -64,10 +65,10 @@ pub fn pixel(depth: Depth, components: Components, row: &[u8], i: usize) -> Pixe
 
 /// Sets pixel i of a row. No other pixel of the row changes.
 pub fn set_pixel(depth: Depth, row: &mut [u8], i: usize, p: Pixel)
-    requires room { i * pixel_size depth (components_of p) + pixel_size depth (components_of p) ≤ length row.old }
+    requires room { let size = pixel_size depth (components_of p) in i * size + size ≤ length row.old }
     requires depth { IsOfDepth depth p }
     ensures there { pixel_in depth (components_of p) row.new i ≡ p }
-    ensures others { (j : ℕ) → j ≢ i → pixel_in depth (components_of p) row.new j ≡ pixel_in depth (components_of p) row.old j }
+    ensures others { let c = components_of p in (j : ℕ) → j ≢ i → pixel_in depth c row.new j ≡ pixel_in depth c row.old j }
 {
     match p {
         Pixel::Rgba { r, g, b, a } => {
@@ -78,4 +79,23 @@ pub fn set_pixel(depth: Depth, row: &mut [u8], i: usize, p: Pixel)
         }
         Pixel::Alpha { a } => set_sample(depth, row, i, a),
     }
+}
+
+/// Copies `count` pixels into a row, from its pixel `first` on. No other pixel of the row changes.
+pub fn copy_pixels(
+    depth: Depth,
+    components: Components,
+    source: &[u8],
+    row: &mut [u8],
+    first: usize,
+    count: usize,
+)
+    requires source { length source.now ≡ count * pixel_size depth components }
+    requires room { (first + count) * pixel_size depth components ≤ length row.old }
+    ensures copied { (i : ℕ) → i < count → pixel_in depth components row.new (first + i) ≡ pixel_in depth components source.now i }
+    ensures others { (j : ℕ) → (j < first) ⊎ (first + count ≤ j)
+        → pixel_in depth components row.new j ≡ pixel_in depth components row.old j }
+{
+    let size = pixel_size(depth, components);
+    row[first * size..(first + count) * size].copy_from_slice(source);
 }

@@ -1,6 +1,8 @@
-use crate::Image;
+ghost use Rattle.fx_image.specs.Stored.{SameFrame};
+
 use crate::laws::a_row_is_written;
-use crate::samples::{pixel, pixel_size, sample, set_pixel};
+use crate::samples::{copy_pixels, pixel, pixel_size, sample, set_pixel, set_sample};
+use crate::{Image, Layout};
 use fx_base::Rect;
 use fx_pixel::{Components, Depth, Pixel};
 use std::test::Fail;
@@ -60,6 +62,16 @@ fn pixels_of_a_row_are_read_and_set(rt: HostRuntime) {
     assert_eq!(rt; sample(Depth::Short, &row, 4), 258);
     assert_eq!(rt; pixel(Depth::Short, Components::Rgba, &row, 1), GREY);
     assert_eq!(rt; pixel_size(Depth::Short, Components::Rgba), 8);
+    set_sample(Depth::Short, &mut row, 1, 772);
+    assert_eq!(rt; row, [0, 0, 3, 4, 0, 0, 0, 0, 1, 2, 1, 2, 1, 2, 1, 2]);
+}
+
+#[test]
+fn pixels_are_copied_between_rows(rt: HostRuntime) {
+    let source = [1, 2, 3, 4];
+    let mut row = [9u8; 8];
+    copy_pixels(Depth::Short, Components::Alpha, &source, &mut row, 1, 2);
+    assert_eq!(rt; row, [9, 9, 1, 2, 3, 4, 9, 9]);
 }
 
 #[test]
@@ -77,6 +89,8 @@ fn parts_are_written_by_rows(rt: HostRuntime) -> Result<(), Fail> {
         (part.depth(), part.components()),
         (Depth::Short, Components::Alpha)
     );
+    part.pixels_fit();
+    assert_eq!(rt; part.row_bytes(), 4);
     a_row_is_written();
     let row = part.row_mut(1);
     assert_eq!(rt; row.len(), 4);
@@ -87,6 +101,67 @@ fn parts_are_written_by_rows(rt: HostRuntime) -> Result<(), Fail> {
     assert_eq!(rt; part.at(0, 1), Pixel::Alpha { a: 0 });
     let shown = [(0, 1, 0), (1, 1, 258), (2, 1, 65535), (1, 0, 0), (3, 1, 0)];
     for (x, y, a) in shown {
+        assert_eq!(rt; image.at(x, y), Pixel::Alpha { a }, "at {x} {y}");
+    }
+    Ok(())
+}
+
+#[test]
+fn a_tile_is_written_into_a_wider_part(rt: HostRuntime) -> Result<(), Fail> {
+    let whole = Rect::of(0, 0, 3, 2);
+    let mut image = Image::new(rt.alloc(), whole, Depth::Byte, Components::Alpha, 3)?;
+    let mut part = image.part(whole);
+    let row = part.row_within_mut(Rect::of(1, 0, 3, 1), 0);
+    assert_eq!(rt; row.len(), 2);
+    row[0] = 5;
+    row[1] = 6;
+    for (x, y, a) in [
+        (0, 0, 0),
+        (1, 0, 5),
+        (2, 0, 6),
+        (0, 1, 0),
+        (1, 1, 0),
+        (2, 1, 0),
+    ] {
+        assert_eq!(rt; image.at(x, y), Pixel::Alpha { a }, "at {x} {y}");
+    }
+    Ok(())
+}
+
+// Writes a pixel of a band that has the place.
+fn mark(band: &mut Image, x: i64, y: i64)
+    ensures { SameFrame band.old band.new }
+{
+    if band.rect().holds(x, y) && band.components() == Components::Alpha {
+        band.put(x, y, Pixel::Alpha { a: 7 });
+    }
+}
+
+#[test]
+fn an_image_is_cut_into_bands(rt: HostRuntime) -> Result<(), Fail> {
+    let layout = Layout {
+        rect: Rect::of(0, 0, 3, 5),
+        depth: Depth::Byte,
+        components: Components::Alpha,
+        row_bytes: 3,
+        band_rows: 2,
+    };
+    let image = Image::in_bands(rt.alloc(), &layout)?;
+    let mut bands = image.into_bands(rt.alloc())?;
+    assert_eq!(rt; bands.len(), 3);
+    assert_eq!(rt; bands[0].rect(), Rect::of(0, 0, 3, 2));
+    assert_eq!(rt; bands[1].rect(), Rect::of(0, 2, 3, 4));
+    assert_eq!(rt; bands[2].rect(), Rect::of(0, 4, 3, 5));
+    mark(&mut bands[1], 2, 3);
+    let image = Image::of_bands(rt.alloc(), &layout, bands)?;
+    for (x, y, a) in [
+        (2, 3, 7),
+        (1, 3, 0),
+        (2, 2, 0),
+        (2, 1, 0),
+        (2, 4, 0),
+        (0, 0, 0),
+    ] {
         assert_eq!(rt; image.at(x, y), Pixel::Alpha { a }, "at {x} {y}");
     }
     Ok(())

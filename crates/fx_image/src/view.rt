@@ -3,6 +3,7 @@ ghost use Rattle.std.specs.Prelude.{◌≡◌, ◌*◌, ℤ, ◌≤ℤ◌, ◌<�
 ghost use Rattle.std.specs.Int.{int_gap};
 ghost use Rattle.fx_base.specs.Rect.{Holds, IsWithin, columns};
 ghost use Rattle.fx_image.specs.Stored.{pixel_size, pixel_in, shown};
+ghost use Rattle.fx_image.specs.Runs.{row_size, ShowsPixels};
 ghost use Rattle.fx_image.specs.View.{IsView, view_shown};
 
 use crate::Image;
@@ -26,6 +27,7 @@ impl Image {
     {
         // Reading it tells the proof that its bounds are a rectangle's.
         let _bounds = rect.x1;
+        self.pixels_fit();
         View { image: self, rect }
     }
 }
@@ -68,8 +70,8 @@ impl<'a> View<'a> {
     pub fn row(&self, y: i64) -> &[u8]
         requires view { IsView self.now }
         requires inside { (self.now.rect.y1 ≤ℤ y) × (y <ℤ self.now.rect.y2) }
-        ensures len { length result.now ≡ columns self.now.rect * pixel_size self.now.image.now.depth self.now.image.now.components }
-        ensures pixels { (x : ℤ) → Holds self.now.rect x y → pixel_in self.now.image.now.depth self.now.image.now.components result.now (int_gap self.now.rect.x1 x) ≡ shown self.now.image.now x y }
+        ensures len { length result.now ≡ row_size self.now.image.now self.now.rect }
+        ensures pixels { ShowsPixels self.now.image.now self.now.rect y result.now }
     {
         self.image.row(self.rect, y)
     }

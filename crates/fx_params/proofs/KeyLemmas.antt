@@ -14,7 +14,7 @@ use Rattle.std.proofs.lemmas.List.Sums.{prefix_len_is}
 use Rattle.std.proofs.lemmas.List.Sorted.{IsNonDecreasingBy-from_default}
 use Rattle.fx_params.specs.declared.key.Key.{Key}
 use Rattle.fx_params.specs.Keys.{IsRising, key_at, ChangesKey, with_key, without_key, no_key, frame_at, IsAt, IsGapFor}
-use Rattle.fx_params.specs.Parameter.{IsFrame}
+use Rattle.fx_base.specs.Rect.{IsFrame}
 
 -- ---- one frame against another
 

@@ -1,4 +1,4 @@
 mod Slope
 mod KeyLemmas
-mod ValueLemmas
+pub mod ValueLemmas
 mod ParamLemmas

@@ -5,7 +5,8 @@ use Rattle.fx_params.specs.declared.def.ParamValue.{ParamValue}
 use Rattle.fx_params.specs.declared.key.Key.{Key}
 use Rattle.fx_params.specs.Value.{IsWithin, number_of, refusal}
 use Rattle.fx_params.specs.Keys.{with_key, without_key}
-use Rattle.fx_params.specs.Parameter.{Parameter, IsSound, IsFrame}
+use Rattle.fx_base.specs.Rect.{IsFrame}
+use Rattle.fx_params.specs.Parameter.{Parameter, IsSound}
 use Rattle.fx_params.proofs.KeyLemmas.{All-with_key, All-without_key, IsRising-with_key, IsRising-without_key}
 
 pub accepted_within : (def : ParamDef) (v : ParamValue) → refusal def v ≡ None → IsWithin def (number_of v)

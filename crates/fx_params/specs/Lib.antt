@@ -1,3 +1,4 @@
+pub mod Def
 pub mod Value
 pub mod Keys
 pub mod Parameter

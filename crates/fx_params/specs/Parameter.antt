@@ -2,6 +2,7 @@
 use Rattle.std.specs.Prelude.{◌≡◌, ℕ, ◌+◌, ◌-◌, ℤ, pos, negsuc, ◌+ℤ◌, ◌-ℤ◌, ◌*ℤ◌, ◌≤ℤ◌, ◌<ℤ◌, Bool, true, false, ◌||◌, List, [], ◌∷◌, length, slice_get, slice_index_or, ◌==◌, All, Some, if◌then◌else◌}
 use Rattle.std.specs.Int.{int_div_euclid}
 use Rattle.std.specs.Int.Signed.{lt_z}
+use Rattle.fx_base.specs.Rect.{IsFrame}
 use Rattle.fx_params.specs.declared.def.ParamKind.{ParamKind}
 use Rattle.fx_params.specs.declared.def.ParamKind.TheVariants as kind
 use Rattle.fx_params.specs.declared.def.ParamDef.{ParamDef}
@@ -66,10 +67,6 @@ pub record IsValueAt (p : Parameter) (t value : ℤ) : Type 0 where
   pub before_first : (a : Key) → slice_get p.keys 0 ≡ Some a → t <ℤ a.frame → value ≡ a.value
   pub from_last : (a : Key) → slice_get p.keys (length p.keys - 1) ≡ Some a → a.frame ≤ℤ t → value ≡ a.value
   pub between_keys : (i : ℕ) (a b : Key) → slice_get p.keys i ≡ Some a → slice_get p.keys (i + 1) ≡ Some b → a.frame ≤ℤ t → t <ℤ b.frame → value ≡ (if steps p then a.value else between a b t)
-
--- frames lie from -2^30 to 2^30
-abbrev pub IsFrame : ℤ → Type 0
-IsFrame t = (negsuc 1073741823 ≤ℤ t) × (t ≤ℤ pos 1073741824)
 
 -- what every parameter keeps: rising frames in their range, and values in the definition's range
 pub record IsSound (p : Parameter) : Type 0 where

@@ -1,13 +1,14 @@
 //! What a parameter may be: its kind, its range, its choices and its value at the start. A value is
 //! one number, and the range is in that number: an int, the units of a fixed-point number, 0 or 1, or
 //! the place of a choice.
-ghost use Rattle.std.specs.Prelude.{◌≡◌, IfOk, IfErr, OnOk};
+ghost use Rattle.std.specs.Prelude.{◌≡◌, ◌<◌, length, map, IfOk, IfErr, OnOk};
 ghost use Rattle.fx_params.specs.Value.{number_of, is_of_kind, refusal};
+ghost use Rattle.fx_params.specs.Def.{int_def, fix_def, flag_def, choice_def};
 ghost use Rattle.fx_params.specs.Parameter.{kind_steps};
 ghost use Rattle.fx_params.specs.declared.def.ParamFault.TheVariants as fault;
 
-use fx_base::{Fix, Name, Names};
-use std::alloc::AllocFailed;
+use fx_base::{Fix, Memory, Name, Names};
+use std::alloc::{AllocFailed, Global};
 
 /// The kinds of parameters.
 #[derive(Clone, Copy, Debug, PartialEq, Eq)]
@@ -73,8 +74,83 @@ pub struct ParamDef {
 }
 
 impl ParamDef {
-    /// The number of a value that such a parameter takes, or why it refuses the value.
-    pub(crate) fn taken(&self, v: ParamValue) -> Result<i64, ParamFault>
+    /// A whole number from the least to the greatest.
+    pub fn int(
+        alloc: Global,
+        name: &str,
+        least: i64,
+        greatest: i64,
+        start: i64,
+    ) -> Result<ParamDef, Memory>
+        ensures { IfOk result (λ def. def ≡ int_def name.now least greatest start) }
+    {
+        Ok(ParamDef {
+            name: named(alloc, name)?,
+            kind: ParamKind::Int,
+            least,
+            greatest,
+            choices: Names::of(Vec::new(alloc)),
+            start,
+        })
+    }
+
+    /// A fixed-point number from the least to the greatest.
+    pub fn fix(
+        alloc: Global,
+        name: &str,
+        least: Fix,
+        greatest: Fix,
+        start: Fix,
+    ) -> Result<ParamDef, Memory>
+        ensures { IfOk result (λ def. def ≡ fix_def name.now least.raw greatest.raw start.raw) }
+    {
+        Ok(ParamDef {
+            name: named(alloc, name)?,
+            kind: ParamKind::Fix,
+            least: least.raw,
+            greatest: greatest.raw,
+            choices: Names::of(Vec::new(alloc)),
+            start: start.raw,
+        })
+    }
+
+    /// A flag.
+    pub fn flag(alloc: Global, name: &str, start: bool) -> Result<ParamDef, Memory>
+        ensures { IfOk result (λ def. def ≡ flag_def name.now start) }
+    {
+        Ok(ParamDef {
+            name: named(alloc, name)?,
+            kind: ParamKind::Bool,
+            least: 0,
+            greatest: 1,
+            choices: Names::of(Vec::new(alloc)),
+            start: i64::from(start),
+        })
+    }
+
+    /// One of these texts, of which there is at least one. It starts with the one at a place.
+    pub fn choice(
+        alloc: Global,
+        name: &str,
+        choices: &[&str],
+        start: u32,
+    ) -> Result<ParamDef, Memory>
+        requires { 0 < length choices.now }
+        ensures { IfOk result (λ def. def ≡ choice_def name.now (map (λ text. text.now) choices.now) start) }
+    {
+        Ok(ParamDef {
+            name: named(alloc, name)?,
+            kind: ParamKind::Choice,
+            least: 0,
+            greatest: choices.len() as i64 - 1,
+            choices: texts(alloc, choices)?,
+            start: i64::from(start),
+        })
+    }
+
+    /// The number of a value that such a parameter takes, or why it refuses the value: `WrongKind` where
+    /// it isn't of its kind, and else `OutOfRange` where its number is outside of the range.
+    pub fn taken(&self, v: ParamValue) -> Result<i64, ParamFault>
         ensures number { IfOk result (λ n. n ≡ number_of v) }
         ensures accepted { OnOk result (refusal self.now v ≡ None) }
         ensures refused { IfErr result (λ fault. refusal self.now v ≡ Some fault) }
@@ -88,6 +164,22 @@ impl ParamDef {
         }
         Ok(number)
     }
+}
+
+fn named(alloc: Global, name: &str) -> Result<Name, Memory>
+    ensures { IfOk result (λ own. own ≡ name.now) }
+{
+    Ok(Name::of(String::from_str(alloc, name)?))
+}
+
+fn texts(alloc: Global, choices: &[&str]) -> Result<Names, Memory>
+    ensures { IfOk result (λ names. names ≡ map (λ text. text.now) choices.now) }
+{
+    let mut names = Vec::new(alloc);
+    for text in choices {
+        names.push(named(alloc, text)?)?;
+    }
+    Ok(Names::of(names))
 }
 
 /// Why a call of a parameter was refused.

@@ -1,7 +1,8 @@
 //! A key: the value that a parameter has at a frame, and the way from one key to the next.
 ghost use Rattle.std.specs.Prelude.{◌≡◌, ℤ, pos, negsuc, ◌+ℤ◌, ◌-ℤ◌, ◌*ℤ◌, ◌≤ℤ◌, ◌<ℤ◌};
 ghost use Rattle.std.specs.Int.{int_div_euclid};
-ghost use Rattle.fx_params.specs.Parameter.{IsFrame, between};
+ghost use Rattle.fx_base.specs.Rect.{IsFrame};
+ghost use Rattle.fx_params.specs.Parameter.{between};
 
 /// The value at a frame.
 #[derive(Clone, Copy, Debug, PartialEq, Eq)]

@@ -4,7 +4,8 @@ ghost use Rattle.std.specs.Option.{ok_or, option_map};
 ghost use Rattle.std.specs.Ordering.{int_eq};
 ghost use Rattle.fx_params.specs.Value.{number_of, refusal, IsWithin};
 ghost use Rattle.fx_params.specs.Keys.{IsRising, key_at, ChangesKey, with_key, without_key, IsAt, IsGapFor, IsPassed};
-ghost use Rattle.fx_params.specs.Parameter.{made, steps, value_at, keyed_value, value_before, value_after, IsValueAt, IsFrame, IsSound};
+ghost use Rattle.fx_base.specs.Rect.{IsFrame};
+ghost use Rattle.fx_params.specs.Parameter.{made, steps, value_at, keyed_value, value_before, value_after, IsValueAt, IsSound};
 
 use crate::key::Key;
 use crate::{ParamDef, ParamFault, ParamKind, ParamValue};

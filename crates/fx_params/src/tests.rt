@@ -143,3 +143,35 @@ fn sets_and_deletes(rt: HostRuntime) -> Result<(), Fail> {
     assert_eq!(rt; param.value_at(8), 20);
     Ok(())
 }
+
+#[test]
+fn defines_each_kind(rt: HostRuntime) -> Result<(), Fail> {
+    let alloc = rt.alloc();
+    let (low, high) = (Fix { raw: -1 }, Fix { raw: 65536 });
+    let whole = ParamDef::int(alloc, "radius", 0, 64, 4)?;
+    let number = ParamDef::fix(alloc, "amount", low, high, Fix { raw: 7 })?;
+    let flag = ParamDef::flag(alloc, "invert", true)?;
+    let choice = ParamDef::choice(alloc, "mode", &["over", "plus"], 1)?;
+    for (def, name, kind, range, start, texts) in [
+        (&whole, "radius", ParamKind::Int, (0, 64), 4, 0),
+        (&number, "amount", ParamKind::Fix, (-1, 65536), 7, 0),
+        (&flag, "invert", ParamKind::Bool, (0, 1), 1, 0),
+        (&choice, "mode", ParamKind::Choice, (0, 1), 1, 2),
+    ] {
+        assert_eq!(rt; def.name.text(), name);
+        assert_eq!(rt; def.kind, kind);
+        assert_eq!(rt; (def.least, def.greatest), range);
+        assert_eq!(rt; (def.start, def.choices.items().len()), (start, texts));
+    }
+    assert_eq!(rt;
+        choice.choices.items().get(1).map(|text| text.text()),
+        Some("plus")
+    );
+    assert_eq!(rt; choice.taken(ParamValue::Choice(1)), Ok(1));
+    assert_eq!(rt;
+        choice.taken(ParamValue::Choice(2)),
+        Err(ParamFault::OutOfRange)
+    );
+    assert_eq!(rt; flag.taken(ParamValue::Int(1)), Err(ParamFault::WrongKind));
+    Ok(())
+}

@@ -74,7 +74,12 @@ impl Components {
 impl Pixel {
     /// The pixel whose samples are all 0: what an image shows outside its region.
     pub fn zero(c: Components) -> Pixel
-        ensures { result ≡ zero c }
+        ensures value { result ≡ zero c }
+        ensures components { components_of result ≡ c }
+        ensures depth { (depth : Depth) → IsOfDepth depth result }
+
+        // Every conversion keeps it.
+        ensures stays { (from to : Depth) (d : Components) → convert from to d result ≡ zero d }
     {
         match c {
             Components::Rgba => Pixel::Rgba {
@@ -133,11 +138,6 @@ fn with_components(c: Components, r: u16, g: u16, b: u16, a: u16) -> Pixel
     }
 }
 
-/// The pixel whose samples are all 0 stays so at every conversion. It computes nothing.
-pub fn zero_stays_zero()
-    ensures { (from to : Depth) (c d : Components) → convert from to d (zero c) ≡ zero d }
-{}
-
 #[cfg(test)]
 mod tests {
     use super::*;
@@ -195,6 +195,5 @@ mod tests {
                 "at {short}"
             );
         }
-        zero_stays_zero();
     }
 }

@@ -1,12 +1,12 @@
 use Rattle.std.proofs.Common.{ap, refl, w64}
 use Rattle.std.proofs.lemmas.Int.{to_z-of_z}
-use Rattle.fx_image.specs.Part.{part_with}
+use Rattle.fx_image.specs.Part.{with_run}
 use Rattle.fx_image.proofs.part.Part.row_mut.Goals as goal
 
 pub returns : goal.returns
 returns c =
     let fy = c.ranges.y in (
-      (refl, λ w. ap (λ y. part_with c.args.self.now y w) (to_z-of_z w64 c.args.y c.ranges.y)),
+      (refl, λ w. ap (λ y. with_run c.args.self.now c.args.self.now.rect.x1 y w) (to_z-of_z w64 c.args.y c.ranges.y)),
       record {
         writes_back = tt;
         stored = c.row_mut.ensures.stored;
