@@ -4,7 +4,8 @@ use Rattle.fx_outside.specs.Outside.{Files}
 use Rattle.fx_image.specs.Stored.{image_of}
 use Rattle.fx_seq.specs.declared.wanted.Wanted.{Wanted}
 use Rattle.fx_seq.specs.declared.store.Store.{Store}
-use Rattle.fx_seq.specs.Held.{held, HoldsPictures}
+use Rattle.fx_seq.specs.Frames.{HoldsPictures}
+use Rattle.fx_seq.specs.Held.{held}
 use Rattle.fx_scene.specs.declared.graph.Source.{Source}
 use Rattle.fx_scene.specs.declared.graph.Start.{Start}
 use Rattle.fx_scene.specs.declared.graph.Start.TheVariants as start

@@ -6,14 +6,18 @@ use Rattle.std.specs.Str.Parse.{digits_value}
 
 -- 1 to `most` digits: the number that they write
 abbrev pub digits_up_to : ℕ → List ℕ → Option ℕ
-digits_up_to most text = if nat_lt 0 (length text) && nat_le (length text) most && all_ascii_digits text then Some (digits_value 10 text) else None
+digits_up_to most text =
+    if nat_lt 0 (length text) && nat_le (length text) most && all_ascii_digits text
+    then Some (digits_value 10 text)
+    else None
 
 -- the number without its sign, in millionths, where the first point stands there or nowhere
 abbrev pub millionths_at : Option ℕ → List ℕ → Option ℕ
 millionths_at None text = option_map (λ whole. whole * 1000000) (digits_up_to 9 text)
 millionths_at (Some point) text =
     let decimals = drop (point + 1) text in
-    option_and_then (λ whole. option_map (λ part. whole * 1000000 + part * 10 ^ (6 - length decimals)) (digits_up_to 6 decimals)) (digits_up_to 9 (take point text))
+    let with_part = λ (whole part : ℕ). whole * 1000000 + part * 10 ^ (6 - length decimals) in
+    option_and_then (λ whole. option_map (with_part whole) (digits_up_to 6 decimals)) (digits_up_to 9 (take point text))
 
 abbrev pub millionths : List ℕ → Option ℕ
 millionths text = millionths_at (position (λ b. b == 46) text) text

@@ -9,7 +9,12 @@ use Rattle.fx_base.specs.Run.{int_range}
 -- the tile in column i and row j of the grid of this side
 abbrev pub tile_at : ℕ → ℤ → ℤ → Bounds
 tile_at side i j =
-    record { x1 = i *ℤ pos side; y1 = j *ℤ pos side; x2 = (i *ℤ pos side) +ℤ pos side; y2 = (j *ℤ pos side) +ℤ pos side }
+    record {
+      x1 = i *ℤ pos side;
+      y1 = j *ℤ pos side;
+      x2 = (i *ℤ pos side) +ℤ pos side;
+      y2 = (j *ℤ pos side) +ℤ pos side;
+    }
 
 -- the column or row of tiles in which a coordinate lies (`int_div_euclid` by a positive number is the floor)
 abbrev pub tile_of : ℕ → ℤ → ℤ
@@ -19,14 +24,18 @@ tile_of side x = int_div_euclid x (pos side)
 abbrev pub tiles_between : ℕ → ℤ → ℤ → ℤ → List Bounds
 tiles_between side j left right = map (λ i. tile_at side i j) (int_range left right)
 
+-- the column or row of tiles behind the last one that has a coordinate before x
+abbrev pub tile_after : ℕ → ℤ → ℤ
+tile_after side x = tile_of side (x -ℤ pos 1) +ℤ pos 1
+
 -- the tiles of these rows that lie in the columns of r
 abbrev pub tiles_in_rows : ℕ → Bounds → ℤ → ℤ → List Bounds
 tiles_in_rows side r bottom top =
-    flat_map (λ j. tiles_between side j (tile_of side r.x1) (tile_of side (r.x2 -ℤ pos 1) +ℤ pos 1)) (int_range bottom top)
+    flat_map (λ j. tiles_between side j (tile_of side r.x1) (tile_after side r.x2)) (int_range bottom top)
 
 -- the tiles that hold a place of r, whole, by rising row and then rising column
 unfoldable pub tiles_of : ℕ → Bounds → List Bounds
-tiles_of side r = if is_empty r then [] else tiles_in_rows side r (tile_of side r.y1) (tile_of side (r.y2 -ℤ pos 1) +ℤ pos 1)
+tiles_of side r = if is_empty r then [] else tiles_in_rows side r (tile_of side r.y1) (tile_after side r.y2)
 
 -- the rectangle is a tile of the grid that holds a place of r
 pub record IsTileOf (side : ℕ) (r tile : Bounds) : Type 0 where

@@ -17,7 +17,9 @@ runs text = runs_after false text
 
 -- not empty, at most 1,024 bytes, no byte 0, at most one run of signs
 abbrev pub is_pattern : List ℕ → Bool
-is_pattern text = nat_lt 0 (length text) && nat_le (length text) MOST_PATTERN_BYTES && not (list_any (λ b. b == 0) text) && nat_le (runs text) 1
+is_pattern text =
+    nat_lt 0 (length text) && nat_le (length text) MOST_PATTERN_BYTES && not (list_any (λ b. b == 0) text)
+    && nat_le (runs text) 1
 
 -- the pattern of a text
 abbrev pub pattern_of : List ℕ → Option (List ℕ)
@@ -36,9 +38,11 @@ signs_in_front text = length text - length (without_signs text)
 abbrev pub padded_decimal : ℕ → ℕ → List ℕ
 padded_decimal width n = replicate (width - length (decimal n)) 48 ++ decimal n
 
--- where the text has a sign, its run of signs is replaced by the frame's number, of as many digits as there are signs at least
+-- where the text has a sign, its run of signs is replaced by the frame's number, of as many digits as there are
+-- signs at least
 abbrev pub name_of : List ℕ → ℕ → List ℕ
 name_of text frame =
     if nat_lt (position_or_len is_sign text) (length text)
-    then (let behind = after_first is_sign text in before_first is_sign text ++ padded_decimal (1 + signs_in_front behind) frame ++ without_signs behind)
+    then (let behind = after_first is_sign text in
+    before_first is_sign text ++ padded_decimal (1 + signs_in_front behind) frame ++ without_signs behind)
     else text

@@ -88,7 +88,8 @@ pub record Reaches (r : Bounds) (h v x y : ℤ) : Type 0 where
 
 -- moved by dx columns and dy rows, or the empty one as it is
 abbrev pub shifted : Bounds → ℤ → ℤ → Bounds
-shifted r dx dy = if is_empty r then none else record { x1 = r.x1 +ℤ dx; y1 = r.y1 +ℤ dy; x2 = r.x2 +ℤ dx; y2 = r.y2 +ℤ dy }
+shifted r dx dy =
+    if is_empty r then none else record { x1 = r.x1 +ℤ dx; y1 = r.y1 +ℤ dy; x2 = r.x2 +ℤ dx; y2 = r.y2 +ℤ dy }
 
 -- the greatest whole number up to a fixed-point number (`int_div_euclid` by a positive number is the floor)
 abbrev pub floor : Fix → ℤ

@@ -58,7 +58,8 @@ impl Pattern {
         ensures value { IfOk result (λ name. name ≡ name_of self.now frame) }
 
         // With a run, different frames have different names.
-        ensures apart { (other : ℕ) → other < 2 ^ 32 → runs self.now ≡ 1 → name_of self.now other ≡ name_of self.now frame → other ≡ frame }
+        ensures apart { (other : ℕ) → other < 2 ^ 32 → runs self.now ≡ 1
+            → name_of self.now other ≡ name_of self.now frame → other ≡ frame }
     {
         Ok(Name::of(name_text(alloc, self.text.as_str(), frame)?))
     }

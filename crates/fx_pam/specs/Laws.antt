@@ -33,7 +33,7 @@ pub record CanBeRead (format : Format) (side : ℕ) (image : Image) : Type 0 whe
   pub high : IsSide side height
   pub components : image.components ≡ components_for format
   pub pixels :
-    (x y : ℕ) → x < width → y < height → IsPixelFor format image.depth (pixel_at image (pos x) (pos y))
+      (x y : ℕ) → x < width → y < height → IsPixelFor format image.depth (pixel_at image (pos x) (pos y))
 
 -- The pixel that is read where this one was written, with m the greatest sample: an a that was not written is m, and the one sample of Grayscale is r, g and b.
 abbrev pub read_pixel : Format → ℕ → Pixel → Pixel
@@ -48,5 +48,5 @@ read_back RgbAlpha image = image
 read_back format image =
     record image {
       components = components.Rgba;
-      pixel = λ x y. read_pixel format (greatest image.depth) (image.pixel x y)
+      pixel = λ x y. read_pixel format (greatest image.depth) (image.pixel x y);
     }

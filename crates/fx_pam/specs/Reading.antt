@@ -118,5 +118,5 @@ pub record IsPam (bytes : List ℕ) (side : ℕ) (image : Image) : Type 0 where
   pub depth : image.depth ≡ depth_of (header_with numbers behind)
   pub components : image.components ≡ components.Rgba
   pub pixels :
-    (r c : ℕ) → r < numbers.height → c < numbers.width
-    → pixel_at image (pos c) (pos (numbers.height - 1 - r)) ≡ pixel_of (header_with numbers behind) r c
+      (r c : ℕ) → r < numbers.height → c < numbers.width
+      → pixel_at image (pos c) (pos (numbers.height - 1 - r)) ≡ pixel_of (header_with numbers behind) r c

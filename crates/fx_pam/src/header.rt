@@ -5,7 +5,7 @@ ghost use Rattle.fx_pam.specs.Header.{is_blank, without_blanks, trimmed, is_spac
 ghost use Rattle.fx_pam.specs.Seen.{seen, Leads, reading_of};
 
 use crate::PamField;
-use crate::numbers::{HeaderSoFar, HeaderNumbers};
+use crate::numbers::{HeaderNumbers, HeaderSoFar};
 
 /// What a line of the header says.
 #[derive(Clone, Copy, Debug, PartialEq, Eq)]

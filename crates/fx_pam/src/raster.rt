@@ -37,13 +37,9 @@ pub fn check_raster(numbers: HeaderNumbers, bytes: &[u8]) -> Result<(), PamFault
 fn check_samples(numbers: HeaderNumbers, bytes: &[u8]) -> Result<(), PamFault>
     requires ranged { IsRanged 8192 (header_with numbers bytes.now) }
     requires long { raster_length (header_with numbers bytes.now) ≤ length bytes.now }
-    ensures ok {
-        let h = header_with numbers bytes.now in OnOk result (first_above h 0 (sample_count h) ≡ None)
-    }
-    ensures fault {
-        let h = header_with numbers bytes.now in
-        IfErr result (λ e. sample_fault h (first_above h 0 (sample_count h)) ≡ Some e)
-    }
+    ensures ok { let h = header_with numbers bytes.now in OnOk result (first_above h 0 (sample_count h) ≡ None) }
+    ensures fault { let h = header_with numbers bytes.now in
+        IfErr result (λ e. sample_fault h (first_above h 0 (sample_count h)) ≡ Some e) }
 {
     let depth = numbers.sample_depth();
     for i in 0..numbers.sample_count() {
@@ -88,10 +84,8 @@ fn fill_row(numbers: HeaderNumbers, source: &[u8], row: &mut [u8])
     requires whole { IsWhole 8192 (header_with (record numbers { height = 1 }) source.now) }
     requires source { length source.now ≡ row_length (header_with numbers source.now) }
     requires row { length row.old ≡ numbers.width * pixel_size (depth_of (header_with numbers source.now)) RgbaSamples }
-    ensures {
-        let h = header_with numbers source.now in
-        (c : ℕ) → c < numbers.width → pixel_in (depth_of h) RgbaSamples row.new c ≡ pixel_of h 0 c
-    }
+    ensures { let h = header_with numbers source.now in
+        (c : ℕ) → c < numbers.width → pixel_in (depth_of h) RgbaSamples row.new c ≡ pixel_of h 0 c }
 {
     if numbers.depth == 4 && numbers.keeps_samples() {
         row.copy_from_slice(source);
@@ -103,10 +97,8 @@ fn fill_row(numbers: HeaderNumbers, source: &[u8], row: &mut [u8])
 fn fill_pixels(numbers: HeaderNumbers, source: &[u8], row: &mut [u8])
     requires whole { IsWhole 8192 (header_with (record numbers { height = 1 }) source.now) }
     requires row { length row.old ≡ numbers.width * pixel_size (depth_of (header_with numbers source.now)) RgbaSamples }
-    ensures {
-        let h = header_with numbers source.now in
-        (c : ℕ) → c < numbers.width → pixel_in (depth_of h) RgbaSamples row.new c ≡ pixel_of h 0 c
-    }
+    ensures { let h = header_with numbers source.now in
+        (c : ℕ) → c < numbers.width → pixel_in (depth_of h) RgbaSamples row.new c ≡ pixel_of h 0 c }
 {
     let depth = numbers.sample_depth();
     for c in 0..numbers.width as usize {

@@ -39,9 +39,7 @@ fn read_numbers(bytes: &[u8], most_side: u32) -> Result<(HeaderNumbers, &[u8]), 
     ensures reads { IfOk result (λ header. header_in bytes.now ≡ Reads header.0 header.1.now) }
     ensures ranged { IfOk result (λ header. IsRanged 8192 (header_with header.0 header.1.now)) }
     // The fault that is left is the raster's.
-    ensures left {
-        IfOk result (λ header. pam_fault bytes.now most_side ≡ raster_fault (header_with header.0 header.1.now))
-    }
+    ensures left { IfOk result (λ header. pam_fault bytes.now most_side ≡ raster_fault (header_with header.0 header.1.now)) }
     ensures fault { IfErr result (λ e. pam_fault bytes.now most_side ≡ Some e) }
 {
     if !bytes.starts_with(b"P7\n") {

@@ -111,9 +111,7 @@ fn raster_length(width: u64, height: u64, format: Format, depth: Depth) -> usize
 
 fn push_rows(image: &Image, format: Format, out: &mut Vec<u8>) -> Result<(), AllocError>
     requires { image.now.components ≡ components_for format }
-    ensures ok {
-        OnOk result (out.new.items ≡ out.old.items ++ raster format (image_of image.now) (rows image.now.rect))
-    }
+    ensures ok { OnOk result (out.new.items ≡ out.old.items ++ raster format (image_of image.now) (rows image.now.rect)) }
     ensures err { OnErr result (take (length out.old.items) out.new.items ≡ out.old.items) }
 {
     let rect = image.rect();
@@ -128,10 +126,8 @@ fn push_rows(image: &Image, format: Format, out: &mut Vec<u8>) -> Result<(), All
 fn push_row(image: &Image, format: Format, y: i64, out: &mut Vec<u8>) -> Result<(), AllocError>
     requires components { image.now.components ≡ components_for format }
     requires inside { (image.now.rect.y1 ≤ℤ y) × (y <ℤ image.now.rect.y2) }
-    ensures ok {
-        let row = row_bytes format (image_of image.now) y (columns image.now.rect) in
-        OnOk result (out.new.items ≡ out.old.items ++ row)
-    }
+    ensures ok { let row = row_bytes format (image_of image.now) y (columns image.now.rect) in
+        OnOk result (out.new.items ≡ out.old.items ++ row) }
     ensures err { OnErr result (take (length out.old.items) out.new.items ≡ out.old.items) }
 {
     let view = image.view(image.rect());
@@ -145,10 +141,8 @@ fn push_row(image: &Image, format: Format, y: i64, out: &mut Vec<u8>) -> Result<
 
 // Each pixel of a row of RGBA without its a.
 fn push_colours(row: &[u8], depth: Depth, out: &mut Vec<u8>) -> Result<(), AllocError>
-    ensures ok {
-        let count = length row.now / (4 * size depth) in
-        OnOk result (out.new.items ≡ out.old.items ++ fronts (4 * size depth) (3 * size depth) row.now count)
-    }
+    ensures ok { let count = length row.now / (4 * size depth) in
+        OnOk result (out.new.items ≡ out.old.items ++ fronts (4 * size depth) (3 * size depth) row.now count) }
     ensures err { OnErr result (take (length out.old.items) out.new.items ≡ out.old.items) }
 {
     match depth {

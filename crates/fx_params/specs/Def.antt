@@ -16,9 +16,11 @@ fix_def name least greatest start =
 -- a flag, which is 0 or 1
 abbrev pub flag_def : List ℕ → Bool → ParamDef
 flag_def name start =
-    record { name = name; kind = kind.Bool; least = pos 0; greatest = pos 1; choices = []; start = if start then pos 1 else pos 0 }
+    let number = if start then pos 1 else pos 0 in
+    record { name = name; kind = kind.Bool; least = pos 0; greatest = pos 1; choices = []; start = number }
 
 -- one of these texts, by its place
 abbrev pub choice_def : List ℕ → List (List ℕ) → ℕ → ParamDef
 choice_def name choices start =
-    record { name = name; kind = kind.Choice; least = pos 0; greatest = pos (length choices - 1); choices = choices; start = pos start }
+    let last = pos (length choices - 1) in
+    record { name = name; kind = kind.Choice; least = pos 0; greatest = last; choices = choices; start = pos start }

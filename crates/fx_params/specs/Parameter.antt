@@ -39,7 +39,8 @@ between a b t = a.value +ℤ int_div_euclid ((b.value -ℤ a.value) *ℤ (t -ℤ
 -- from the key `a` on, where `keys` are those after it: between two keys, and the last key's value from it on
 abbrev pub value_from : Bool → Key → List Key → ℤ → ℤ
 value_from step a [] t = a.value
-value_from step a (b ∷ keys) t = if lt_z t b.frame then (if step then a.value else between a b t) else value_from step b keys t
+value_from step a (b ∷ keys) t =
+    if lt_z t b.frame then (if step then a.value else between a b t) else value_from step b keys t
 
 -- the plain value without keys, and the first key's value before it
 abbrev pub keyed_value : Bool → ℤ → List Key → ℤ → ℤ
@@ -66,7 +67,8 @@ pub record IsValueAt (p : Parameter) (t value : ℤ) : Type 0 where
   pub without_keys : p.keys ≡ [] → value ≡ p.plain
   pub before_first : (a : Key) → slice_get p.keys 0 ≡ Some a → t <ℤ a.frame → value ≡ a.value
   pub from_last : (a : Key) → slice_get p.keys (length p.keys - 1) ≡ Some a → a.frame ≤ℤ t → value ≡ a.value
-  pub between_keys : (i : ℕ) (a b : Key) → slice_get p.keys i ≡ Some a → slice_get p.keys (i + 1) ≡ Some b → a.frame ≤ℤ t → t <ℤ b.frame → value ≡ (if steps p then a.value else between a b t)
+  pub between_keys : (i : ℕ) (a b : Key) → slice_get p.keys i ≡ Some a → slice_get p.keys (i + 1) ≡ Some b
+      → a.frame ≤ℤ t → t <ℤ b.frame → value ≡ (if steps p then a.value else between a b t)
 
 -- what every parameter keeps: rising frames in their range, and values in the definition's range
 pub record IsSound (p : Parameter) : Type 0 where

@@ -33,4 +33,5 @@ IsWithin def n = IsTrue (within def n)
 
 -- why the parameter refuses a value: it isn't of its kind, or else its number is outside of the range
 abbrev pub refusal : ParamDef → ParamValue → Option ParamFault
-refusal def v = if is_of_kind def.kind v then (if within def (number_of v) then None else Some OutOfRange) else Some WrongKind
+refusal def v =
+    if is_of_kind def.kind v then (if within def (number_of v) then None else Some OutOfRange) else Some WrongKind

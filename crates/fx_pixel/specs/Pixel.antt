@@ -29,7 +29,8 @@ zero components.Alpha = Alpha 0
 
 -- its samples go up to the depth's greatest
 abbrev pub IsOfDepth : Depth → Pixel → Type 0
-IsOfDepth depth (Rgba r g b a) = (r ≤ greatest depth) × (g ≤ greatest depth) × (b ≤ greatest depth) × (a ≤ greatest depth)
+IsOfDepth depth (Rgba r g b a) =
+    (r ≤ greatest depth) × (g ≤ greatest depth) × (b ≤ greatest depth) × (a ≤ greatest depth)
 IsOfDepth depth (Alpha a) = a ≤ greatest depth
 
 -- which samples it has
@@ -46,7 +47,8 @@ convert_sample Short Short v = v
 
 -- a pixel at another depth
 abbrev pub at_depth : Depth → Depth → Pixel → Pixel
-at_depth from to (Rgba r g b a) = Rgba (convert_sample from to r) (convert_sample from to g) (convert_sample from to b) (convert_sample from to a)
+at_depth from to (Rgba r g b a) =
+    Rgba (convert_sample from to r) (convert_sample from to g) (convert_sample from to b) (convert_sample from to a)
 at_depth from to (Alpha a) = Alpha (convert_sample from to a)
 
 -- RGBA to Alpha takes a, and Alpha to RGBA repeats it

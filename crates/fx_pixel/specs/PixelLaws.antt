@@ -30,11 +30,13 @@ convert_zero from to components.Alpha components.Rgba = rw (zero_sample from to)
 convert_zero from to components.Alpha components.Alpha = rw (zero_sample from to) refl
 
 -- a converted pixel is of the depth and has the components that it is converted to
-pub convert_form : (from to : Depth) (c : Components) (p : Pixel) → IsOfDepth from p → IsOfDepth to (convert from to c p) × (components_of (convert from to c p) ≡ c)
+pub convert_form : (from to : Depth) (c : Components) (p : Pixel) → IsOfDepth from p
+    → IsOfDepth to (convert from to c p) × (components_of (convert from to c p) ≡ c)
 convert_form from to components.Rgba (Rgba r g b a) h =
-    ((sample_small from to r h.0, sample_small from to g h.1, sample_small from to b h.2, sample_small from to a h.3), refl)
+    let small = sample_small from to in
+    ((small r h.0, small g h.1, small b h.2, small a h.3), refl)
 convert_form from to components.Alpha (Rgba r g b a) h = (sample_small from to a h.3, refl)
-convert_form from to components.Rgba (Alpha a) h = ((sample_small from to a h, sample_small from to a h, sample_small from to a h, sample_small from to a h), refl)
+convert_form from to components.Rgba (Alpha a) h = let small = sample_small from to a h in ((small, small, small, small), refl)
 convert_form from to components.Alpha (Alpha a) h = (sample_small from to a h, refl)
 
 -- the zero pixel is of every depth

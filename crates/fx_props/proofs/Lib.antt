@@ -1,1 +1,3 @@
 mod SetLemmas
+pub mod EntryLaws
+pub mod ReadLemmas

@@ -1,3 +1,4 @@
 pub mod Value
 pub mod Property
 pub mod Set
+pub mod Entries

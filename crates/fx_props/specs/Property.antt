@@ -7,8 +7,8 @@ use Rattle.fx_props.specs.contracts.value.PropValue as values
 use Rattle.fx_props.specs.declared.value.PropKind.{PropKind}
 use Rattle.fx_props.specs.declared.value.PropValue.{PropValue}
 use Rattle.fx_props.specs.declared.def.PropDef.{PropDef}
-use Rattle.fx_props.specs.declared.def.PropFault.{PropFault}
-use Rattle.fx_props.specs.declared.def.PropFault.TheVariants.{ErrUnknown, ErrBadIndex, ErrValue, Memory}
+use Rattle.fx_props.specs.declared.fault.PropFault.{PropFault}
+use Rattle.fx_props.specs.declared.fault.PropFault.TheVariants.{ErrUnknown, ErrBadIndex, ErrValue, Memory}
 use Rattle.fx_props.specs.Value.{kind_of, same_kind, is_allowed}
 
 -- the rules: at most so many values, these texts or any value, and the values at the start
@@ -23,14 +23,16 @@ pub record Property : Type 0 where
 abbrev pub property_code : Coded Property
 property_code =
     code_by (PropKind × (List PropValue × (ℕ × (List (List ℕ) × List PropValue))))
-    (coded× kinds.the_row.coded (coded× (coded_list values.the_row.coded) (coded× coded_ℕ (coded× (coded_list (coded_list coded_ℕ)) (coded_list values.the_row.coded)))))
+    (coded× kinds.the_row.coded (coded× (coded_list values.the_row.coded)
+    (coded× coded_ℕ (coded× (coded_list (coded_list coded_ℕ)) (coded_list values.the_row.coded)))))
     (λ p. (p.kind, (p.values, (p.most, (p.allowed, p.start)))))
     (λ t. record { kind = t.0; values = t.1.0; most = t.1.1.0; allowed = t.1.1.1.0; start = t.1.1.1.1 })
     (λ _. refl)
 
 -- the property of a definition with these values
 abbrev pub property_with : PropDef → List PropValue → Property
-property_with def values = record { kind = def.kind; values = values; most = def.most; allowed = def.allowed; start = def.start }
+property_with def values =
+    record { kind = def.kind; values = values; most = def.most; allowed = def.allowed; start = def.start }
 
 -- what a definition makes: the values are those at the start
 abbrev pub property_made : PropDef → Property
@@ -65,7 +67,8 @@ abbrev pub value_in : Option (List PropValue) → ℕ → Result PropValue PropF
 value_in None index = Err ErrUnknown
 value_in (Some values) index = ok_or (slice_get values index) ErrBadIndex
 
--- whether a value can be put at the place: over one that stands there, or behind the last one while there are fewer than the most
+-- whether a value can be put at the place: over one that stands there, or behind the last one while there are fewer
+-- than the most
 abbrev pub takes_at : Property → ℕ → Bool
 takes_at p index = nat_lt index (length p.values) || ((index == length p.values) && nat_lt index p.most)
 
@@ -76,7 +79,8 @@ placed values index v = if nat_lt index (length values) then slice_set values in
 -- why putting a value is refused: no such property, or else no such place, or else a value that isn't allowed
 abbrev pub put_refusal : Option Property → ℕ → PropValue → Option PropFault
 put_refusal None index v = Some ErrUnknown
-put_refusal (Some p) index v = if takes_at p index then (if is_allowed p.allowed v then None else Some ErrValue) else Some ErrBadIndex
+put_refusal (Some p) index v =
+    if takes_at p index then (if is_allowed p.allowed v then None else Some ErrValue) else Some ErrBadIndex
 
 -- a refusal is answered exactly where there is one, and else Ok, want of memory aside
 abbrev pub IsAnswer : Option PropFault → Result (Unit {0}) PropFault → Type 0

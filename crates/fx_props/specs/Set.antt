@@ -1,18 +1,16 @@
 -- A property set: a map from names to properties.
-use Rattle.std.specs.Prelude.{◌≡◌, ◌≢◌, ℕ, List, [], ◌∷◌, length, is_some, AllPairs, Option, Some, None, Result, if◌then◌else◌, true, false, cond, refl}
+use Rattle.std.specs.Prelude.{◌≡◌, ◌≢◌, ℕ, List, [], ◌∷◌, length, is_some, AllPairs, Option, Some, None, Result, if◌then◌else◌}
 use Rattle.std.specs.Option.{option_map, option_and_then, ok_or}
 use Rattle.std.specs.Ordering.{nat_cmp}
-use Rattle.std.proofs.Common.{ap, ◌∙◌}
-use Rattle.std.proofs.lemmas.Option.{none-some}
 use Rattle.std.specs.Cmp.Lexicographic.{slice_cmp}
 use Rattle.std.specs.FinMap as map
 use Rattle.std.specs.Str.{bytes_eq}
 use Rattle.fx_props.specs.declared.value.PropKind.{PropKind}
 use Rattle.fx_props.specs.declared.value.PropValue.{PropValue}
 use Rattle.fx_props.specs.declared.def.PropDef.{PropDef}
-use Rattle.fx_props.specs.declared.def.PropFault.{PropFault}
-use Rattle.fx_props.specs.declared.def.PropFault.TheVariants.{ErrUnknown}
-use Rattle.fx_props.specs.Value.{kind_of, same_kind}
+use Rattle.fx_props.specs.declared.fault.PropFault.{PropFault}
+use Rattle.fx_props.specs.declared.fault.PropFault.TheVariants.{ErrUnknown}
+use Rattle.fx_props.specs.Value.{kind_of}
 use Rattle.fx_props.specs.Property.{Property, property_made, with_values, of_kind, value_in, placed, put_refusal}
 
 -- names are in the order of their bytes
@@ -54,7 +52,9 @@ dimension_of set name = ok_or (option_map (λ p. length p.values) (property set 
 
 -- the value was put at the place of that list
 abbrev pub Puts : Set → Set → List ℕ → ℕ → PropValue → Type 0
-Puts old new name index v = (values : List PropValue) → values_of old (kind_of v) name ≡ Some values → Replaces old new name (placed values index v)
+Puts old new name index v =
+    (values : List PropValue) → values_of old (kind_of v) name ≡ Some values
+    → Replaces old new name (placed values index v)
 
 -- the list of the name is that of the start
 abbrev pub Resets : Set → Set → List ℕ → Type 0
@@ -68,23 +68,3 @@ AreApart defs = AllPairs (λ a b. a.name ≢ b.name) defs
 abbrev pub made : List PropDef → List ℕ → Option Property
 made [] name = None
 made (def ∷ defs) name = if bytes_eq name def.name then Some (property_made def) else made defs name
-
--- ---- reading after a list was replaced
-
-kept : (kind : PropKind) (values was : List PropValue) (o : Option Property) → option_map (λ p. p.values) (option_and_then (of_kind kind) o) ≡ Some was → option_map (λ p. p.values) (option_and_then (of_kind kind) (option_map (λ p. with_values p values) o)) ≡ Some values
-kept kind values was None e = absurd (none-some was e)
-kept kind values was (Some p) e =
-    elim (same_kind p.kind kind) as (λ b. option_map (λ q. q.values) (cond b (Some p) None) ≡ Some was → option_map (λ q. q.values) (cond b (Some (with_values p values)) None) ≡ Some values) [
-      | true ↦ λ _. refl
-      | false ↦ λ none. absurd (none-some was none)
-    ] e
-
--- the name reads the new list
-pub values_of-replaced : (old new : Set) (name : List ℕ) (values was : List PropValue) (kind : PropKind) → Replaces old new name values → values_of old kind name ≡ Some was → values_of new kind name ≡ Some values
-values_of-replaced old new name values was kind replaces is =
-    ap (λ o. option_map (λ p. p.values) (option_and_then (of_kind kind) o)) replaces.there ∙ kept kind values was (property old name) is
-
--- every other name reads as before
-pub values_of-rest : (old new : Set) (name : List ℕ) (values : List PropValue) (kind : PropKind) (n : List ℕ) → Replaces old new name values → n ≢ name → values_of new kind n ≡ values_of old kind n
-values_of-rest old new name values kind n replaces other =
-    ap (λ o. option_map (λ p. p.values) (option_and_then (of_kind kind) o)) (replaces.rest n other)

@@ -6,7 +6,7 @@ use Rattle.fx_props.specs.declared.value.PropKind.{PropKind}
 use Rattle.fx_props.specs.declared.value.PropKind.TheVariants as kind
 use Rattle.fx_props.specs.declared.value.PropValue.{PropValue}
 use Rattle.fx_props.specs.declared.value.PropValue.TheVariants as value
-use Rattle.fx_props.specs.declared.def.PropFault.{PropFault}
+use Rattle.fx_props.specs.declared.fault.PropFault.{PropFault}
 use Rattle.fx_props.specs.declared.value.Given.{Given}
 use Rattle.fx_props.specs.declared.value.Given.TheVariants as given
 

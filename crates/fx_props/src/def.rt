@@ -1,10 +1,7 @@
-//! What a property may hold, and why a call on a property set is refused.
-ghost use Rattle.std.specs.Prelude.{◌≡◌};
-ghost use Rattle.fx_props.specs.declared.def.PropFault.TheVariants as fault;
+//! What a property may hold.
 
 use crate::{PropKind, PropList};
 use fx_base::{Name, Names};
-use std::alloc::{AllocError, AllocFailed};
 
 /// What a property is called, the kind of its values, how many there may be, which texts are allowed
 /// (any value where none is listed), and the values at the start.
@@ -15,33 +12,4 @@ pub struct PropDef {
     pub most: u32,
     pub allowed: Names,
     pub start: PropList,
-}
-
-/// Why a call on a property set was refused.
-#[derive(Clone, Copy, Debug, PartialEq, Eq)]
-pub enum PropFault {
-    /// No property has that name and that kind.
-    ErrUnknown,
-    /// No value stands at that place, or none can be put there.
-    ErrBadIndex,
-    /// The value isn't one of those that are allowed.
-    ErrValue,
-    /// An allocation was refused.
-    Memory,
-}
-
-impl From<AllocError> for PropFault {
-    ghost from_gives = { λ _ given. given ≡ fault.Memory };
-
-    fn from(_: AllocError) -> PropFault {
-        PropFault::Memory
-    }
-}
-
-impl<T: Drop> From<AllocFailed<T>> for PropFault {
-    ghost from_gives = { λ _ given. given ≡ fault.Memory };
-
-    fn from(_: AllocFailed<T>) -> PropFault {
-        PropFault::Memory
-    }
 }

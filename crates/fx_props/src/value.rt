@@ -133,7 +133,7 @@ fn is_listed(texts: &[Name], text: &str) -> bool
     texts.iter().any(|name| name.text() == text)
 }
 
-fn name_of(alloc: Global, text: &str) -> Result<Name, AllocError>
+pub(crate) fn name_of(alloc: Global, text: &str) -> Result<Name, AllocError>
     ensures { IfOk result (λ name. name ≡ text.now) }
 {
     Ok(Name::of(String::from_str(alloc, text)?))

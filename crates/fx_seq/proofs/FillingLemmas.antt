@@ -13,7 +13,7 @@ use Rattle.fx_seq.specs.declared.wanted.Wanted.{Wanted}
 use Rattle.fx_seq.specs.declared.fault.SeqFault.{SeqFault}
 use Rattle.fx_seq.specs.declared.fault.SeqFault.TheVariants.{Fetch, Frame, TooLarge, Memory}
 use Rattle.fx_seq.specs.Filling.{refusal, refusal_of, refusal_read, size_under, first_refused, IsApart, IsTold, IsFetchOf, IsFirstFetch}
-use Rattle.fx_seq.specs.Held.{IsPicture, image_size}
+use Rattle.fx_seq.specs.Frames.{IsPicture, image_size}
 
 -- what is told of the bytes is told of the name that they stand under
 pub told_under : (files : Files) (side : ℕ) (w : Wanted) (bytes : List ℕ) (r : Result Stored SeqFault) → files w.name ≡ Some bytes → IfErr r (λ e. (limit sum : ℕ) → IsTold (refusal_read limit w sum (pam_fault bytes side)) e) → IfErr r (λ e. (limit sum : ℕ) → IsTold (refusal files side limit sum w) e)
@@ -22,8 +22,8 @@ told_under files side w bytes r under told = IfErr-weaker r _ _ (λ e h limit su
 -- the size of a picture is that of its file
 pub picture_size : (files : Files) (side : ℕ) (name : List ℕ) (image : Stored) → IsPicture files side name image → size_under files name ≡ image_size image
 picture_size files side name image p =
-    let sizes = p.reads.sizes in
-    rw (p.under, p.reads.reads, p.reads.rect, p.reads.depth, gap_none sizes.width, gap_none sizes.height) refl
+    let numbers = p.reads.numbers in
+    rw (p.under, p.reads.reads, p.reads.rect, p.reads.depth, gap_none numbers.width, gap_none numbers.height) refl
 
 -- a picture is refused by the sum alone
 pub picture_refusal : (files : Files) (side limit sum : ℕ) (w : Wanted) (image : Stored) → IsPicture files side w.name image → refusal files side limit sum w ≡ refusal_read limit w (sum + image_size image) None

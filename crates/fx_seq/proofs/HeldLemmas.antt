@@ -1,11 +1,11 @@
 -- What a store holds once a frame was added.
 use Rattle.std.proofs.Math.Logic.{⊎_elim}
-use Rattle.std.proofs.Common.{◌≡◌, ℕ, ◌+◌, ℤ, List, [], ◌∷◌, ◌++◌, subst, Some, None, true, false, sym, ap, ◌∙◌, arith, unwrap_or, option_map}
-use Rattle.std.specs.Prelude.{sum_by, cond, Contains}
+use Rattle.std.proofs.Common.{◌≡◌, ℕ, ◌+◌, ℤ, List, [], ◌∷◌, ◌++◌, subst, Bool, Some, None, true, false, sym, ap, ◌∙◌, arith, unwrap_or, option_map}
+use Rattle.std.specs.Prelude.{sum_by, cond, Contains, Result, Ok, Err, OnOk, OnErr}
 use Rattle.std.specs.Ordering.{nat_cmp, int_cmp, is_eq}
 use Rattle.std.specs.Cmp.{IsTotalOrder, tied_itself, Equal-is, nat_cmp_total, int_cmp_total}
 use Rattle.std.specs.Map.{lookup, values_of}
-use Rattle.std.specs.BTreeMap.{is_at, insert_entry, get, IsOrdered}
+use Rattle.std.specs.BTreeMap.{is_at, insert_entry, IsOrdered}
 use Rattle.std.proofs.lemmas.Bool.{false_from_ne_true}
 use Rattle.std.proofs.lemmas.Cmp.{on_total, then_total}
 use Rattle.std.proofs.lemmas.Map.Entries.{sum_by-insert_entry}
@@ -17,7 +17,8 @@ use Rattle.fx_seq.specs.declared.wanted.Wanted.{Wanted}
 use Rattle.fx_seq.specs.Filling.{IsApart}
 use Rattle.fx_seq.specs.declared.store.Place.{Place}
 use Rattle.fx_seq.specs.declared.store.Store.{Store}
-use Rattle.fx_seq.specs.Held.{place_cmp, held, held_size, image_size, Frames, Gains, IsPicture, HoldsPictures, HoldsOnly}
+use Rattle.fx_seq.specs.Frames.{place_cmp, image_size, Frames, IsSourceFrame, AreSound, Gains, IsPicture, HoldsPictures, HoldsOnly}
+use Rattle.fx_seq.specs.Held.{held, held_size}
 
 -- places that compare alike are one
 pub exact_places : CmpEqualImpliesEq place_cmp
@@ -26,12 +27,17 @@ exact_places p q h = ap (λ (r : ℕ × ℤ). record { node = r.0; frame = r.1 }
 pub places_total : IsTotalOrder place_cmp
 places_total = then_total (on_total (λ p. p.node) nat_cmp_total) (on_total (λ p. p.frame) int_cmp_total)
 
--- the store over a map that has one more entry
-pub gains_from_updates : (old new : Store) (place : Place) (image : Stored) → ((q : Place) → get place_cmp new.frames q ≡ cond (is_at (place_cmp place) q) (Some image) (get place_cmp old.frames q)) → Gains place.node place.frame image (held old) (held new)
+-- what follows at either answer
+pub either : {T E P Q R : Type 0} (r : Result T E) → OnOk r P → OnErr r Q → (P → R) → (Q → R) → R
+either (Ok x) ok err f g = f ok
+either (Err e) ok err f g = g err
+
+-- the frames of a map that has one more entry
+pub gains_from_updates : (old new : Frames) (place : Place) (image : Stored) → ((n : ℕ) (f : ℤ) → new n f ≡ cond (is_at (place_cmp place) (record { node = n; frame = f })) (Some image) (old n f)) → Gains place.node place.frame image old new
 gains_from_updates old new place image h =
     record {
-      there = h place ∙ ap (λ b. cond b (Some image) (get place_cmp old.frames place)) same;
-      others = λ n f apart. h (record { node = n; frame = f }) ∙ ap (λ b. cond b (Some image) (held old n f)) (other n f apart);
+      there = h place.node place.frame ∙ ap (λ b. cond b (Some image) (old place.node place.frame)) same;
+      others = λ n f apart. h n f ∙ ap (λ b. cond b (Some image) (old n f)) (other n f apart);
     }
   where
     same : is_at (place_cmp place) place ≡ true
@@ -43,12 +49,20 @@ gains_from_updates old new place image h =
         let e : place ≡ record { node = n; frame = f } = exact_places place (record { node = n; frame = f }) ((Equal-is _).0 t) in
         apart (sym (ap (λ p. p.node) e)) (sym (ap (λ p. p.frame) e)))
 
--- its size
-pub size_from_insert : (old new : Store) (place : Place) (image : Stored) → new.frames.entries ≡ insert_entry place_cmp old.frames.entries place image → IsOrdered place_cmp old.frames → held old place.node place.frame ≡ None → held_size new ≡ held_size old + image_size image
-size_from_insert old new place image entries ordered free =
+-- they are sound where the new one is
+pub sound_more : (old new : Frames) (place : Place) (image : Stored) → AreSound old → IsSourceFrame image → ((n : ℕ) (f : ℤ) → new n f ≡ cond (is_at (place_cmp place) (record { node = n; frame = f })) (Some image) (old n f)) → AreSound new
+sound_more old new place image sound is h n f held some = go (is_at (place_cmp place) (record { node = n; frame = f })) (sym (h n f) ∙ some)
+  where
+    go : (b : Bool) → cond b (Some image) (old n f) ≡ Some held → IsSourceFrame held
+    go true e = let same : image ≡ held = cc in subst IsSourceFrame same is
+    go false e = sound n f held e
+
+-- their size
+pub size_from_insert : (old : Store) (entries : List (Place × Stored)) (place : Place) (image : Stored) → entries ≡ insert_entry place_cmp old.frames.entries place image → IsOrdered place_cmp old.frames → held old place.node place.frame ≡ None → sum_by image_size (values_of entries) ≡ held_size old + image_size image
+size_from_insert old entries place image inserted ordered free =
     let none : unwrap_or (option_map image_size (lookup (is_at (place_cmp place)) old.frames.entries)) 0 ≡ 0 = ap (λ o. unwrap_or (option_map image_size o) 0) free in
     let all = sum_by-insert_entry image_size places_total old.frames.entries place image ordered in
-    ap (λ es. sum_by image_size (values_of es)) entries ∙ omega (arith, all, none)
+    ap (λ es. sum_by image_size (values_of es)) inserted ∙ omega (arith, all, none)
 
 -- files that are the same under a name have the same picture there
 pub picture_same : (files now : Files) (side : ℕ) (name : List ℕ) (image : Stored) → now name ≡ files name → IsPicture now side name image → IsPicture files side name image

@@ -21,7 +21,7 @@ frame_size width height depth = width * height * 4 * size depth
 
 -- the size that a header tells
 abbrev pub header_size : HeaderReading → ℕ
-header_size (Reads sizes behind) = frame_size sizes.width sizes.height (depth_of (header_with sizes behind))
+header_size (Reads numbers behind) = frame_size numbers.width numbers.height (depth_of (header_with numbers behind))
 header_size (IsWrongAt line) = 0
 
 -- the size of the frame under a name
@@ -45,7 +45,8 @@ refusal files side limit sum w = refusal_of side limit w (sum + size_under files
 -- the first refusal of a list, where the frames before it have `sum` bytes
 abbrev pub first_refused : Files → ℕ → ℕ → ℕ → List Wanted → Option SeqFault
 first_refused files side limit sum [] = None
-first_refused files side limit sum (w ∷ ws) = option_or (refusal files side limit sum w) (first_refused files side limit (sum + size_under files w.name) ws)
+first_refused files side limit sum (w ∷ ws) =
+    option_or (refusal files side limit sum w) (first_refused files side limit (sum + size_under files w.name) ws)
 
 -- an answered fault of a file, or of the sum, is the one told
 abbrev pub IsTold : Option SeqFault → SeqFault → Type 0
@@ -56,14 +57,16 @@ IsTold told Memory = Unit {0}
 
 -- The fetch of this wanted frame failed: the count of faults rose, and the last name that failed is the frame's.
 abbrev pub IsFetchOf : ℕ → ℕ → List ℕ → Wanted → SeqFault → Type 0
-IsFetchOf before now last w (Fetch node frame name) = HasRisen before now × (last ≡ name) × (w ≡ record { node = node; frame = frame; name = name })
+IsFetchOf before now last w (Fetch node frame name) =
+    HasRisen before now × (last ≡ name) × (w ≡ record { node = node; frame = frame; name = name })
 IsFetchOf before now last w (Frame node frame fault) = Unit {0}
 IsFetchOf before now last w (TooLarge node frame sum) = Unit {0}
 IsFetchOf before now last w Memory = Unit {0}
 
 -- the same, of one of the wanted frames
 abbrev pub IsFetchIn : ℕ → ℕ → List ℕ → List Wanted → SeqFault → Type 0
-IsFetchIn before now last wanted (Fetch node frame name) = HasRisen before now × (last ≡ name) × Contains wanted (record { node = node; frame = frame; name = name })
+IsFetchIn before now last wanted (Fetch node frame name) =
+    HasRisen before now × (last ≡ name) × Contains wanted (record { node = node; frame = frame; name = name })
 IsFetchIn before now last wanted (Frame node frame fault) = Unit {0}
 IsFetchIn before now last wanted (TooLarge node frame sum) = Unit {0}
 IsFetchIn before now last wanted Memory = Unit {0}
@@ -77,7 +80,8 @@ pub record ComesTo (files : Files) (side limit : ℕ) (wanted : List Wanted) (w 
 
 -- at a fetch that failed, none of the wanted frames before is refused
 abbrev pub IsFirstFetch : Files → ℕ → ℕ → List Wanted → SeqFault → Type 0
-IsFirstFetch files side limit wanted (Fetch node frame name) = ComesTo files side limit wanted (record { node = node; frame = frame; name = name })
+IsFirstFetch files side limit wanted (Fetch node frame name) =
+    ComesTo files side limit wanted (record { node = node; frame = frame; name = name })
 IsFirstFetch files side limit wanted (Frame node frame fault) = Unit {0}
 IsFirstFetch files side limit wanted (TooLarge node frame sum) = Unit {0}
 IsFirstFetch files side limit wanted Memory = Unit {0}

@@ -2,6 +2,7 @@
 #![tactic(auto)]
 
 mod fault;
+mod frame;
 pub mod laws;
 mod store;
 #[cfg(test)]

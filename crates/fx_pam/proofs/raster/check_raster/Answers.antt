@@ -19,4 +19,4 @@ returns-then-keeps_samples-clause-ok c =
     let long : raster_length h ≤ length c.args.bytes.now = rw (sample_size-is h) (search rules) in
     let same : c.args.numbers.maxval ≡ greatest (depth_of h) = search rules in
     rw (le-ltb (length c.args.bytes.now) (raster_length h) long)
-    (ap (sample_fault h) (none-above h 0 (sample_count h) (λ j below. omega (arith, same, sample-bound (depth_of h) c.args.bytes.now j c.are_bytes.ensures (sample-room h j (omega arith) long)))))
+    (ap (sample_fault h) (none-above h 0 (sample_count h) (λ j below. omega (arith, same, sample-bound (depth_of h) c.args.bytes.now j (λ i low. c.are_bytes.ensures i) (sample-room h j (omega arith) long)))))

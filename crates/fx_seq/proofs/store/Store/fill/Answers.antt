@@ -3,13 +3,14 @@ use Rattle.std.proofs.lemmas.List.{take_all}
 use Rattle.std.proofs.lemmas.Result.{err_from_is_err_and}
 use Rattle.fx_seq.specs.declared.fault.SeqFault.TheVariants.{TooLarge}
 use Rattle.fx_seq.specs.Filling.{IsTold, first_refused}
-use Rattle.fx_seq.specs.Held.{held, image_size, IsPicture, HoldsPictures, HoldsOnly}
+use Rattle.fx_seq.specs.Frames.{image_size, IsPicture, HoldsPictures, HoldsOnly}
+use Rattle.fx_seq.specs.Held.{held}
 use Rattle.fx_seq.proofs.HeldLemmas.{picture_same, pictures_more, only_more}
 use Rattle.fx_seq.proofs.FillingLemmas.{Accepts, accepts_more, accepts_all, told_first, refusal_same, too_large, fetch_comes, split_at, read_more, apart_before}
 use Rattle.fx_seq.proofs.store.Store.fill.Goals as goal
 
-pub add-requires : goal.add-requires
-add-requires g c =
+pub add-requires-clause-free : goal.add-requires-clause-free
+add-requires-clause-free g c =
     let w = c.frame-item.result in
     c.loop-frame.invariant.only w.node w.frame (apart_before c.args.wanted.now c.loop-frame.frame-index w c.requires.apart c.loop-frame-test.true c.frame-item.is)
 
@@ -39,6 +40,7 @@ loop-frame-preserved g c =
       size = omega (arith, c.in_ok-add.ensures.size, so_far.size, sum);
       fits = c.in_ok-sum.ensures.fits;
       later = omega (arith, so_far.later, c.read_frame.ensures.later);
+      quiet = c.in_ok-image.ensures.quiet ∙ so_far.quiet;
       same = λ tells name. c.read_frame.ensures.same tells name ∙ so_far.same tells name;
     }
 

@@ -1,0 +1,2 @@
+mod FactorLaws
+mod WindowLaws

@@ -1,0 +1,11 @@
+pub mod Samples
+pub mod SampleLaws
+pub mod Blends
+pub mod BlendLaws
+pub mod Around
+pub mod AroundLaws
+pub mod Window
+pub mod Sums
+pub mod SumLaws
+pub mod RowLaws
+pub mod Factor

@@ -1,0 +1,63 @@
+//! Means of many sums of one count.
+ghost use Rattle.std.specs.Prelude.{◌≡◌, ◌≤◌, ◌<◌, ◌*◌};
+ghost use Rattle.fx_pixel.specs.Pixel.{greatest};
+ghost use Rattle.fx_kernel.specs.Samples.{rounded};
+
+use fx_pixel::Depth;
+use std::marker::Model;
+
+/// Divides by one count, to the nearest and halves up. It multiplies in the place of that, since the
+/// count is known only when it runs.
+#[derive(Clone, Copy, Debug)]
+pub struct Mean {
+    count: u64,
+    factor: u64,
+}
+
+impl Model for Mean {
+    ghost use Rattle.std.specs.Prelude.{ℕ, ◌+◌, ◌*◌, ◌/◌};
+    ghost use Rattle.fx_kernel.specs.Factor.{HasFactor};
+
+    ghost Value = { ℕ };
+
+    ghost view = { λ m. m.count };
+
+    ghost invariant = { λ m. HasFactor m.count m.factor };
+
+    ghost inverse = { λ n. record { count = n; factor = 140737488355328 / (2 * n) + 1 } };
+}
+
+// The quotients are those of 2^47.
+const SHIFT: u32 = 47;
+
+impl Mean {
+    /// For sums of so many samples, from 1 to 129 * 129.
+    pub fn of(count: u64) -> Mean
+        requires some { 0 < count }
+        requires few { count ≤ 16641 }
+        ensures { result ≡ count }
+    {
+        let factor = (1 << SHIFT) / (2 * count) + 1;
+        Mean { count, factor }
+    }
+
+    /// The mean of as many samples of the depth, by their sum.
+    #[inline(always)]
+    pub fn sample(self, depth: Depth, sum: u64) -> u16
+        requires { sum ≤ self * greatest depth }
+        ensures value { result ≡ rounded sum self }
+        ensures bound { result ≤ greatest depth }
+    {
+        let _bound = depth.greatest();
+        self.rounded(sum) as u16
+    }
+
+    #[inline(always)]
+    fn rounded(self, sum: u64) -> u64
+        requires { sum ≤ self * 65535 }
+        ensures value { result ≡ rounded sum self }
+        ensures small { result ≤ 65535 }
+    {
+        ((2 * sum + self.count) * self.factor) >> SHIFT
+    }
+}

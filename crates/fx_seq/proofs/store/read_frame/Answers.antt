@@ -1,9 +1,0 @@
-use Rattle.std.proofs.lemmas.Result.{err_from_is_err_and}
-use Rattle.fx_seq.proofs.FillingLemmas.{told_under}
-use Rattle.fx_seq.proofs.store.read_frame.Goals as goal
-
-pub returns-in_err-bytes-clause-refused : goal.returns-in_err-bytes-clause-refused
-returns-in_err-bytes-clause-refused g c = λ tells. let p = err_from_is_err_and c.from_residual.result c.from_residual.ensures.1 in rw (p.1, p.2) (λ limit sum. c.in_err-bytes.ensures.no_refusal _)
-
-pub returns-clause-refused : goal.returns-clause-refused
-returns-clause-refused g c = λ tells. told_under (g.L.Library.file c.args.library.now) c.args.most_side c.args.wanted.now c.in_ok-bytes.bytes.items c.image_in.result (c.in_ok-bytes.ensures.bytes tells) (rw c.deref.ensures.value at c.image_in.ensures.fault)
