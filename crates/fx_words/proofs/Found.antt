@@ -1,6 +1,6 @@
 -- What clap answers, and the order that the words have.
-use Rattle.std.proofs.Common.{◌≡◌, ◌⊎◌, inl, inr, sym, ap, subst, refl, ◌∙◌, List, [], ◌∷◌, None, Some, Result, Err}
-use Rattle.std.specs.Prelude.{IfOk, IsErrOf, MatchBool}
+use Rattle.std.proofs.Common.{◌≡◌, ◌⊎◌, inl, inr, sym, ap, subst, refl, ◌∙◌, List, [], ◌∷◌, None, Result, Err}
+use Rattle.std.specs.Prelude.{IsErrOf, MatchBool}
 use Rattle.std.proofs.lemmas.Result.{IfOk-weaker}
 use Rattle.clap.specs.Kinds.{Kinds, IsAmong}
 use Rattle.clap.specs.Walk.{Row}

@@ -1,7 +1,7 @@
 -- The number of an option, by what `u32` reads.
-use Rattle.std.proofs.Common.{ℕ, List, Option, Some, None, refl, sym, ap, ◌≡◌, ◌∙◌, ◌^◌, ◌<◌, Bool, true, false, arith, rules}
+use Rattle.std.proofs.Common.{ℕ, Option, Some, None, refl, sym, ap, ◌≡◌, ◌∙◌, Bool, true, false, arith}
 use Rattle.std.specs.Prelude.{Ok, Err, Result}
-use Rattle.std.specs.Str.Parse.{ParsesUnsigned, digits_value, without_leading_plus}
+use Rattle.std.specs.Str.Parse.{ParsesUnsigned}
 use Rattle.clap.specs.Walk.{Text}
 use Rattle.clap.specs.Matches.{TriesOne}
 use Rattle.clap.specs.ValueTests.{is_unsigned_in}

@@ -1,4 +1,4 @@
-use Rattle.std.proofs.Common.{sym, rules, ◌≡◌, ◌∙◌}
+use Rattle.std.proofs.Common.{sym, rules, ◌∙◌}
 use Rattle.clap.specs.Matches.{found_of}
 use Rattle.clap.proofs.WalkLemmas.{first_value-rows}
 use Rattle.fx_words.proofs.words.word_in.Goals as goal
