@@ -244,10 +244,7 @@ rows_step side r j next end j' left right before after lt is row from to pushed 
     (append_assoc before (row_of side r j) (tiles_in_rows side r (j +ℤ pos 1) end)
     ∙ ap (λ js. before ++ flat_map (row_of side r) js) (sym (int_range-step j end lt)))
 
--- nothing is left at the end
-pub row_end : (side : ℕ) (j i end : ℤ) (all : List Bounds) → end ≤ℤ i → all ++ tiles_between side j i end ≡ all
-row_end side j i end all past = ap (λ is. all ++ map (λ i. tile_at side i j) is) (int_range-end i end past) ∙ append-nil all
-
+-- no row is left at the end
 pub rows_end : (side : ℕ) (r : Bounds) (j end : ℤ) (all : List Bounds) → end ≤ℤ j → all ++ tiles_in_rows side r j end ≡ all
 rows_end side r j end all past = ap (λ js. all ++ flat_map (row_of side r) js) (int_range-end j end past) ∙ append-nil all
 

@@ -54,4 +54,6 @@ pub mixed_bound : (m k a b : ℕ) → 0 < m → k ≤ m → a ≤ m → b ≤ m 
 mixed_bound m k a b some low few many = rounded_bound (a * k + b * (m - k)) m m some (mixed_room m k a b low few many)
 
 pub mixed_zero : (m k : ℕ) → 0 < m → mixed m k 0 0 ≡ 0
-mixed_zero m k some = let none : 0 * k + 0 * (m - k) ≡ 0 = omega arith in ap (λ p. rounded p m) none ∙ rounded_zero m some
+mixed_zero m k some =
+    let none : 0 * k + 0 * (m - k) ≡ 0 = omega arith in
+    ap (λ p. rounded p m) none ∙ rounded_zero m some

@@ -43,14 +43,18 @@ each_clear components.Rgba = refl
 each_clear components.Alpha = refl
 
 -- a pixel whose samples are within the depth
-pub each_is_pixel : (depth : Depth) (c : Components) (f : ℕ → ℕ) → ((k : ℕ) → f k ≤ greatest depth) → IsOfDepth depth (each c f) × (components_of (each c f) ≡ c)
+pub each_is_pixel : (depth : Depth) (c : Components) (f : ℕ → ℕ) → ((k : ℕ) → f k ≤ greatest depth)
+    → IsOfDepth depth (each c f) × (components_of (each c f) ≡ c)
 each_is_pixel depth components.Rgba f bound = ((bound 0, bound 1, bound 2, bound 3), refl)
 each_is_pixel depth components.Alpha f bound = (bound 0, refl)
 
 -- ---- rounded quotients
 
 pub rounded_bound : (p q m : ℕ) → 0 < q → p ≤ q * m → rounded p q ≤ m
-rounded_bound p q m some few = let low : 2 * p + q < (m + 1) * (2 * q) = omega arith in let h : (2 * p + q) / (2 * q) < m + 1 = div_below (2 * p + q) (2 * q) (m + 1) (omega arith) low in omega (arith, h)
+rounded_bound p q m some few =
+    let low : 2 * p + q < (m + 1) * (2 * q) = omega arith in
+    let h : (2 * p + q) / (2 * q) < m + 1 = div_below (2 * p + q) (2 * q) (m + 1) (omega arith) low in
+    omega (arith, h)
 
 pub rounded_zero : (q : ℕ) → 0 < q → rounded 0 q ≡ 0
 rounded_zero q some = div-eq_of_lt (omega arith)
@@ -69,21 +73,32 @@ sum_zero k c (p ∷ ps) all =
     omega (arith, sum_by-cons (λ p. nth p k) p ps, first, rest)
 
 -- of zero pixels
-pub mean_clear : (c : Components) (n : ℕ) (pixels : List Pixel) → 0 < n → All (λ p. p ≡ clear c) pixels → mean_of c n pixels ≡ clear c
+pub mean_clear : (c : Components) (n : ℕ) (pixels : List Pixel) → 0 < n → All (λ p. p ≡ clear c) pixels
+    → mean_of c n pixels ≡ clear c
 mean_clear c n pixels some all =
-    each_same c (λ k. rounded (sum_of k pixels) n) (λ k. 0) (λ k. ap (λ s. rounded s n) (sum_zero k c pixels all) ∙ rounded_zero n some) ∙ each_clear c
+    each_same c (λ k. rounded (sum_of k pixels) n) (λ k. 0)
+    (λ k. ap (λ s. rounded s n) (sum_zero k c pixels all) ∙ rounded_zero n some)
+    ∙ each_clear c
 
 add-zero : (n : ℕ) → n + 0 ≡ n
 add-zero n = omega arith
 
 -- of one pixel
 pub mean_one : (p : Pixel) → mean_of (components_of p) 1 (p ∷ []) ≡ p
-mean_one p = each_same (components_of p) (λ k. rounded (sum_of k (p ∷ [])) 1) (nth p) (λ k. ap (λ s. rounded s 1) (sum_by-cons (λ q. nth q k) p [] ∙ add-zero (nth p k)) ∙ rounded_one (nth p k)) ∙ each_of p
+mean_one p =
+    each_same (components_of p) (λ k. rounded (sum_of k (p ∷ [])) 1) (nth p)
+    (λ k. ap (λ s. rounded s 1) (sum_by-cons (λ q. nth q k) p [] ∙ add-zero (nth p k)) ∙ rounded_one (nth p k))
+    ∙ each_of p
 
-sum_bound : (depth : Depth) (k : ℕ) (pixels : List Pixel) → All (IsOfDepth depth) pixels → sum_of k pixels ≤ length pixels * greatest depth
-sum_bound depth k pixels all = sum_by-le (λ p. nth p k) (greatest depth) pixels (All-weaker (IsOfDepth depth) (λ p. nth p k ≤ greatest depth) (λ p of_depth. nth_bound depth p k of_depth) pixels all)
+sum_bound : (depth : Depth) (k : ℕ) (pixels : List Pixel) → All (IsOfDepth depth) pixels
+    → sum_of k pixels ≤ length pixels * greatest depth
+sum_bound depth k pixels all =
+    sum_by-le (λ p. nth p k) (greatest depth) pixels
+    (All-weaker (IsOfDepth depth) (λ p. nth p k ≤ greatest depth) (λ p is. nth_bound depth p k is) pixels all)
 
 -- of as many pixels of the depth
-pub mean_is_pixel : (depth : Depth) (c : Components) (n : ℕ) (pixels : List Pixel) → 0 < n → length pixels ≡ n → All (IsOfDepth depth) pixels → IsOfDepth depth (mean_of c n pixels) × (components_of (mean_of c n pixels) ≡ c)
+pub mean_is_pixel : (depth : Depth) (c : Components) (n : ℕ) (pixels : List Pixel) → 0 < n → length pixels ≡ n
+    → All (IsOfDepth depth) pixels → IsOfDepth depth (mean_of c n pixels) × (components_of (mean_of c n pixels) ≡ c)
 mean_is_pixel depth c n pixels some many all =
-    each_is_pixel depth c (λ k. rounded (sum_of k pixels) n) (λ k. rounded_bound (sum_of k pixels) n (greatest depth) some (let h = sum_bound depth k pixels all in rw (← many) h))
+    each_is_pixel depth c (λ k. rounded (sum_of k pixels) n) (λ k.
+    rounded_bound (sum_of k pixels) n (greatest depth) some (let h = sum_bound depth k pixels all in rw (← many) h))

@@ -36,7 +36,9 @@ convert_form from to components.Rgba (Rgba r g b a) h =
     let small = sample_small from to in
     ((small r h.0, small g h.1, small b h.2, small a h.3), refl)
 convert_form from to components.Alpha (Rgba r g b a) h = (sample_small from to a h.3, refl)
-convert_form from to components.Rgba (Alpha a) h = let small = sample_small from to a h in ((small, small, small, small), refl)
+convert_form from to components.Rgba (Alpha a) h =
+    let small = sample_small from to a h in
+    ((small, small, small, small), refl)
 convert_form from to components.Alpha (Alpha a) h = (sample_small from to a h, refl)
 
 -- the zero pixel is of every depth
