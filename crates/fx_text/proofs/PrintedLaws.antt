@@ -1,11 +1,11 @@
 -- A printed raw graph reads back, object by object.
-use Rattle.std.proofs.Common.{◌≡◌, refl, ap, sym, ◌∙◌, ℕ, suc, ◌+◌, ◌*◌, ◌≤◌, ◌<◌, ◌^◌, nat_le, nat_lt, ◌&&◌, ℤ, pos, negsuc}
-use Rattle.std.proofs.Common.{T, ◌≤ℤ◌, min, arith, rules, Bool, true, false, List, [], ◌∷◌, length, codes, Option, Some, None, Ok, All}
+use Rattle.std.proofs.Common.{◌≡◌, refl, ap, ℕ, suc, ◌+◌, ◌≤◌, ◌^◌, nat_le, nat_lt, ◌&&◌, ℤ, pos, negsuc}
+use Rattle.std.proofs.Common.{T, min, arith, Bool, true, false, List, [], ◌∷◌, length, codes, Some, None, Ok, All}
 use Rattle.std.proofs.lemmas.Grind.{common_steps}
 use Rattle.std.proofs.lemmas.List.Elements.{All-head, All-tail}
 use Rattle.std.specs.Int.Signed.{le_z}
-use Rattle.serde_json.specs.Data.{Data, number, string, object, Items, Members, no_members, member}
-use Rattle.serde_json.specs.Find.{of_integer, as_i64, as_integer}
+use Rattle.serde_json.specs.Data.{number}
+use Rattle.serde_json.specs.Find.{of_integer, as_integer}
 use Rattle.fx_pixel.specs.declared.Depth.{Depth}
 use Rattle.fx_pixel.specs.declared.Depth.TheVariants as depth
 use Rattle.fx_pixel.specs.declared.Components.{Components}
@@ -24,15 +24,15 @@ use Rattle.fx_text.specs.declared.value.RawScalar.TheVariants as scalar
 use Rattle.fx_text.specs.declared.value.RawValue.{RawValue}
 use Rattle.fx_text.specs.declared.value.RawValue.TheVariants as value
 use Rattle.fx_text.specs.Json.{depth_of, components_of, format_of, outside_of, count_of, read_items, read_members}
-use Rattle.fx_text.specs.Key.{Key, IsFrame, AreFewKeys}
-use Rattle.fx_text.specs.Nodes.{Node, Graph, AreFrames, AreFew}
-use Rattle.fx_text.specs.Objects.{project_of, output_of, range_of, context_of, node_of, nodes_of, source_of, effect_of, graph_of, graph_in}
+use Rattle.fx_text.specs.Key.{Key, IsFrame}
+use Rattle.fx_text.specs.Nodes.{Node}
+use Rattle.fx_text.specs.Objects.{project_of, output_of, range_of, context_of, node_of}
 use Rattle.fx_text.specs.Paths.{inside}
 use Rattle.fx_text.specs.Raw.{Project, AreSides, IsHead}
-use Rattle.fx_text.specs.Values.{clip_of, int_of, scalar_of, is_scalar, key_of, keys_of, value_of, param_of}
-use Rattle.fx_text.specs.Printed.{PrintedReadsBack, IsShort, IsInt, IsScalar, IsKey, IsValue, IsNode, IsGraph, IsWork}
+use Rattle.fx_text.specs.Values.{clip_of, int_of, scalar_of, is_scalar, key_of, value_of, param_of}
+use Rattle.fx_text.specs.Printed.{PrintedReadsBack, IsShort, IsInt, IsScalar, IsKey, IsValue, IsNode, IsWork}
 use Rattle.fx_text.specs.Printed.{depth_text, components_text, format_text, outside_text, context_text, project_printed, output_printed, range_printed}
-use Rattle.fx_text.specs.Printed.{clips_printed, scalar_printed, key_printed, keys_printed, value_printed, params_printed, work_printed, nodes_printed, graph_printed}
+use Rattle.fx_text.specs.Printed.{clips_printed, scalar_printed, key_printed, keys_printed, value_printed, params_printed, work_printed, nodes_printed}
 
 -- ---- words and numbers
 

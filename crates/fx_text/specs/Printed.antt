@@ -2,7 +2,7 @@
 -- keys, but for a context that the graph leaves open.
 use Rattle.std.specs.Prelude.{◌≡◌, ℕ, ◌≤◌, ◌<◌, ◌^◌, ℤ, pos, negsuc, Bool, true, false, List, [], ◌∷◌, length, codes}
 use Rattle.std.specs.Prelude.{Option, Some, None, Ok, All}
-use Rattle.serde_json.specs.Data.{Data, Num, unsigned, boolean, number, string, array, object}
+use Rattle.serde_json.specs.Data.{Data, unsigned, boolean, number, string, array, object}
 use Rattle.serde_json.specs.Data.{Items, no_items, item, Members, no_members, member}
 use Rattle.serde_json.specs.Find.{of_integer}
 use Rattle.fx_pixel.specs.declared.Depth.{Depth}

@@ -1,8 +1,8 @@
 -- Clips, and the values of parameters.
-use Rattle.std.specs.Prelude.{ℕ, ◌&&◌, ℤ, pos, negsuc, List, [], ◌∷◌, codes, length, Bool, true, false, if◌then◌else◌, Option, Some, None, is_some}
-use Rattle.std.specs.Prelude.{option_map, option_and_then, Result, Ok, Err, ⊤}
+use Rattle.std.specs.Prelude.{ℕ, ◌&&◌, ℤ, pos, negsuc, List, [], ◌∷◌, codes, Bool, true, false, if◌then◌else◌, Option, Some, None, is_some}
+use Rattle.std.specs.Prelude.{option_and_then, Result, Ok, Err, ⊤}
 use Rattle.std.specs.Int.Signed.{le_z}
-use Rattle.serde_json.specs.Data.{Data, null, boolean, number, string, array, object, Items, no_items, item, Members}
+use Rattle.serde_json.specs.Data.{Data, boolean, string, object, Items, no_items, item, Members}
 use Rattle.serde_json.specs.Find.{get, as_str, as_bool, as_number, as_integer, as_i64, as_array, as_object}
 use Rattle.fx_text.specs.Fault.{Fault}
 use Rattle.fx_text.specs.declared.fault.GraphCode.TheVariants.{WrongForm}

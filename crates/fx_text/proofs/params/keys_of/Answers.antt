@@ -1,4 +1,4 @@
-use Rattle.std.proofs.Common.{arith, length}
+use Rattle.std.proofs.Common.{arith}
 use Rattle.std.proofs.lemmas.Grind.{common_steps}
 use Rattle.fx_text.specs.Values.{key_of}
 use Rattle.fx_text.proofs.Rows.{next_item}
