@@ -1,2 +1,5 @@
 pub mod PieceLaws
-pub mod WritingLaws
+pub mod RunLaws
+pub mod DescribedLaws
+pub mod WindowLaws
+pub mod FitLaws

@@ -1,5 +1,5 @@
 -- Rows and places of rectangles, and the first piece that has a place.
-use Rattle.std.proofs.Common.{◌≡◌, ◌≤◌, ◌<◌, ℕ, ◌+◌, ◌-◌, ◌*◌, inl, inr, ℤ, ◌≤ℤ◌, ◌<ℤ◌, Bool, true, false, ◌&&◌, List, [], ◌∷◌, map, length, take, drop, refl, sym, ap, arith, ◌∙◌, w64, to_z, of_z, FitsSigned, get_or, Option, Some, None}
+use Rattle.std.proofs.Common.{◌≡◌, ◌≤◌, ◌<◌, ℕ, ◌+◌, ◌-◌, ◌*◌, inl, inr, ℤ, pos, negsuc, ◌+ℤ◌, ◌≤ℤ◌, ◌<ℤ◌, Bool, true, false, ◌&&◌, List, [], ◌∷◌, map, length, take, drop, refl, sym, ap, arith, ◌∙◌, w64, to_z, of_z, FitsSigned, get_or, Option, Some, None}
 use Rattle.std.specs.Prelude.{IfSome}
 use Rattle.std.specs.Int.{int_gap}
 use Rattle.std.specs.Int.Signed.{le_z, lt_z}
@@ -16,7 +16,7 @@ use Rattle.fx_pixel.specs.declared.Pixel.{Pixel}
 use Rattle.fx_pixel.specs.declared.Pixel.TheVariants.{Rgba, Alpha}
 use Rattle.fx_pixel.specs.Pixel.{zero, components_of, convert}
 use Rattle.fx_image.specs.Stored.{Stored, pixel_size, pixel_in, shown}
-use Rattle.fx_image.proofs.PixelLaws.{pixel_of_run}
+use Rattle.fx_image.proofs.PixelLaws.{pixel_of_run, pixel_components}
 use Rattle.fx_image.proofs.RowsLaws.{rows_apart}
 use Rattle.fx_image.proofs.ImageLaws.{gap_below, gap_up_to, gap_split, place_from, place_to}
 use Rattle.fx_effect.specs.Tap.{Tap, tap}
@@ -57,9 +57,6 @@ apart_from have rect x y inside apart = grind (arith, ints)
 -- a pixel of a row lies in its bytes
 pub column_room : (r : Bounds) (x y : ℤ) (size : ℕ) → within r x y ≡ true → int_gap r.x1 x * size + size ≤ columns r * size
 column_room r x y size inside = let place = place_from r x y inside in rows_apart (int_gap r.x1 x) (columns r) size (gap_below r.x1 x r.x2 place.left place.right)
-
-pub fits_between : (a b c : ℤ) → FitsSigned w64 a → FitsSigned w64 c → a ≤ℤ b → b ≤ℤ c → FitsSigned w64 b
-fits_between a b c low high h k = grind (arith, ints)
 
 -- ---- a row of a rectangle in the row of a wider one
 
@@ -103,15 +100,11 @@ and_both a b p q = rw (p, q) refl
 
 -- ---- pixels that need no conversion
 
-same_pixel : (d : Depth) (p : Pixel) → convert d d (components_of p) p ≡ p
+pub same_pixel : (d : Depth) (p : Pixel) → convert d d (components_of p) p ≡ p
 same_pixel Byte (Rgba r g b a) = refl
 same_pixel Byte (Alpha a) = refl
 same_pixel Short (Rgba r g b a) = refl
 same_pixel Short (Alpha a) = refl
-
-components_in : (d : Depth) (c : Components) (row : List ℕ) (i : ℕ) → components_of (pixel_in d c row i) ≡ c
-components_in d components.Rgba row i = refl
-components_in d components.Alpha row i = refl
 
 components_zero : (c : Components) → components_of (zero c) ≡ c
 components_zero components.Rgba = refl
@@ -121,7 +114,7 @@ pub components_shown : (s : Stored) (x y : ℤ) → components_of (shown s x y) 
 components_shown s x y = go (within s.rect x y) refl
   where
     go : (b : Bool) → within s.rect x y ≡ b → components_of (shown s x y) ≡ s.components
-    go true is = rw is (components_in s.depth s.components _ _)
+    go true is = rw is (pixel_components s.depth s.components _ _)
     go false is = rw is (components_zero s.components)
 
 pub not_converted : (depth : Depth) (c : Components) (s : Stored) (through : List Step) (x y : ℤ) → s.depth ≡ depth → s.components ≡ c → through ≡ [] → image_pixel depth c s through x y ≡ shown s x y
@@ -180,3 +173,7 @@ if_some (Some v) P Q h p = h v p
 pub nil_of : {A : Type 0} (xs : List A) → length xs ≡ 0 → xs ≡ []
 nil_of [] e = refl
 nil_of (x ∷ xs) e = absurd (omega arith)
+
+-- a column within a rectangle, as the code counts it
+pub column_is : (x1 x2 left : ℤ) (i : ℕ) → negsuc 1073741823 ≤ℤ x1 → x2 ≤ℤ pos 1073741824 → left ≡ x1 → x1 +ℤ pos (int_gap x1 x2) ≡ x2 → i < int_gap x1 x2 → to_z w64 (of_z w64 (left +ℤ to_z w64 i)) ≡ x1 +ℤ pos i
+column_is x1 x2 left i low high same whole below = omega (arith, ints)

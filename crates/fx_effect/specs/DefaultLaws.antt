@@ -1,4 +1,5 @@
--- Laws of answers that many effects give: the frame and the region that were asked for, and the region of an input clip.
+-- Laws of answers that many effects give: the frame and the region that were asked for, and the region of an input
+-- clip.
 use Rattle.std.specs.Prelude.{◌≡◌, ℕ, ◌+◌, ◌<◌, ℤ, Bool, false, List, [], ◌∷◌, length, All, refl}
 use Rattle.std.specs.List.{AllZip}
 use Rattle.std.proofs.Common.{zero, suc, inl, arith}
@@ -6,12 +7,14 @@ use Rattle.std.proofs.lemmas.Int.{ints}
 use Rattle.std.proofs.lemmas.List.Elements.{All-nil, All-cons, All-head}
 use Rattle.std.proofs.lemmas.Slice.Zip.{AllZip-long}
 use Rattle.fx_base.specs.Bounds.{Bounds, IsRect, none}
-use Rattle.fx_base.specs.Rect.{Holds}
+use Rattle.fx_base.proofs.RectLaws.{IsUpTo-more, IsUpTo-none}
+use Rattle.fx_base.specs.Rect.{Holds, IsUpTo}
 use Rattle.fx_effect.specs.Tap.{tap}
 use Rattle.fx_effect.specs.Shape.{Clip, MayBe}
-use Rattle.fx_effect.specs.Default.{region_of, default_spans}
+use Rattle.fx_effect.specs.Default.{default_spans}
+use Rattle.fx_props.specs.Entries.{region_of}
 use Rattle.fx_effect.specs.Asked.{IsWindow, AreRegions}
-use Rattle.fx_effect.specs.Laws.{IsCovered, IsNearSpan, IsUpTo}
+use Rattle.fx_effect.specs.Laws.{IsCovered, IsNearSpan}
 use Rattle.fx_effect.specs.declared.values.Values.{Values}
 
 -- the current frame is near itself
@@ -32,41 +35,19 @@ flag_for_each clips connected may = AllZip-long MayBe clips connected may
 
 -- ---- rectangles that reach no further
 
-pub IsUpTo-more : (n : ℕ) (r : Bounds) → IsUpTo n r → IsUpTo (n + 32768) r
-IsUpTo-more n r up_to =
-    let left = up_to.left in
-    let bottom = up_to.bottom in
-    let right = up_to.right in
-    let top = up_to.top in
-    record {
-      left = (omega (arith, ints), omega (arith, ints));
-      bottom = (omega (arith, ints), omega (arith, ints));
-      right = (omega (arith, ints), omega (arith, ints));
-      top = (omega (arith, ints), omega (arith, ints));
-    }
-
-none_up_to : (n : ℕ) → IsUpTo n none
-none_up_to n =
-    record {
-      left = (omega (arith, ints), omega (arith, ints));
-      bottom = (omega (arith, ints), omega (arith, ints));
-      right = (omega (arith, ints), omega (arith, ints));
-      top = (omega (arith, ints), omega (arith, ints));
-    }
-
 -- the first of the rectangles that were handed in, and the second
 pub first_near : (n : ℕ) (r : Bounds) (others : List Bounds) → All (IsUpTo n) (r ∷ others) → IsUpTo (n + 32768) r
-first_near n r others up_to = IsUpTo-more n r (All-head (IsUpTo n) r others up_to)
+first_near n r others up_to = IsUpTo-more n (n + 32768) r (omega arith) (All-head (IsUpTo n) r others up_to)
 
 pub second_near : (n : ℕ) (p r : Bounds) → All (IsUpTo n) (p ∷ r ∷ []) → IsUpTo (n + 32768) r
-second_near n p r up_to = IsUpTo-more n r (up_to 1 p (omega arith))
+second_near n p r up_to = IsUpTo-more n (n + 32768) r (omega arith) (up_to 1 p (omega arith))
 
 -- ---- the region of a clip
 
 -- it is no further than the rectangles that were handed in
 pub region_near : (n clip : ℕ) (p : Bounds) (regions : List Bounds) → All (IsUpTo n) (p ∷ regions) → IsUpTo (n + 32768) (region_of regions clip)
-region_near n clip p [] up_to = none_up_to (n + 32768)
-region_near n zero p (r ∷ regions) up_to = IsUpTo-more n r (up_to 1 p (omega arith))
+region_near n clip p [] up_to = IsUpTo-none (n + 32768)
+region_near n zero p (r ∷ regions) up_to = IsUpTo-more n (n + 32768) r (omega arith) (up_to 1 p (omega arith))
 region_near n (suc clip) p (r ∷ regions) up_to =
     region_near n clip p regions (All-cons (IsUpTo n) p regions (All-head (IsUpTo n) p (r ∷ regions) up_to) (λ k d low. up_to (suc (suc k)) d (omega arith)))
 

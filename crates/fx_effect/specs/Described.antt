@@ -5,9 +5,7 @@ use Rattle.fx_pixel.specs.declared.Depth.{Depth}
 use Rattle.fx_pixel.specs.declared.Depth.TheVariants as depths
 use Rattle.fx_pixel.specs.declared.Components.{Components}
 use Rattle.fx_pixel.specs.declared.Components.TheVariants as components
-use Rattle.fx_props.specs.declared.value.PropKind.TheVariants as kind
-use Rattle.fx_props.specs.declared.value.PropValue.{PropValue}
-use Rattle.fx_props.specs.declared.value.PropValue.TheVariants as value
+use Rattle.fx_props.specs.declared.names.TheConstants.{LABEL, CONTEXTS, DEPTHS, TEMPORAL, TILES, SAFETY, NAME, OPTIONAL, COMPONENTS}
 use Rattle.fx_props.specs.Set.{Set}
 use Rattle.fx_effect.specs.declared.action.Context.{Context}
 use Rattle.fx_effect.specs.declared.action.Context.TheVariants as context
@@ -15,7 +13,7 @@ use Rattle.fx_effect.specs.declared.action.Safety.{Safety}
 use Rattle.fx_effect.specs.declared.action.Safety.TheVariants as safety
 use Rattle.fx_effect.specs.declared.describe.Description.{Description}
 use Rattle.fx_effect.specs.Shape.{Clip, Shape, is_mask}
-use Rattle.fx_effect.specs.Sets.{Entry, flag, HasValues}
+use Rattle.fx_props.specs.Entries.{Entry, text_entry, texts_entry, flag_entry, HasValues}
 
 abbrev pub context_text : Context → List ℕ
 context_text context.Generator = codes "OfxImageEffectContextGenerator"
@@ -36,19 +34,16 @@ safety_text safety.Unsafe = codes "OfxImageEffectRenderUnsafe"
 safety_text safety.InstanceSafe = codes "OfxImageEffectRenderInstanceSafe"
 safety_text safety.FullySafe = codes "OfxImageEffectRenderFullySafe"
 
--- a list of texts
-abbrev pub texts : {A : Type 0} → (A → List ℕ) → List A → List PropValue
-texts text items = map (λ a. value.Text (text a)) items
-
--- what `describe` writes, by the label, the contexts, the depths, whether other frames are read, whether tiles are rendered, and the thread safety
+-- what `describe` writes, by the label, the contexts, the depths, whether other frames are read, whether tiles are
+-- rendered, and the thread safety
 abbrev pub description_of : List ℕ → List Context → List Depth → Bool → Bool → Safety → List Entry
 description_of label contexts depths temporal tiles s =
-    record { name = codes "OfxPropLabel"; kind = kind.Text; values = value.Text label ∷ [] }
-    ∷ record { name = codes "OfxImageEffectPropSupportedContexts"; kind = kind.Text; values = texts context_text contexts }
-    ∷ record { name = codes "OfxImageEffectPropSupportedPixelDepths"; kind = kind.Text; values = texts depth_text depths }
-    ∷ record { name = codes "OfxImageEffectPropTemporalClipAccess"; kind = kind.Int; values = flag temporal ∷ [] }
-    ∷ record { name = codes "OfxImageEffectPropSupportsTiles"; kind = kind.Int; values = flag tiles ∷ [] }
-    ∷ record { name = codes "OfxImageEffectPluginRenderThreadSafety"; kind = kind.Text; values = value.Text (safety_text s) ∷ [] }
+    text_entry LABEL.now label
+    ∷ texts_entry CONTEXTS.now (map context_text contexts)
+    ∷ texts_entry DEPTHS.now (map depth_text depths)
+    ∷ flag_entry TEMPORAL.now temporal
+    ∷ flag_entry TILES.now tiles
+    ∷ text_entry SAFETY.now (safety_text s)
     ∷ []
 
 abbrev pub description : Shape → List Entry
@@ -61,9 +56,9 @@ clip_components_of s clip = if is_mask clip.name then components.Alpha ∷ [] el
 -- what the set of a clip has
 abbrev pub clip_description : Clip → List Components → List Entry
 clip_description clip cs =
-    record { name = codes "OfxPropName"; kind = kind.Text; values = value.Text clip.name ∷ [] }
-    ∷ record { name = codes "OfxImageClipPropOptional"; kind = kind.Int; values = flag clip.optional ∷ [] }
-    ∷ record { name = codes "OfxImageEffectPropSupportedComponents"; kind = kind.Text; values = texts components_text cs }
+    text_entry NAME.now clip.name
+    ∷ flag_entry OPTIONAL.now clip.optional
+    ∷ texts_entry COMPONENTS.now (map components_text cs)
     ∷ []
 
 -- the set describes the clip
@@ -76,4 +71,5 @@ DescribeClips s c sets = AllZip (DescribesClip s) (s.clips c) sets
 
 -- the same of a description
 abbrev pub description_entries : Description → List Entry
-description_entries d = description_of d.label.now d.contexts.now d.depths.now d.temporal d.tiles d.safety
+description_entries d =
+    description_of d.label.now d.contexts.now d.depths.now d.temporal d.tiles d.safety

@@ -1,5 +1,6 @@
--- What an effect may read: pieces that stand for a clip at a frame, all shown at one depth and each clip with its components.
-use Rattle.std.specs.Prelude.{ℕ, ℤ, Bool, ◌&&◌, List, [], ◌∷◌, nat_eq, slice_index_or, if◌then◌else◌}
+-- What an effect may read: pieces that stand for a clip at a frame, all shown at one depth and each clip with its
+-- components.
+use Rattle.std.specs.Prelude.{◌≡◌, ◌<◌, ℕ, ℤ, Bool, ◌&&◌, List, [], ◌∷◌, length, nat_eq, slice_index_or, if◌then◌else◌}
 use Rattle.std.specs.Ordering.{int_eq}
 use Rattle.fx_base.specs.Bounds.{Bounds}
 use Rattle.fx_base.specs.Rect.{within}
@@ -7,7 +8,7 @@ use Rattle.fx_pixel.specs.declared.Depth.{Depth}
 use Rattle.fx_pixel.specs.declared.Components.{Components}
 use Rattle.fx_pixel.specs.declared.Components.TheVariants as components
 use Rattle.fx_pixel.specs.declared.Pixel.{Pixel}
-use Rattle.fx_pixel.specs.Pixel.{zero, convert}
+use Rattle.fx_pixel.specs.Pixel.{zero, convert, components_of, IsOfDepth}
 use Rattle.fx_image.specs.Stored.{Stored, shown}
 use Rattle.fx_effect.specs.declared.steps.Step.{Step}
 use Rattle.fx_effect.specs.Tap.{Tap, tap}
@@ -50,7 +51,12 @@ piece_pixel depth c s x y = image_pixel depth c s.image s.through x y
 -- the pixel of the first piece that has the place, and zero where none has
 abbrev pub first_pixel : Depth → Components → List GivenPiece → Tap → Pixel
 first_pixel depth c [] t = zero c
-first_pixel depth c (s ∷ pieces) t = if holds_tap s t then piece_pixel depth c s t.x t.y else first_pixel depth c pieces t
+first_pixel depth c (s ∷ pieces) t =
+    if holds_tap s t then piece_pixel depth c s t.x t.y else first_pixel depth c pieces t
+
+-- the same of a clip at a frame, by the column and the row
+abbrev pub pieces_pixel : Depth → Components → List GivenPiece → ℕ → ℤ → ℤ → ℤ → Pixel
+pieces_pixel depth c pieces clip frame x y = first_pixel depth c pieces (tap clip frame x y)
 
 -- the components of a clip
 abbrev pub clip_components : Given → ℕ → Components
@@ -63,3 +69,14 @@ input_pixel given t = first_pixel given.depth (clip_components given t.clip) giv
 -- the pixel of a clip at a frame, by the column and the row
 abbrev pub row_pixel : Given → ℕ → ℤ → ℤ → ℤ → Pixel
 row_pixel given clip frame x y = input_pixel given (tap clip frame x y)
+
+-- the clip is there, and seen at this depth and in these components
+pub record ShowsClip (given : Given) (clip : ℕ) (depth : Depth) (c : Components) : Type 0 where
+  pub there : clip < length given.components
+  pub depth_is : given.depth ≡ depth
+  pub components_are : clip_components given clip ≡ c
+
+-- every pixel that is read is of the depth, and of the components of its clip
+pub record PixelsFit (given : Given) : Type 0 where
+  pub depth : (t : Tap) → IsOfDepth given.depth (input_pixel given t)
+  pub components : (t : Tap) → components_of (input_pixel given t) ≡ clip_components given t.clip

@@ -1,5 +1,6 @@
--- What an effect describes itself as: its contexts, depths and components, and in each context its input clips and its parameters (OpenFX 1.4, "Image Effect Descriptors", "Image Effect Contexts").
-use Rattle.std.specs.Prelude.{◌≡◌, ◌≢◌, ◌≤◌, ◌<◌, ℕ, ℤ, pos, ◌≤ℤ◌, ◌<ℤ◌, Bool, ◌&&◌, true, false, List, [], ◌∷◌, map, length, codes, All, AllPairs, if◌then◌else◌}
+-- What an effect describes itself as: its contexts, depths and components, and in each context its input clips
+-- and its parameters (OpenFX 1.4, "Image Effect Descriptors", "Image Effect Contexts").
+use Rattle.std.specs.Prelude.{◌≡◌, ◌≢◌, ◌≤◌, ◌<◌, ℕ, ℤ, pos, ◌≤ℤ◌, ◌<ℤ◌, Bool, ◌&&◌, true, false, List, [], ◌∷◌, map, length, codes, All, AllPairs, IsTrue, if◌then◌else◌}
 use Rattle.std.specs.List.{Contains, AllZip, list_any}
 use Rattle.std.specs.Str.{bytes_eq}
 use Rattle.fx_base.specs.Bounds.{Bounds}
@@ -58,6 +59,9 @@ optional_flags s c = map (λ clip. clip.optional) (s.clips c)
 abbrev pub is_mask : List ℕ → Bool
 is_mask name = bytes_eq name (codes "Mask")
 
+abbrev pub IsMask : Clip → Type 0
+IsMask clip = IsTrue (is_mask clip.name)
+
 -- the components in which the effect sees the clip of this name, where it renders images of others
 abbrev pub shown_as : Components → List ℕ → Components
 shown_as c name = if is_mask name then components.Alpha else c
@@ -72,13 +76,18 @@ shown_components s context c = map (shown_as c) (clip_names s context)
 abbrev pub HasClips : Context → List Clip → Type 0
 HasClips context.Generator clips = clips ≡ []
 HasClips context.Filter clips = clips ≡ record { name = codes "Source"; optional = false } ∷ []
-HasClips context.Transition clips = clips ≡ record { name = codes "SourceFrom"; optional = false } ∷ record { name = codes "SourceTo"; optional = false } ∷ []
+HasClips context.Transition clips =
+    clips
+    ≡ record { name = codes "SourceFrom"; optional = false }
+    ∷ record { name = codes "SourceTo"; optional = false }
+    ∷ []
 HasClips context.General clips = Unit {0}
 
--- flags are 0 or 1, and a choice is the place of one of its texts
+-- flags are 0 or 1, and a choice is the place of one of its texts, of which there are fewer than 65,536
 abbrev pub HasRange : ParamKind → ParamDef → Type 0
 HasRange param.Bool def = (pos 0 ≤ℤ def.least) × (def.greatest ≤ℤ pos 1)
-HasRange param.Choice def = (pos 0 ≤ℤ def.least) × (def.greatest <ℤ pos (length def.choices))
+HasRange param.Choice def =
+    (pos 0 ≤ℤ def.least) × (def.greatest <ℤ pos (length def.choices)) × (length def.choices < 65536)
 HasRange kind def = Unit {0}
 
 pub record IsParam (def : ParamDef) : Type 0 where
@@ -105,6 +114,9 @@ pub record IsShape (s : Shape) : Type 0 where
   pub rgba : Contains s.components components.Rgba
   pub contexts : (c : Context) → Contains s.contexts c → IsContext s c
   pub clip_labels : (c : Context) → Contains s.contexts c → All (λ clip. IsLabel clip.name) (s.clips c)
+  -- where it has no clip that could tell the components, it makes images of any
+  pub without_clips : (c : Context) → Contains s.contexts c → All IsMask (s.clips c)
+      → Contains s.components components.Alpha
 
 -- ---- the values that an effect may be asked with
 

@@ -1,16 +1,18 @@
 //! What an effect writes of itself (OpenFX 1.4, "kOfxActionDescribe",
 //! "kOfxImageEffectActionDescribeInContext").
-ghost use Rattle.std.specs.Prelude.{◌≡◌, ℕ, List, [], ◌∷◌, All, IfOk, OnOk};
-ghost use Rattle.fx_props.specs.declared.value.PropKind.TheVariants as kind;
-ghost use Rattle.fx_props.specs.declared.value.PropValue.TheVariants as value;
-ghost use Rattle.fx_effect.specs.Sets.{flag, AwaitEntries, HasValues, Wrote};
-ghost use Rattle.fx_effect.specs.Described.{context_text, depth_text, components_text, safety_text, texts, description_entries, clip_description};
+ghost use Rattle.std.specs.Prelude.{◌≡◌, ℕ, List, All, IfOk, OnOk, map};
+ghost use Rattle.fx_props.specs.Entries.{AwaitEntries, HasValues, Wrote, texts_entry};
+ghost use Rattle.fx_effect.specs.Shape.{Shape};
+ghost use Rattle.fx_effect.specs.Described.{context_text, depth_text, components_text, safety_text};
+ghost use Rattle.fx_effect.specs.Described.{description, description_entries, clip_description};
 
-use crate::sets::{PropEntry, name_of, set_of, write_entries};
 use crate::{Context, Safety};
-use fx_base::Memory;
+use fx_base::{Memory, Name};
 use fx_pixel::{Components, Depth};
-use fx_props::{PropKind, PropSet, PropValue};
+use fx_props::names::{
+    COMPONENTS, CONTEXTS, DEPTHS, LABEL, NAME, OPTIONAL, SAFETY, TEMPORAL, TILES,
+};
+use fx_props::{PropEntry, PropKind, PropSet, PropValue, blank, set_of, write_entries};
 use std::alloc::Global;
 
 /// What an effect says of itself, for `describe`: its label, the contexts and depths that it supports,
@@ -39,19 +41,31 @@ impl Description<'_> {
         ensures { IfOk result (λ entries. entries.items ≡ description_entries self.now) }
     {
         let entries = vec![in alloc;
-            text_entry(alloc, "OfxPropLabel", self.label)?,
-            words_entry(alloc, "OfxImageEffectPropSupportedContexts", self.contexts)?,
-            words_entry(alloc, "OfxImageEffectPropSupportedPixelDepths", self.depths)?,
-            flag_entry(alloc, "OfxImageEffectPropTemporalClipAccess", self.temporal)?,
-            flag_entry(alloc, "OfxImageEffectPropSupportsTiles", self.tiles)?,
-            text_entry(
-                alloc,
-                "OfxImageEffectPluginRenderThreadSafety",
-                self.safety.text()
-            )?,
+            PropEntry::text(alloc, LABEL, self.label)?,
+            words(alloc, CONTEXTS, self.contexts)?,
+            words(alloc, DEPTHS, self.depths)?,
+            PropEntry::flag(alloc, TEMPORAL, self.temporal)?,
+            PropEntry::flag(alloc, TILES, self.tiles)?,
+            PropEntry::text(alloc, SAFETY, self.safety.text())?,
         ]?;
         Ok(entries)
     }
+}
+
+/// The set that `describe` is handed: a property for each that it writes, with no value yet
+/// (kOfxActionDescribe).
+pub fn descriptor(alloc: Global) -> Result<PropSet, Memory>
+    ensures { (s : Shape) → IfOk result (λ set. AwaitEntries set (description s)) }
+{
+    let defs = vec![in alloc;
+        blank(alloc, LABEL, PropKind::Text)?,
+        blank(alloc, CONTEXTS, PropKind::Text)?,
+        blank(alloc, DEPTHS, PropKind::Text)?,
+        blank(alloc, TEMPORAL, PropKind::Int)?,
+        blank(alloc, TILES, PropKind::Int)?,
+        blank(alloc, SAFETY, PropKind::Text)?,
+    ]?;
+    PropSet::new(alloc, defs)
 }
 
 /// The set that describes an input clip, for `describe_in_context`: its name, whether it may be left
@@ -62,12 +76,13 @@ pub fn clip_set(
     optional: bool,
     components: &[Components],
 ) -> Result<PropSet, Memory>
-    ensures { IfOk result (λ set. All (HasValues set) (clip_description (record { name = name.now; optional = optional }) components.now)) }
+    ensures { IfOk result (λ set. All (HasValues set)
+        (clip_description (record { name = name.now; optional = optional }) components.now)) }
 {
     let entries = vec![in alloc;
-        text_entry(alloc, "OfxPropName", name)?,
-        flag_entry(alloc, "OfxImageClipPropOptional", optional)?,
-        words_entry(alloc, "OfxImageEffectPropSupportedComponents", components)?,
+        PropEntry::text(alloc, NAME, name)?,
+        PropEntry::flag(alloc, OPTIONAL, optional)?,
+        words(alloc, COMPONENTS, components)?,
     ]?;
     set_of(alloc, entries)
 }
@@ -127,27 +142,19 @@ impl Word for Safety {
     }
 }
 
-fn text_entry(alloc: Global, name: &str, text: &str) -> Result<PropEntry, Memory>
-    ensures { IfOk result (λ e. e ≡ record { name = name.now; kind = kind.Text; values = value.Text text.now ∷ [] }) }
-{
-    let values = vec![in alloc; PropValue::Text(name_of(alloc, text)?)]?;
-    PropEntry::new(name_of(alloc, name)?, PropKind::Text, values)
-}
-
-// 1 for yes and 0 for no.
-fn flag_entry(alloc: Global, name: &str, yes: bool) -> Result<PropEntry, Memory>
-    ensures { IfOk result (λ e. e ≡ record { name = name.now; kind = kind.Int; values = flag yes ∷ [] }) }
-{
-    let values = vec![in alloc; PropValue::Int(i64::from(yes))]?;
-    PropEntry::new(name_of(alloc, name)?, PropKind::Int, values)
-}
-
-fn words_entry<W: Word>(alloc: Global, name: &str, words: &[W]) -> Result<PropEntry, Memory>
-    ensures { IfOk result (λ e. e ≡ record { name = name.now; kind = kind.Text; values = texts W.spelling words.now }) }
+// These words under a name.
+fn words<W: Word>(alloc: Global, name: &str, words: &[W]) -> Result<PropEntry, Memory>
+    ensures { IfOk result (λ e. e ≡ texts_entry name.now (map W.spelling words.now)) }
 {
     let mut values = Vec::new(alloc);
     for word in words {
         values.push(PropValue::Text(name_of(alloc, word.text())?))?;
     }
     PropEntry::new(name_of(alloc, name)?, PropKind::Text, values)
+}
+
+fn name_of(alloc: Global, text: &str) -> Result<Name, Memory>
+    ensures { IfOk result (λ name. name ≡ text.now) }
+{
+    Ok(Name::of(String::from_str(alloc, text)?))
 }

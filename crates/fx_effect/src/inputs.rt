@@ -1,5 +1,5 @@
 //! What an effect may read.
-ghost use Rattle.std.specs.Prelude.{◌≡◌, ◌≤◌, ◌<◌, ◌*◌, ℤ, [], ◌∷◌, ◌++◌, IfOk, OnOk, OnErr, IfSome, length};
+ghost use Rattle.std.specs.Prelude.{◌≡◌, ◌≤◌, ◌<◌, ◌*◌, ℕ, slice_index, ℤ, [], ◌∷◌, ◌++◌, IfOk, OnOk, OnErr, IfSome, length, map};
 ghost use Rattle.fx_base.specs.Rect.{columns};
 ghost use Rattle.fx_pixel.specs.Pixel.{IsOfDepth, components_of};
 ghost use Rattle.fx_image.specs.Stored.{pixel_size};
@@ -35,8 +35,8 @@ impl<'a> Model for Inputs<'a> {
 impl<'a> Inputs<'a> {
     ghost use Rattle.std.specs.Prelude.{map};
     ghost use Rattle.fx_effect.specs.Tap.{tap};
-    ghost use Rattle.fx_effect.specs.Given.{input_pixel, clip_components, row_pixel};
-    ghost use Rattle.fx_effect.specs.Rows.{ShowsRow};
+    ghost use Rattle.fx_effect.specs.Given.{input_pixel, clip_components, row_pixel, PixelsFit};
+    ghost use Rattle.fx_effect.specs.Rows.{IsLine, ShowsRow};
     ghost use Rattle.fx_effect.specs.Placed.{IsPiece, piece_at};
 
     /// No pixels yet, for clips of these components.
@@ -45,7 +45,8 @@ impl<'a> Inputs<'a> {
         depth: Depth,
         components: Vec<Components>,
     ) -> Result<Inputs<'a>, Memory>
-        ensures { IfOk result (λ inputs. inputs ≡ record { depth = depth; components = components.items; pieces = [] }) }
+        ensures { IfOk result (λ inputs. inputs
+            ≡ record { depth = depth; components = components.items; pieces = [] }) }
     {
         Ok(Inputs {
             depth,
@@ -56,10 +57,17 @@ impl<'a> Inputs<'a> {
 
     /// Adds a piece that stands for a clip at a frame, behind the others. At want of memory it isn't
     /// added.
-    pub fn push(&mut self, clip: u32, frame: i64, piece: Piece<'a>) -> Result<(), Memory>
+    pub fn push(
+        &mut self,
+        _alloc: Global,
+        clip: u32,
+        frame: i64,
+        piece: Piece<'a>,
+    ) -> Result<(), Memory>
         requires clip { clip < length self.old.components }
         requires piece { IsPiece piece }
-        ensures ok { OnOk result (self.new ≡ record self.old { pieces = self.old.pieces ++ piece_at clip frame piece.entry ∷ [] }) }
+        ensures ok { let pieces = self.old.pieces ++ piece_at clip frame piece.entry ∷ [] in
+            OnOk result (self.new ≡ record self.old { pieces = pieces }) }
         ensures memory { OnErr result (self.new ≡ self.old) }
     {
         self.pieces.push(Placed { clip, frame, piece })?;
@@ -79,12 +87,38 @@ impl<'a> Inputs<'a> {
         pixel_in_pieces(pieces, self.depth, components, clip, frame, x, y)
     }
 
-    /// The bytes of row y of the rectangle, where one piece has the whole row and converts nothing; each
-    /// pixel there is what `at` gives. None says nothing of the pixels.
-    pub fn row(&self, clip: u32, frame: i64, rect: Rect, y: i64) -> Option<&[u8]>
+    /// Every pixel that `at` gives is of the depth, and of the components of its clip. It computes nothing.
+    pub fn pixels_fit(&self)
+        ensures { PixelsFit self.now }
+    {
+        pieces_fit(self.pieces.as_slice());
+    }
+
+    /// Writes the pixels of row y of the rectangle into a row of bytes: each is what `at` gives.
+    pub fn read_row(&self, clip: u32, frame: i64, rect: Rect, y: i64, row: &mut [u8])
+        requires clip { clip < length self.now.components }
+        requires row { IsLine self.now.depth (clip_components self.now clip) rect y row.old }
+        ensures { let c = clip_components self.now clip in
+            ShowsRow self.now.depth c rect y (row_pixel self.now clip frame) row.new }
+    {
+        match self.row(clip, frame, rect, y) {
+            Some(bytes) => row.copy_from_slice(bytes),
+            None => {
+                let components = self.components[clip as usize];
+                let pieces = self.pieces.as_slice();
+                read_pieces(pieces, self.depth, components, clip, frame, rect, y, row);
+            }
+        }
+    }
+
+    // The bytes of row y of the rectangle, where one piece lends the whole row and converts nothing; each
+    // pixel there is what `at` gives. None says nothing of the pixels.
+    pub(crate) fn row(&self, clip: u32, frame: i64, rect: Rect, y: i64) -> Option<&[u8]>
         requires { clip < length self.now.components }
-        ensures long { IfSome result (λ bytes. length bytes.now ≡ columns rect * pixel_size self.now.depth (clip_components self.now clip)) }
-        ensures pixels { IfSome result (λ bytes. ShowsRow self.now.depth (clip_components self.now clip) rect y (row_pixel self.now clip frame) bytes.now) }
+        ensures long { let c = clip_components self.now clip in
+            IfSome result (λ bytes. length bytes.now ≡ columns rect * pixel_size self.now.depth c) }
+        ensures pixels { let c = clip_components self.now clip in
+            IfSome result (λ bytes. ShowsRow self.now.depth c rect y (row_pixel self.now clip frame) bytes.now) }
     {
         let components = self.components[clip as usize];
         let pieces = self.pieces.as_slice();
@@ -92,10 +126,11 @@ impl<'a> Inputs<'a> {
     }
 }
 
-ghost use Rattle.std.specs.Prelude.{map};
-ghost use Rattle.fx_effect.specs.Tap.{tap};
-ghost use Rattle.fx_effect.specs.Given.{first_pixel};
-ghost use Rattle.fx_effect.specs.Rows.{ShowsRow};
+ghost use Rattle.fx_effect.specs.Tap.{Tap, tap};
+ghost use Rattle.fx_effect.specs.Given.{first_pixel, pieces_pixel};
+ghost use Rattle.fx_pixel.specs.declared.Depth.{Depth as Depths};
+ghost use Rattle.fx_pixel.specs.declared.Components.{Components as Samples};
+ghost use Rattle.fx_effect.specs.Rows.{IsLine, ShowsRow};
 ghost use Rattle.fx_effect.specs.Placed.{given_piece, ArePlaced};
 
 fn pixel_in_pieces(
@@ -120,6 +155,15 @@ fn pixel_in_pieces(
     Pixel::zero(components)
 }
 
+// Each pixel that they show is of the depth and the components that are asked for. It computes nothing.
+fn pieces_fit(pieces: &[Placed<'_>])
+    requires { ArePlaced pieces.now }
+    ensures { (depth : Depths) (c : Samples) (t : Tap) → let p = first_pixel depth c (map given_piece pieces.now) t in
+        IsOfDepth depth p × (components_of p ≡ c) }
+{
+    let _len = pieces.len();
+}
+
 fn row_in_pieces<'s>(
     pieces: &'s [Placed<'_>],
     depth: Depth,
@@ -131,7 +175,8 @@ fn row_in_pieces<'s>(
 ) -> Option<&'s [u8]>
     requires { ArePlaced pieces.now }
     ensures long { IfSome result (λ bytes. length bytes.now ≡ columns rect * pixel_size depth components) }
-    ensures pixels { IfSome result (λ bytes. ShowsRow depth components rect y (λ x y. first_pixel depth components (map given_piece pieces.now) (tap clip frame x y)) bytes.now) }
+    ensures pixels { let of = pieces_pixel depth components (map given_piece pieces.now) clip frame in
+        IfSome result (λ bytes. ShowsRow depth components rect y of bytes.now) }
 {
     for placed in pieces {
         if placed.meets(clip, frame, rect, y) {
@@ -139,4 +184,35 @@ fn row_in_pieces<'s>(
         }
     }
     None
+}
+
+// The last piece is painted first, so that the first one that has a place is seen there.
+fn read_pieces(
+    pieces: &[Placed<'_>],
+    depth: Depth,
+    components: Components,
+    clip: u32,
+    frame: i64,
+    rect: Rect,
+    y: i64,
+    row: &mut [u8],
+)
+    requires pieces { ArePlaced pieces.now }
+    requires row { IsLine depth components rect y row.old }
+    ensures { let of = pieces_pixel depth components (map given_piece pieces.now) clip frame in
+        ShowsRow depth components rect y of row.new }
+{
+    clear(row);
+    for n in 0..pieces.len() {
+        let placed = &pieces[pieces.len() - 1 - n];
+        placed.paint_for(depth, components, clip, frame, rect, y, row);
+    }
+}
+
+fn clear(row: &mut [u8])
+    ensures { (i : ℕ) → slice_index row.new i ≡ 0 }
+{
+    for byte in row.iter_mut() {
+        *byte = 0;
+    }
 }

@@ -5,26 +5,32 @@
 #![tactic(auto)]
 
 mod action;
+mod args;
+mod asked;
 mod describe;
 mod effect;
 mod inputs;
+mod pairs;
 mod piece;
+mod places;
+mod points;
 mod rows;
-mod sets;
+mod runs;
 mod steps;
 #[cfg(test)]
 mod tests;
 mod values;
 
 pub use action::{Context, Identity, Reply, Safety};
-pub use describe::{Description, clip_set};
+pub use args::{interest_args, region_answer, sequence_args, time_args, window_args};
+pub use asked::{asked_region, asked_window, region_of};
+pub use describe::{Description, clip_set, descriptor};
 pub use effect::{Catalogue, ImageEffect};
 pub use inputs::Inputs;
+pub use pairs::{PairKernel, Reading, fill_pairs};
 pub use piece::Piece;
-pub use rows::{RowKernel, fill, offset};
-pub use sets::{
-    PropEntry, blank, clip_blanks, clip_set_of_blanks, composed, set_of, write_entries,
-    write_frames, write_interest, write_region,
-};
+pub use places::{PlaceKernel, fill_places};
+pub use points::{PointKernel, fill_points};
+pub use rows::{RowKernel, fill_with};
 pub use steps::{Step, Steps};
 pub use values::{Flags, Numbers, Values};

@@ -1,21 +1,17 @@
-ghost use Rattle.std.specs.Prelude.{◌≡◌, [], ◌∷◌, pos, IfOk, codes};
+ghost use Rattle.std.specs.Prelude.{◌≡◌, pos, IfOk};
 ghost use Rattle.fx_base.specs.Rect.{Holds, IsNear, columns, rows};
 ghost use Rattle.fx_pixel.specs.Pixel.{IsOfDepth, components_of};
 ghost use Rattle.fx_pixel.specs.declared.Components.TheVariants.{Rgba as RgbaSamples};
-ghost use Rattle.fx_props.specs.declared.value.PropKind.TheVariants as kind;
-ghost use Rattle.fx_effect.specs.Sets.{AwaitEntries, AreBlank};
-ghost use Rattle.fx_effect.specs.Described.{description_entries};
-ghost use Rattle.fx_effect.specs.declared.describe.Description.{Description as Descriptions};
 
 use crate::{
-    Context, Description, Flags, Inputs, Numbers, Piece, PropEntry, Safety, Step, Steps, blank,
-    clip_set, clip_set_of_blanks, set_of, write_frames, write_interest, write_region,
+    Context, Description, Flags, Inputs, Numbers, Piece, Safety, Step, Steps, Values, clip_set,
+    descriptor,
 };
-use fx_base::{Fix, Memory, Name, Names, Rect};
+use fx_base::{Memory, Rect};
 use fx_image::Image;
 use fx_pixel::{Components, Depth, Pixel};
-use fx_props::{PropKind, PropSet};
 use std::alloc::Global;
+use std::sync::Arc;
 use std::test::Fail;
 
 const GREY: Pixel = Pixel::Rgba {
@@ -55,6 +51,20 @@ fn lists_give_back_what_they_hold(rt: HostRuntime) -> Result<(), Fail> {
     let flags = Flags::of(vec![in alloc; true, false]?);
     assert_eq!(rt; flags.items(), [true, false].as_slice());
     assert_eq!(rt; flags.into_items().as_slice(), [true, false].as_slice());
+    let values = Values {
+        frame: 3,
+        numbers: Numbers::of(vec![in alloc; 7, -8]?),
+        connected: Flags::of(vec![in alloc; true]?),
+        project: Rect::of(0, 0, 2, 1),
+    };
+    let others = Values {
+        frame: 3,
+        numbers: Numbers::of(vec![in alloc; 7, -8]?),
+        connected: Flags::of(vec![in alloc; false]?),
+        project: Rect::of(0, 0, 2, 1),
+    };
+    assert_eq!(rt; (values.number(1), values.number(2)), (-8, 0));
+    assert!(rt; values == values && values != others);
     let step = Step {
         depth: Depth::Byte,
         components: Components::Alpha,
@@ -74,87 +84,51 @@ fn lists_give_back_what_they_hold(rt: HostRuntime) -> Result<(), Fail> {
     Ok(())
 }
 
-// An image of two pixels, the second with this pixel.
-fn pair(alloc: Global, rect: Rect, depth: Depth, p: Pixel) -> Result<Image, Memory>
+// An image of two pixels, one of them this one.
+fn pair(alloc: Global, rect: Rect, depth: Depth, x: i64, p: Pixel) -> Result<Image, Memory>
     requires near { IsNear rect }
     requires two { columns rect ≡ 2 }
     requires row { rows rect ≡ 1 }
-    requires place { Holds rect (pos 1) (pos 0) }
+    requires place { Holds rect x (pos 0) }
     requires components { components_of p ≡ RgbaSamples }
     requires depth { IsOfDepth depth p }
     ensures { IfOk result (λ image. (image.rect ≡ rect) × (image.depth ≡ depth) × (image.components ≡ RgbaSamples)) }
 {
     let mut image = Image::new(alloc, rect, depth, Components::Rgba, 16)?;
-    image.put(1, 0, p);
+    image.put(x, 0, p);
     Ok(image)
 }
 
+// A piece of bytes with the columns 0 and 1, and one of short samples behind it with the columns 1 and 2.
 #[test]
-fn the_first_piece_is_shown_converted(rt: HostRuntime) -> Result<(), Fail> {
+fn rows_are_read_from_pieces(rt: HostRuntime) -> Result<(), Fail> {
     let alloc = rt.alloc();
-    let short = pair(alloc, Rect::of(0, 0, 2, 1), Depth::Short, GREY)?;
-    let byte = pair(alloc, Rect::of(1, 0, 3, 1), Depth::Byte, FOUR)?;
+    let short = pair(alloc, Rect::of(1, 0, 3, 1), Depth::Short, 2, GREY)?;
+    let byte = pair(alloc, Rect::of(0, 0, 2, 1), Depth::Byte, 1, FOUR)?;
     let mut inputs = Inputs::new(alloc, Depth::Byte, vec![in alloc; Components::Rgba]?)?;
+    byte.pixels_fit();
+    let image = Arc::new(alloc, byte)?;
     let through = Steps::of(vec![in alloc;]?);
-    let view = short.view(Rect::of(0, 0, 2, 1));
-    inputs.push(0, 5, Piece::Frame { view, through })?;
+    inputs.push(alloc, 0, 5, Piece::Tile { image, through })?;
     let through = Steps::of(vec![in alloc;]?);
-    let view = byte.view(Rect::of(1, 0, 3, 1));
-    inputs.push(0, 5, Piece::Frame { view, through })?;
+    let view = short.view(Rect::of(1, 0, 3, 1));
+    inputs.push(alloc, 0, 5, Piece::Frame { view, through })?;
+    inputs.pixels_fit();
+    let mut row = [9; 20];
+    inputs.read_row(0, 5, Rect::of(-1, 0, 4, 1), 0, &mut row);
+    let shown = [
+        0, 0, 0, 0, 0, 0, 0, 0, 1, 2, 3, 4, 128, 128, 128, 128, 0, 0, 0, 0,
+    ];
+    assert_eq!(rt; row.as_slice(), shown.as_slice());
     assert_eq!(rt;
-        (inputs.at(0, 5, 0, 0), inputs.at(0, 5, 1, 0)),
-        (CLEAR, BYTE_GREY)
-    );
-    assert_eq!(rt;
-        (inputs.at(0, 5, 3, 0), inputs.at(0, 4, 1, 0)),
-        (CLEAR, CLEAR)
+        (
+            inputs.at(0, 5, 1, 0),
+            inputs.at(0, 5, 2, 0),
+            inputs.at(0, 4, 1, 0)
+        ),
+        (FOUR, BYTE_GREY, CLEAR)
     );
     Ok(())
-}
-
-#[test]
-fn rows_are_lent_where_a_piece_has_them_whole(rt: HostRuntime) -> Result<(), Fail> {
-    let alloc = rt.alloc();
-    let byte = pair(alloc, Rect::of(0, 0, 2, 1), Depth::Byte, FOUR)?;
-    let mut inputs = Inputs::new(alloc, Depth::Byte, vec![in alloc; Components::Rgba]?)?;
-    let through = Steps::of(vec![in alloc;]?);
-    let view = byte.view(Rect::of(0, 0, 2, 1));
-    inputs.push(0, 5, Piece::Frame { view, through })?;
-    let row = inputs.row(0, 5, Rect::of(1, 0, 2, 1), 0).ok_or("no row")?;
-    assert_eq!(rt; row, [1, 2, 3, 4].as_slice());
-    assert!(rt; inputs.row(0, 5, Rect::of(1, 0, 3, 1), 0).is_none());
-    assert!(rt; inputs.row(0, 4, Rect::of(1, 0, 2, 1), 0).is_none());
-    Ok(())
-}
-
-fn waiting(alloc: Global, name: &str, kind: PropKind) -> Result<PropEntry, Memory>
-    ensures { IfOk result (λ e. e ≡ record { name = name.now; kind = kind; values = [] }) }
-{
-    let name = Name::of(String::from_str(alloc, name)?);
-    Ok(PropEntry::blank(alloc, name, kind))
-}
-
-// What `describe` is handed: the properties of which it writes the values.
-fn descriptor(alloc: Global) -> Result<PropSet, Memory>
-    ensures { (d : Descriptions) → IfOk result (λ set. AwaitEntries set (description_entries d)) }
-{
-    let entries = vec![in alloc;
-        waiting(alloc, "OfxPropLabel", PropKind::Text)?,
-        waiting(alloc, "OfxImageEffectPropSupportedContexts", PropKind::Text)?,
-        waiting(
-            alloc,
-            "OfxImageEffectPropSupportedPixelDepths",
-            PropKind::Text
-        )?,
-        waiting(alloc, "OfxImageEffectPropTemporalClipAccess", PropKind::Int)?,
-        waiting(alloc, "OfxImageEffectPropSupportsTiles", PropKind::Int)?,
-        waiting(
-            alloc,
-            "OfxImageEffectPluginRenderThreadSafety",
-            PropKind::Text
-        )?,
-    ]?;
-    set_of(alloc, entries)
 }
 
 #[test]
@@ -210,72 +184,5 @@ fn a_filter_describes_itself(rt: HostRuntime) -> Result<(), Fail> {
     assert_eq!(rt; clip.get_int("OfxImageClipPropOptional", 0), Ok(1));
     let components = clip.get_text("OfxImageEffectPropSupportedComponents", 0);
     assert_eq!(rt; components.ok().unwrap_or(""), "OfxImageComponentAlpha");
-    Ok(())
-}
-
-// Blank properties of this prefix for the clips A and B.
-fn two_clips(alloc: Global, prefix: &str) -> Result<PropSet, Memory>
-    ensures { IfOk result (λ set. AreBlank set prefix.now kind.Fix (codes "A" ∷ codes "B" ∷ [])) }
-{
-    let clips = Names::of(vec![in alloc;
-        Name::of(String::from_str(alloc, "A")?),
-        Name::of(String::from_str(alloc, "B")?),
-    ]?);
-    clip_set_of_blanks(alloc, prefix, PropKind::Fix, &clips)
-}
-
-#[test]
-fn regions_and_frames_are_written(rt: HostRuntime) -> Result<(), Fail> {
-    let alloc = rt.alloc();
-    let mut interest = two_clips(alloc, "OfxImageClipPropRoI_")?;
-    let regions = [Rect::of(-1, 0, 10, 20), Rect::of(0, 0, 0, 0)];
-    write_interest(alloc, &mut interest, &["A", "B"], &regions)?;
-    let mut frames = two_clips(alloc, "OfxImageClipPropFrameRange_")?;
-    let spans: [&[(i64, i64)]; 2] = [&[(-2, 5), (7, 7)], &[(0, 1)]];
-    write_frames(alloc, &mut frames, &["A", "B"], &spans)?;
-    for (set, name, raws) in [
-        (
-            &interest,
-            "OfxImageClipPropRoI_A",
-            [-65536, 0, 655360, 1310720],
-        ),
-        (&interest, "OfxImageClipPropRoI_B", [0, 0, 0, 0]),
-        (
-            &frames,
-            "OfxImageClipPropFrameRange_A",
-            [-131072, 327680, 458752, 458752],
-        ),
-    ] {
-        for (index, raw) in [(0, raws[0]), (1, raws[1]), (2, raws[2]), (3, raws[3])] {
-            assert_eq!(rt;
-                set.get_fix(name, index),
-                Ok(Fix { raw }),
-                "{name} at {index}"
-            );
-        }
-    }
-    assert_eq!(rt; frames.dimension("OfxImageClipPropFrameRange_B"), Ok(2));
-    Ok(())
-}
-
-#[test]
-fn a_region_is_written(rt: HostRuntime) -> Result<(), Fail> {
-    let alloc = rt.alloc();
-    let name = "OfxImageEffectPropRegionOfDefinition";
-    let entries = vec![in alloc; waiting(alloc, name, PropKind::Fix)?]?;
-    let mut set = set_of(alloc, entries)?;
-    write_region(alloc, &mut set, name, Rect::of(1, 2, 640, 360))?;
-    for (index, raw) in [(0, 65536), (1, 131072), (2, 41943040), (3, 23592960)] {
-        assert_eq!(rt; set.get_fix(name, index), Ok(Fix { raw }), "at {index}");
-    }
-    Ok(())
-}
-
-#[test]
-fn a_definition_is_blank(rt: HostRuntime) -> Result<(), Fail> {
-    let alloc = rt.alloc();
-    let def = blank(alloc, "OfxPropTime", PropKind::Fix)?;
-    assert_eq!(rt; def.name.text(), "OfxPropTime");
-    assert_eq!(rt; def.start.items().len(), 0);
     Ok(())
 }

@@ -1,0 +1,13 @@
+use Rattle.std.proofs.Common.{◌≡◌, ◌<◌, ℕ, pos, ◌+ℤ◌, if◌then◌else◌}
+use Rattle.fx_base.specs.Rect.{columns, within}
+use Rattle.fx_pixel.specs.Pixel.{zero}
+use Rattle.fx_image.specs.Stored.{pixel_in}
+use Rattle.fx_effect.proofs.places.PlaceRows.fill_each.Given as goal
+
+abbrev pub invariant-loop-i : goal.invariant-loop-i
+invariant-loop-i g l =
+    record {
+      until : l.i-end ≡ columns l.fn.rect;
+      left_is : l.left ≡ l.fn.rect.x1;
+      done : (k : ℕ) → k < l.i → pixel_in l.depth l.components l.row k ≡ (if within l.self.project (l.fn.rect.x1 +ℤ pos k) l.y then g.K.PlaceKernel.of l.self.kernel.now l.depth l.components (l.fn.rect.x1 +ℤ pos k) l.y else zero l.components);
+    }

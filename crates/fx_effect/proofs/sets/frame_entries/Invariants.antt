@@ -1,7 +1,0 @@
-use Rattle.std.proofs.Common.{◌≡◌, take}
-use Rattle.fx_effect.specs.Asked.{frame_ranges}
-use Rattle.fx_effect.specs.Entries.{texts_of, spans_of}
-use Rattle.fx_effect.proofs.sets.frame_entries.Given as goal
-
-abbrev pub invariant-loop-k : goal.invariant-loop-k
-invariant-loop-k l = l.entries.items ≡ frame_ranges (texts_of (take l.k l.clips)) (spans_of l.spans)

@@ -1,6 +1,0 @@
-use Rattle.std.proofs.Common.{take}
-use Rattle.fx_effect.specs.Sets.{Wrote}
-use Rattle.fx_effect.proofs.sets.write_entries.Given as goal
-
-abbrev pub invariant-loop-entry : goal.invariant-loop-entry
-invariant-loop-entry l = Wrote (take l.entry-index l.entries) l.initial.set l.set
