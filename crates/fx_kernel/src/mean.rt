@@ -24,20 +24,20 @@ impl Model for Mean {
 
     ghost invariant = { λ m. HasFactor m.count m.factor };
 
-    ghost inverse = { λ n. record { count = n; factor = 140737488355328 / (2 * n) + 1 } };
+    ghost inverse = { λ n. record { count = n; factor = 18446744073709551616 / (2 * n) + 1 } };
 }
 
-// The quotients are those of 2^47.
-const SHIFT: u32 = 47;
+// The quotients are those of 2^64.
+const SHIFT: u32 = 64;
 
 impl Mean {
-    /// For sums of so many samples, from 1 to 129 * 129.
+    /// For sums of so many samples, from 1 to 65,536.
     pub fn of(count: u64) -> Mean
         requires some { 0 < count }
-        requires few { count ≤ 16641 }
+        requires few { count ≤ 65536 }
         ensures { result ≡ count }
     {
-        let factor = (1 << SHIFT) / (2 * count) + 1;
+        let factor = ((1 << SHIFT) / u128::from(2 * count)) as u64 + 1;
         Mean { count, factor }
     }
 
@@ -58,6 +58,7 @@ impl Mean {
         ensures value { result ≡ rounded sum self }
         ensures small { result ≤ 65535 }
     {
-        ((2 * sum + self.count) * self.factor) >> SHIFT
+        let product = u128::from(2 * sum + self.count) * u128::from(self.factor);
+        (product >> SHIFT) as u64
     }
 }

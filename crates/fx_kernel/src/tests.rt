@@ -28,10 +28,19 @@ fn means_are_rounded(rt: HostRuntime) {
         ),
         (1, 65535)
     );
-    let most = Mean::of(16641);
-    assert_eq!(rt; most.sample(Depth::Short, 1090567935), 65535);
-    assert_eq!(rt; most.sample(Depth::Short, 8320), 0);
-    assert_eq!(rt; most.sample(Depth::Short, 8321), 1);
+    let squares = Mean::of(16641);
+    assert_eq!(rt; squares.sample(Depth::Short, 1090567935), 65535);
+    assert_eq!(rt; squares.sample(Depth::Short, 8320), 0);
+    assert_eq!(rt; squares.sample(Depth::Short, 8321), 1);
+    let most = Mean::of(65536);
+    assert_eq!(rt; most.sample(Depth::Short, 4294901760), 65535);
+    assert_eq!(rt;
+        (
+            most.sample(Depth::Byte, 32767),
+            most.sample(Depth::Byte, 32768)
+        ),
+        (0, 1)
+    );
 }
 
 #[test]
