@@ -11,7 +11,7 @@ mod json;
 mod picture;
 mod plugins;
 mod running;
-mod source;
+mod graph_under;
 mod steps;
 mod tell;
 mod texts;

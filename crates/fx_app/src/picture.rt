@@ -111,7 +111,8 @@ fn solid_image(
 ) -> Result<Image, Memory>
     requires ready { instances plugins.now.solid ≡ 1 }
     requires frame { IsFrame frame }
-    ensures { (frames : Frames) → graph.now.start ≡ SolidNode levels → IfOk result (λ image. ShowsNode graph.now frames 0 frame image) }
+    ensures { (frames : Frames) → graph.now.start ≡ SolidNode levels
+        → IfOk result (λ image. ShowsNode graph.now frames 0 frame image) }
 {
     let values = Values {
         frame,
@@ -161,7 +162,8 @@ fn source_image(
     store: &Store,
     frame: i64,
 ) -> Result<Image, Memory>
-    ensures { graph.now.start ≡ SourceNode source.now → IfOk result (λ image. ShowsNode graph.now (frames_of store.now) 0 frame image) }
+    ensures { graph.now.start ≡ SourceNode source.now
+        → IfOk result (λ image. ShowsNode graph.now (frames_of store.now) 0 frame image) }
 {
     if !has_frame(source, frame) {
         return canvas(alloc, graph);
@@ -181,7 +183,8 @@ fn has_frame(source: &Source, frame: i64) -> bool
 // A frame, converted to bytes, as far as the project's extent goes.
 fn copied(alloc: Global, graph: &Graph, held: &Image, frame: i64) -> Result<Image, Memory>
     ensures frame { IfOk result (λ image. IsFrameOf graph.now image) }
-    ensures pixels { IfOk result (λ image. (x y : ℤ) → Holds (project graph.now) x y → shown image x y ≡ convert held.now.depth Bytes RgbaSamples (shown held.now x y)) }
+    ensures pixels { IfOk result (λ image. (x y : ℤ) → Holds (project graph.now) x y
+        → shown image x y ≡ convert held.now.depth Bytes RgbaSamples (shown held.now x y)) }
 {
     let inputs = inputs_of(alloc, held, frame)?;
     let mut image = canvas(alloc, graph)?;
@@ -203,7 +206,8 @@ fn copy_whole(inputs: &Inputs<'_>, frame: i64, image: &mut Image)
 fn inputs_of<'a>(alloc: Global, image: &'a Image, frame: i64) -> Result<Inputs<'a>, Memory>
     ensures depth { IfOk result (λ inputs. inputs.depth ≡ Bytes) }
     ensures source { IfOk result (λ inputs. inputs.components ≡ RgbaSamples ∷ []) }
-    ensures pixels { IfOk result (λ inputs. (x y : ℤ) → input_pixel inputs (tap 0 frame x y) ≡ convert image.now.depth Bytes RgbaSamples (shown image.now x y)) }
+    ensures pixels { IfOk result (λ inputs. (x y : ℤ)
+        → input_pixel inputs (tap 0 frame x y) ≡ convert image.now.depth Bytes RgbaSamples (shown image.now x y)) }
 {
     let components = vec![in alloc; Components::Rgba]?;
     let mut inputs = Inputs::new(alloc, Depth::Byte, components)?;
@@ -225,7 +229,8 @@ fn inverted(
     requires place { place < instances plugins.now.invert }
     requires frame { IsFrame frame }
     requires before { IsFrameOf graph.now before.now }
-    ensures { (frames : Frames) (k : ℕ) → ShowsNode graph.now frames k frame before.now → IfOk result (λ image. ShowsNode graph.now frames (k + 1) frame image) }
+    ensures { (frames : Frames) (k : ℕ) → ShowsNode graph.now frames k frame before.now
+        → IfOk result (λ image. ShowsNode graph.now frames (k + 1) frame image) }
 {
     let values = Values {
         frame,
