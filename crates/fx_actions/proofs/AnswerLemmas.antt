@@ -18,11 +18,12 @@ use Rattle.fx_effect.specs.declared.action.Reply.TheVariants as reply
 use Rattle.fx_effect.specs.declared.values.Values.{Values}
 use Rattle.fx_effect.specs.Shape.{Shape, Clip, MayBe, IsLawfulIn, clip_names, optional_flags}
 use Rattle.fx_effect.specs.Meaning.{Meaning}
-use Rattle.fx_effect.specs.Sets.{Entry, clip_entries_from, clip_entries, blank, HasValues, Wrote}
+use Rattle.fx_props.specs.Entries.{Entry, clip_entries_from, clip_entries, blank, HasValues, Wrote, interest, frame_ranges, region_entry}
 use Rattle.fx_effect.specs.Laws.{Laws}
-use Rattle.fx_effect.specs.Asked.{IsWindow, AreRegions, AnswersRegion, AnswersInterest, AnswersFrames, interest, frame_ranges, region_name}
+use Rattle.fx_effect.specs.Asked.{IsWindow, AreRegions, AnswersRegion, AnswersInterest, AnswersFrames}
+use Rattle.fx_props.specs.declared.names.TheConstants.{REGION}
 use Rattle.fx_actions.specs.Clips.{NamesClips}
-use Rattle.fx_actions.specs.Read.{region_entry, IsInterest, AreFrames}
+use Rattle.fx_actions.specs.Read.{IsInterest, AreFrames}
 
 same_kind-same : (k : PropKind) → same_kind k k ≡ true
 same_kind-same kind.Int = refl
@@ -39,8 +40,8 @@ HasValues-wrote set e there =
 
 -- ---- regions of definition
 
-pub region_written : (m : Meaning) (v : Values) (regions : List Bounds) (context : Context) (old new : Set) (r : Reply) → r ≡ reply.Ok → AnswersRegion m v regions context old new r → HasValues new (region_entry region_name (m.rod context v regions))
-region_written m v regions context old new reply.Ok is wrote = HasValues-wrote new (region_entry region_name (m.rod context v regions)) (wrote.there 0 (region_entry region_name none) (omega arith))
+pub region_written : (m : Meaning) (v : Values) (regions : List Bounds) (context : Context) (old new : Set) (r : Reply) → r ≡ reply.Ok → AnswersRegion m v regions context old new r → HasValues new (region_entry REGION.now (m.rod context v regions))
+region_written m v regions context old new reply.Ok is wrote = HasValues-wrote new (region_entry REGION.now (m.rod context v regions)) (wrote.there 0 (region_entry REGION.now none) (omega arith))
 region_written m v regions context old new reply.Default is wrote = cc
 
 pub connected_long : (s : Shape) (context : Context) (v : Values) → IsLawfulIn s context v → length v.connected ≡ length (s.clips context)

@@ -1,5 +1,3 @@
 pub mod AnswerLemmas
 pub mod HullLemmas
-pub mod ReadLemmas
 pub mod ToyLemmas
-pub mod WindowLemmas

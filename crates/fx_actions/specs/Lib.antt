@@ -1,4 +1,3 @@
-pub mod Args
 pub mod Read
 pub mod Clips
 pub mod Toys

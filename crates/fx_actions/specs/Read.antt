@@ -3,8 +3,7 @@ use Rattle.std.specs.Prelude.{ℕ, ℤ, List, All}
 use Rattle.fx_base.specs.Bounds.{Bounds, IsRect}
 use Rattle.fx_props.specs.declared.value.PropKind.TheVariants as kind
 use Rattle.fx_props.specs.Set.{Set}
-use Rattle.fx_effect.specs.Sets.{Entry, region_values, range_values, HasValues}
-use Rattle.fx_effect.specs.Asked.{interest, frame_ranges}
+use Rattle.fx_props.specs.Entries.{Entry, region_values, range_values, HasValues, interest, frame_ranges}
 
 -- a region under this name
 abbrev pub region_entry : List ℕ → Bounds → Entry

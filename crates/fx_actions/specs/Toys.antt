@@ -1,26 +1,28 @@
 -- Two effects for tests: one that leaves every answer to the host, and one that answers all itself.
 use Rattle.std.specs.Prelude.{◌≡◌, ◌≤◌, ℕ, ◌+◌, ℤ, pos, ◌+ℤ◌, ◌-ℤ◌, Bool, true, false, List, [], ◌∷◌, length, codes, All, slice_get, Some, refl}
 use Rattle.std.specs.List.{Contains, AllZip}
-use Rattle.std.proofs.Common.{zero, suc, ap, sym, subst, cond, not, ◌&&◌, inl, inr, ⊎_elim, arith}
-use Rattle.std.proofs.lemmas.Bool.{cases_Bool}
-use Rattle.std.proofs.lemmas.Int.{ints, clamps}
+use Rattle.std.proofs.Common.{zero, suc, ap, subst, cond, not, ◌&&◌, inl, inr, arith}
+use Rattle.std.proofs.lemmas.Int.{ints}
 use Rattle.std.proofs.lemmas.List.Elements.{All-nil, All-cons, All-head}
 use Rattle.fx_base.specs.Bounds.{Bounds, IsRect, none}
-use Rattle.fx_base.specs.Rect.{Holds, is_empty, hull, grown}
-use Rattle.fx_base.proofs.RectLemmas.{IsProper-from_test, IsProper-hull, IsRect-proper, hull-first_empty, hull-second_empty, hull-proper, grown-empty, grown-proper, IsProper-grown, Holds-grown, IsWithin-hull_first}
+use Rattle.fx_base.specs.Rect.{Holds, hull, grown, IsUpTo}
+use Rattle.fx_base.proofs.RectLemmas.{IsWithin-hull_first}
+use Rattle.fx_base.proofs.RectLaws.{IsRect-hull, IsRect-grown, IsWithin-grown, IsUpTo-none, IsUpTo-more, IsUpTo-hull, IsUpTo-grown}
 use Rattle.fx_pixel.specs.declared.Depth.{Depth}
 use Rattle.fx_pixel.specs.declared.Depth.TheVariants as depths
 use Rattle.fx_pixel.specs.declared.Components.{Components}
 use Rattle.fx_pixel.specs.declared.Components.TheVariants as components
 use Rattle.fx_pixel.specs.declared.Pixel.{Pixel}
-use Rattle.fx_pixel.specs.Pixel.{zero as zero_pixel, IsOfDepth, components_of}
+use Rattle.fx_pixel.specs.Pixel.{zero as zero_pixel}
+use Rattle.fx_pixel.specs.PixelLaws.{zero_form}
 use Rattle.fx_effect.specs.Tap.{Tap, tap}
-use Rattle.fx_effect.specs.Shape.{Shape, Clip, IsShape, IsContext, IsParam, IsLabel, MayBe, IsLawfulIn, optional_flags}
+use Rattle.fx_effect.specs.Shape.{Shape, Clip, IsShape, MayBe, IsLawfulIn, optional_flags}
 use Rattle.fx_effect.specs.Meaning.{Meaning}
-use Rattle.fx_effect.specs.Default.{region_of, has_required, hull_from, default_rod, default_spans}
-use Rattle.fx_effect.specs.Laws.{Laws, IsCovered, IsGiven, IsSameAs, IsNearSpan, IsUpTo}
+use Rattle.fx_effect.specs.Default.{has_required, hull_from, default_rod, default_spans}
+use Rattle.fx_props.specs.Entries.{region_of}
+use Rattle.fx_effect.specs.Laws.{Laws, IsCovered, IsGiven, IsSameAs, IsNearSpan}
 use Rattle.fx_effect.specs.DefaultLaws.{default_spans_near, flag_for_each, first_near, second_near, region_near, region_is_rect}
-use Rattle.fx_effect.specs.ShapeLaws.{names_differ}
+use Rattle.fx_effect.specs.ShapeTests.{shape_is}
 use Rattle.fx_effect.specs.declared.action.Context.{Context}
 use Rattle.fx_effect.specs.declared.action.Context.TheVariants as context
 use Rattle.fx_effect.specs.declared.action.Identity.TheVariants.{No, Same}
@@ -44,7 +46,7 @@ clear_shape optional =
       label = codes "clear";
       contexts = context.Generator ∷ context.Filter ∷ context.Transition ∷ context.General ∷ [];
       depths = depths.Byte ∷ [];
-      components = components.Rgba ∷ [];
+      components = components.Rgba ∷ components.Alpha ∷ [];
       temporal = false;
       tiles = true;
       safety = FullySafe;
@@ -106,136 +108,30 @@ wide =
 
 -- ---- rectangles
 
-pub IsRect-hull : (r s : Bounds) → IsRect r → IsRect s → IsRect (hull r s)
-IsRect-hull r s first second =
-    ⊎_elim
-    (λ empty. subst IsRect (sym (hull-first_empty r s empty)) second)
-    (λ some. ⊎_elim
-    (λ empty. subst IsRect (sym (hull-second_empty r s some empty)) first)
-    (λ both. IsRect-proper (hull r s) (IsProper-hull r s (IsProper-from_test r some) (IsProper-from_test s both)))
-    (cases_Bool (is_empty s)))
-    (cases_Bool (is_empty r))
+-- a rectangle that grows a little
+pub IsRect-grown_few : (r : Bounds) (k : ℕ) → IsRect (grown r (pos k) (pos k))
+IsRect-grown_few r k = IsRect-grown r (pos k) (pos k) (omega (arith, ints)) (omega (arith, ints))
 
-pub IsRect-grown : (r : Bounds) (n : ℕ) → IsRect (grown r (pos n) (pos n))
-IsRect-grown r n =
-    ⊎_elim
-    (λ empty. subst IsRect (sym (grown-empty r (pos n) (pos n) empty)) (inl refl))
-    (λ some. IsRect-proper (grown r (pos n) (pos n)) (IsProper-grown r (pos n) (pos n) (IsProper-from_test r some) (omega (arith, ints)) (omega (arith, ints))))
-    (cases_Bool (is_empty r))
+pub IsUpTo-grown_few : (n m k : ℕ) (r : Bounds) → n + k ≤ m → IsUpTo n r → IsUpTo m (grown r (pos k) (pos k))
+IsUpTo-grown_few n m k r room up_to =
+    IsUpTo-more (n + k) m (grown r (pos k) (pos k)) room
+    (IsUpTo-grown n k (pos k) (pos k) r (omega (arith, ints)) (omega (arith, ints)) (omega (arith, ints)) (omega (arith, ints)) up_to)
 
-IsUpTo-hull : (n : ℕ) (r s : Bounds) → IsUpTo n r → IsUpTo n s → IsUpTo n (hull r s)
-IsUpTo-hull n r s first second =
-    ⊎_elim
-    (λ empty. subst (IsUpTo n) (sym (hull-first_empty r s empty)) second)
-    (λ some. ⊎_elim
-    (λ empty. subst (IsUpTo n) (sym (hull-second_empty r s some empty)) first)
-    (λ both.
-    let left = first.left in
-    let bottom = first.bottom in
-    let right = first.right in
-    let top = first.top in
-    let left' = second.left in
-    let bottom' = second.bottom in
-    let right' = second.right in
-    let top' = second.top in
-    subst (IsUpTo n) (sym (hull-proper r s some both)) (record {
-      left = (omega (arith, ints, clamps), omega (arith, ints, clamps));
-      bottom = (omega (arith, ints, clamps), omega (arith, ints, clamps));
-      right = (omega (arith, ints, clamps), omega (arith, ints, clamps));
-      top = (omega (arith, ints, clamps), omega (arith, ints, clamps));
-    }))
-    (cases_Bool (is_empty s)))
-    (cases_Bool (is_empty r))
-
-none_up_to : (n : ℕ) → IsUpTo n none
-none_up_to n = record {
-  left = (omega (arith, ints), omega (arith, ints));
-  bottom = (omega (arith, ints), omega (arith, ints));
-  right = (omega (arith, ints), omega (arith, ints));
-  top = (omega (arith, ints), omega (arith, ints));
-}
-
-pub IsUpTo-grown : (n m k : ℕ) (r : Bounds) → n + k ≤ m → IsUpTo n r → IsUpTo m (grown r (pos k) (pos k))
-IsUpTo-grown n m k r room up_to =
-    ⊎_elim
-    (λ empty. subst (IsUpTo m) (sym (grown-empty r (pos k) (pos k) empty)) (none_up_to m))
-    (λ some.
-    let left = up_to.left in
-    let bottom = up_to.bottom in
-    let right = up_to.right in
-    let top = up_to.top in
-    subst (IsUpTo m) (sym (grown-proper r (pos k) (pos k) some)) (record {
-      left = (omega (arith, ints), omega (arith, ints));
-      bottom = (omega (arith, ints), omega (arith, ints));
-      right = (omega (arith, ints), omega (arith, ints));
-      top = (omega (arith, ints), omega (arith, ints));
-    }))
-    (cases_Bool (is_empty r))
-
--- a place of the rectangle is one of what it grows to
 holds_grown : (r : Bounds) (k : ℕ) (x y : ℤ) → Holds r x y → Holds (grown r (pos k) (pos k)) x y
-holds_grown r k x y held = Holds-grown r (pos k) (pos k) x y (record {
-  column = x;
-  row = y;
-  held = held;
-  left = omega (arith, ints);
-  right = omega (arith, ints);
-  bottom = omega (arith, ints);
-  top = omega (arith, ints);
-})
+holds_grown r k x y held = IsWithin-grown r (pos k) (pos k) (omega (arith, ints)) (omega (arith, ints)) x y held
 
 -- the region of a clip reaches no further than those that were handed in
 region_up_to : (n clip : ℕ) (p : Bounds) (regions : List Bounds) → All (IsUpTo n) (p ∷ regions) → IsUpTo n (region_of regions clip)
-region_up_to n clip p [] up_to = none_up_to n
+region_up_to n clip p [] up_to = IsUpTo-none n
 region_up_to n zero p (r ∷ regions) up_to = up_to 1 p (omega arith)
 region_up_to n (suc clip) p (r ∷ regions) up_to =
     region_up_to n clip p regions (All-cons (IsUpTo n) p regions (All-head (IsUpTo n) p (r ∷ regions) up_to) (λ k d low. up_to (suc (suc k)) d (omega arith)))
 
 -- ---- what the first keeps
 
-clear_is_context : (optional : Bool) (c : Context) → Contains (clear_shape optional).contexts c → IsContext (clear_shape optional) c
-clear_is_context optional context.Generator supported =
-    record { clips = refl; clips_differ = names_differ (λ (clip : Clip). clip.name) (clear_clips optional context.Generator) refl; few_clips = omega arith; params = All-nil IsParam; params_differ = λ i j d low high. absurd (omega arith); few_params = omega arith }
-clear_is_context optional context.Filter supported =
-    record { clips = refl; clips_differ = names_differ (λ (clip : Clip). clip.name) (clear_clips optional context.Filter) refl; few_clips = omega arith; params = All-nil IsParam; params_differ = λ i j d low high. absurd (omega arith); few_params = omega arith }
-clear_is_context optional context.Transition supported =
-    record { clips = refl; clips_differ = names_differ (λ (clip : Clip). clip.name) (clear_clips optional context.Transition) refl; few_clips = omega arith; params = All-nil IsParam; params_differ = λ i j d low high. absurd (omega arith); few_params = omega arith }
-clear_is_context optional context.General supported =
-    record { clips = tt; clips_differ = names_differ (λ (clip : Clip). clip.name) (clear_clips optional context.General) refl; few_clips = omega arith; params = All-nil IsParam; params_differ = λ i j d low high. absurd (omega arith); few_params = omega arith }
-
-abbrev HasLabel : Clip → Type 0
-HasLabel clip = IsLabel clip.name
-
-labelled : (name : List ℕ) (optional : Bool) (rest : List Clip) → IsLabel name → All HasLabel rest → All HasLabel (clip_named name optional ∷ rest)
-labelled name optional rest label others = All-cons HasLabel (clip_named name optional) rest label others
-
-clear_labels : (optional : Bool) (c : Context) → All HasLabel (clear_clips optional c)
-clear_labels optional context.Generator = All-nil HasLabel
-clear_labels optional context.Filter = labelled (codes "Source") false [] (omega arith, omega arith) (All-nil HasLabel)
-clear_labels optional context.Transition =
-    labelled (codes "SourceFrom") false (clip_named (codes "SourceTo") false ∷ []) (omega arith, omega arith) (labelled (codes "SourceTo") false [] (omega arith, omega arith) (All-nil HasLabel))
-clear_labels optional context.General =
-    labelled (codes "A") optional (clip_named (codes "B") optional ∷ clip_named (codes "C") true ∷ []) (omega arith, omega arith)
-    (labelled (codes "B") optional (clip_named (codes "C") true ∷ []) (omega arith, omega arith) (labelled (codes "C") true [] (omega arith, omega arith) (All-nil HasLabel)))
-
 clear_is_shape : (optional : Bool) → IsShape (clear_shape optional)
-clear_is_shape optional =
-    record {
-      label = (omega arith, omega arith);
-      some_context = λ e. cc;
-      some_depth = λ e. cc;
-      rgba = (0, omega arith, refl);
-      contexts = clear_is_context optional;
-      clip_labels = λ c supported. clear_labels optional c;
-    }
-
-zero_of_depth : (depth : Depth) (c : Components) → IsOfDepth depth (zero_pixel c)
-zero_of_depth depth components.Rgba = (omega arith, omega arith, omega arith, omega arith)
-zero_of_depth depth components.Alpha = omega arith
-
-zero_components : (c : Components) → components_of (zero_pixel c) ≡ c
-zero_components components.Rgba = refl
-zero_components components.Alpha = refl
+clear_is_shape true = shape_is (clear_shape true) refl
+clear_is_shape false = shape_is (clear_shape false) refl
 
 -- what holds of no pixel, of hulls, of the project and of the inputs' regions holds of a default region
 hull_from-closed : (P : Bounds → Type 0) → ((r s : Bounds) → P r → P s → P (hull r s)) → (r : Bounds) (os cs : List Bool) (regions : List Bounds) → P r → ((clip : ℕ) → P (region_of regions clip)) → P (hull_from r os cs regions)
@@ -270,39 +166,19 @@ clear_laws optional =
       identity_is_tap = λ context v window clip frame depth c value given same. absurd cc;
       frames_near = λ context v clip lawful. default_spans_near v clip;
       region_near = λ c v regions n lawful are up_to.
-          default_rod-closed (IsUpTo (n + 32768)) (none_up_to (n + 32768)) (IsUpTo-hull (n + 32768)) c (optional_flags (clear_shape optional) c) v regions (first_near n v.project regions up_to) (λ clip. region_near n clip v.project regions up_to);
+          default_rod-closed (IsUpTo (n + 32768)) (IsUpTo-none (n + 32768)) (IsUpTo-hull (n + 32768)) c (optional_flags (clear_shape optional) c) v regions (first_near n v.project regions up_to) (λ clip. region_near n clip v.project regions up_to);
       interest_near = λ context v r clip n lawful rect up_to. second_near n v.project r up_to;
       region_is_rect = λ c v regions lawful are.
           default_rod-closed IsRect (inl refl) IsRect-hull c (optional_flags (clear_shape optional) c) v regions (project_is_rect (clear_shape optional) c v lawful) (λ clip. region_is_rect clip v regions are);
       interest_is_rect = λ context v r clip lawful rect. rect;
-      pixel = λ context v depth c value x y given. (zero_of_depth depth c, zero_components c);
+      pixel = λ context v depth c value x y given. zero_form depth c;
+      whole_within_project = λ context v regions whole lawful are. absurd cc;
     }
 
 -- ---- what the second keeps
 
-wide_is_context : (c : Context) → Contains wide_shape.contexts c → IsContext wide_shape c
-wide_is_context context.General supported =
-    record { clips = tt; clips_differ = names_differ (λ (clip : Clip). clip.name) wide_clips refl; few_clips = omega arith; params = All-nil IsParam; params_differ = λ i j d low high. absurd (omega arith); few_params = omega arith }
-wide_is_context context.Generator (zero, low, e) = absurd cc
-wide_is_context context.Generator (suc n, low, e) = absurd (omega arith)
-wide_is_context context.Filter (zero, low, e) = absurd cc
-wide_is_context context.Filter (suc n, low, e) = absurd (omega arith)
-wide_is_context context.Transition (zero, low, e) = absurd cc
-wide_is_context context.Transition (suc n, low, e) = absurd (omega arith)
-
-wide_labels : All HasLabel wide_clips
-wide_labels = labelled (codes "A") false (clip_named (codes "B") false ∷ []) (omega arith, omega arith) (labelled (codes "B") false [] (omega arith, omega arith) (All-nil HasLabel))
-
 wide_is_shape : IsShape wide_shape
-wide_is_shape =
-    record {
-      label = (omega arith, omega arith);
-      some_context = λ e. cc;
-      some_depth = λ e. cc;
-      rgba = (0, omega arith, refl);
-      contexts = wide_is_context;
-      clip_labels = λ c supported. wide_labels;
-    }
+wide_is_shape = shape_is wide_shape refl
 
 two_flags : (c : Context) (v : Values) → IsLawfulIn wide_shape c v → length v.connected ≡ 2
 two_flags c v lawful = flag_for_each wide_clips v.connected lawful.connected
@@ -337,7 +213,7 @@ around_near v clip =
 
 wide_region_near : (v : Values) (regions : List Bounds) (n : ℕ) → All (IsUpTo n) (v.project ∷ regions) → IsUpTo (n + 32768) (wide.rod context.General v regions)
 wide_region_near v regions n up_to =
-    IsUpTo-grown n (n + 32768) 1 (hull (region_of regions 0) (region_of regions 1)) (omega arith)
+    IsUpTo-grown_few n (n + 32768) 1 (hull (region_of regions 0) (region_of regions 1)) (omega arith)
     (IsUpTo-hull n (region_of regions 0) (region_of regions 1) (region_up_to n 0 v.project regions up_to) (region_up_to n 1 v.project regions up_to))
 
 pub wide_laws : Laws wide
@@ -350,8 +226,9 @@ wide_laws =
       identity_is_tap = wide_same;
       frames_near = λ context v clip lawful. around_near v clip;
       region_near = λ context v regions n lawful are up_to. wide_region_near v regions n up_to;
-      interest_near = λ context v r clip n lawful rect up_to. IsUpTo-grown n (n + 32768) 2 r (omega arith) (up_to 1 r (omega arith));
-      region_is_rect = λ context v regions lawful are. IsRect-grown (hull (region_of regions 0) (region_of regions 1)) 1;
-      interest_is_rect = λ context v r clip lawful rect. IsRect-grown r 2;
+      interest_near = λ context v r clip n lawful rect up_to. IsUpTo-grown_few n (n + 32768) 2 r (omega arith) (up_to 1 r (omega arith));
+      region_is_rect = λ context v regions lawful are. IsRect-grown_few (hull (region_of regions 0) (region_of regions 1)) 1;
+      interest_is_rect = λ context v r clip lawful rect. IsRect-grown_few r 2;
       pixel = λ context v depth c value x y given. (given.depth_is (tap 0 v.frame x y), given.components_are (tap 0 v.frame x y));
+      whole_within_project = λ context v regions whole lawful are. absurd cc;
     }

@@ -1,16 +1,16 @@
 //! Which frames of each input clip are needed.
 ghost use Rattle.std.specs.Prelude.{◌≡◌, ℕ, ℤ, List, ◌++◌, IfOk, map};
 ghost use Rattle.fx_effect.specs.Default.{default_spans};
-ghost use Rattle.fx_effect.specs.Sets.{HasValues};
-ghost use Rattle.fx_effect.specs.Asked.{IsFrame, frames_prefix};
+ghost use Rattle.fx_props.specs.Entries.{HasValues, ShowsFrames, frames_entry};
+ghost use Rattle.fx_base.specs.Rect.{IsFrame};
+ghost use Rattle.fx_props.specs.declared.names.TheConstants.{CLIP_FRAMES};
 ghost use Rattle.fx_actions.specs.Clips.{NamesClips, each_clip};
-ghost use Rattle.fx_actions.specs.Read.{AreFrames, ShowsAllFrames, ShowsFrames, frames_entry};
+ghost use Rattle.fx_actions.specs.Read.{AreFrames, ShowsAllFrames};
 
-use crate::args::time_args;
-use crate::read::frames_at;
 use fx_base::{Memory, Names};
-use fx_effect::{ImageEffect, Reply, Values, clip_set_of_blanks, composed};
-use fx_props::{PropKind, PropSet};
+use fx_effect::{ImageEffect, Reply, Values, time_args};
+use fx_props::names::CLIP_FRAMES;
+use fx_props::{PropKind, PropSet, clip_set_of_blanks, composed, frames_at};
 use std::alloc::Global;
 
 /// The frames of each input clip that the effect needs, as pairs of a first and a last one. The names are
@@ -27,8 +27,7 @@ pub fn frames_needed<E: ImageEffect>(
     ensures { IfOk result (λ frames. map (λ spans. spans.items) frames.items ≡ each_clip names.now ((E.meaning effect.now).spans values.now)) }
 {
     let in_args = time_args(alloc, values.frame)?;
-    let prefix = "OfxImageClipPropFrameRange_";
-    let mut out_args = clip_set_of_blanks(alloc, prefix, PropKind::Fix, names)?;
+    let mut out_args = clip_set_of_blanks(alloc, CLIP_FRAMES, PropKind::Fix, names)?;
     match effect.get_frames_needed(alloc, values, &in_args, &mut out_args)? {
         Reply::Ok => frames_in(alloc, &out_args, names),
         Reply::Default => current_frames(alloc, values, names),
@@ -48,10 +47,10 @@ fn frames_in(alloc: Global, set: &PropSet, names: &Names) -> Result<Vec<Vec<(i64
 
 // The frames of one clip.
 fn frames_of(alloc: Global, set: &PropSet, clip: &str) -> Result<Vec<(i64, i64)>, Memory>
-    requires { ShowsFrames set.now (frames_prefix ++ clip.now) }
-    ensures { (spans : List (ℤ × ℤ)) → HasValues set.now (frames_entry (frames_prefix ++ clip.now) spans) → IfOk result (λ found. found.items ≡ spans) }
+    requires { ShowsFrames set.now (CLIP_FRAMES.now ++ clip.now) }
+    ensures { (spans : List (ℤ × ℤ)) → HasValues set.now (frames_entry (CLIP_FRAMES.now ++ clip.now) spans) → IfOk result (λ found. found.items ≡ spans) }
 {
-    let property = composed(alloc, "OfxImageClipPropFrameRange_", clip)?;
+    let property = composed(alloc, CLIP_FRAMES, clip)?;
     frames_at(alloc, set, property.text())
 }
 

@@ -1,16 +1,17 @@
 //! Which region of each input clip is needed.
 ghost use Rattle.std.specs.Prelude.{◌≡◌, ℕ, ◌++◌, IfOk};
 ghost use Rattle.fx_base.specs.Bounds.{Bounds, IsRect};
-ghost use Rattle.fx_effect.specs.Sets.{HasValues};
-ghost use Rattle.fx_effect.specs.Asked.{IsFrame, IsWindow, interest_prefix};
+ghost use Rattle.fx_props.specs.Entries.{HasValues, ShowsRegion, region_entry};
+ghost use Rattle.fx_effect.specs.Asked.{IsWindow};
+ghost use Rattle.fx_base.specs.Rect.{IsFrame};
+ghost use Rattle.fx_props.specs.declared.names.TheConstants.{CLIP_REGION};
 ghost use Rattle.fx_actions.specs.Clips.{NamesClips, each_clip};
-ghost use Rattle.fx_actions.specs.Read.{IsInterest, ShowsInterest, ShowsRegion, region_entry};
+ghost use Rattle.fx_actions.specs.Read.{IsInterest, ShowsInterest};
 
-use crate::args::interest_args;
-use crate::read::region_at;
 use fx_base::{Memory, Names, Rect};
-use fx_effect::{ImageEffect, Reply, Values, clip_set_of_blanks, composed};
-use fx_props::{PropKind, PropSet};
+use fx_effect::{ImageEffect, Reply, Values, interest_args};
+use fx_props::names::CLIP_REGION;
+use fx_props::{PropKind, PropSet, clip_set_of_blanks, composed, region_at};
 use std::alloc::Global;
 
 /// The region of each input clip, in pixels, that the effect needs for the window. The names are those of
@@ -29,7 +30,7 @@ pub fn regions_of_interest<E: ImageEffect>(
     ensures { IfOk result (λ regions. regions.items ≡ each_clip names.now ((E.meaning effect.now).roi values.now window)) }
 {
     let in_args = interest_args(alloc, values.frame, window)?;
-    let mut out_args = clip_set_of_blanks(alloc, "OfxImageClipPropRoI_", PropKind::Fix, names)?;
+    let mut out_args = clip_set_of_blanks(alloc, CLIP_REGION, PropKind::Fix, names)?;
     match effect.get_regions_of_interest(alloc, values, &in_args, &mut out_args)? {
         Reply::Ok => regions_in(alloc, &out_args, names),
         Reply::Default => Ok(vec![in alloc; window; names.items().len()]?),
@@ -49,9 +50,9 @@ fn regions_in(alloc: Global, set: &PropSet, names: &Names) -> Result<Vec<Rect>, 
 
 // The region of one clip.
 fn region_in(alloc: Global, set: &PropSet, clip: &str) -> Result<Rect, Memory>
-    requires { ShowsRegion set.now (interest_prefix ++ clip.now) }
-    ensures { (r : Bounds) → IsRect r → HasValues set.now (region_entry (interest_prefix ++ clip.now) r) → IfOk result (λ found. found ≡ r) }
+    requires { ShowsRegion set.now (CLIP_REGION.now ++ clip.now) }
+    ensures { (r : Bounds) → IsRect r → HasValues set.now (region_entry (CLIP_REGION.now ++ clip.now) r) → IfOk result (λ found. found ≡ r) }
 {
-    let property = composed(alloc, "OfxImageClipPropRoI_", clip)?;
+    let property = composed(alloc, CLIP_REGION, clip)?;
     Ok(region_at(set, property.text()))
 }

@@ -2,7 +2,8 @@
 ghost use Rattle.std.specs.Prelude.{◌≡◌};
 ghost use Rattle.fx_base.specs.Bounds.{Bounds};
 ghost use Rattle.fx_effect.specs.Shape.{IsLawful};
-ghost use Rattle.fx_effect.specs.Asked.{IsFrame, IsWindow, HasTime, HasWindow, AsksWindow};
+ghost use Rattle.fx_effect.specs.Asked.{IsWindow, HasTime, HasWindow, AsksWindow};
+ghost use Rattle.fx_base.specs.Rect.{IsFrame};
 
 use fx_effect::{Identity, ImageEffect, Values};
 use fx_props::PropSet;

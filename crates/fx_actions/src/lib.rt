@@ -2,18 +2,15 @@
 //! what the effect answered or takes the default (OpenFX 1.4, "Image Effect Actions").
 #![tactic(auto)]
 
-mod args;
 mod frames;
 mod interest;
 mod is_identity;
-mod read;
 mod region;
 #[cfg(test)]
 mod tests;
 #[cfg(test)]
 mod toys;
 
-pub use args::{descriptor, sequence_args, window_args};
 pub use frames::frames_needed;
 pub use interest::regions_of_interest;
 pub use is_identity::identity;

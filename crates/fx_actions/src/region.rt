@@ -2,13 +2,15 @@
 ghost use Rattle.std.specs.Prelude.{◌≡◌, Bool, List, length, IfOk, Some, None, if◌then◌else◌};
 ghost use Rattle.fx_base.specs.Bounds.{Bounds, none};
 ghost use Rattle.fx_effect.specs.Shape.{IsLawfulIn, optional_flags};
-ghost use Rattle.fx_effect.specs.Default.{region_of, has_required, hull_from, default_rod};
-ghost use Rattle.fx_effect.specs.Asked.{IsFrame, AreRegions};
+ghost use Rattle.fx_effect.specs.Default.{has_required, hull_from, default_rod};
+ghost use Rattle.fx_props.specs.Entries.{region_of};
+ghost use Rattle.fx_effect.specs.Asked.{AreRegions};
+ghost use Rattle.fx_base.specs.Rect.{IsFrame};
 
-use crate::args::{region_answer, time_args};
-use crate::read::region_at;
 use fx_base::{Memory, Rect};
-use fx_effect::{Context, Flags, ImageEffect, Reply, Values};
+use fx_effect::{Context, Flags, ImageEffect, Reply, Values, region_answer, region_of, time_args};
+use fx_props::names::REGION;
+use fx_props::region_at;
 use std::alloc::Global;
 
 /// The region of definition in a context, in pixels, by the regions of the input clips, each of which is
@@ -32,7 +34,7 @@ pub fn region_of_definition<E: ImageEffect>(
     let in_args = time_args(alloc, values.frame)?;
     let mut out_args = region_answer(alloc)?;
     match effect.get_region_of_definition(alloc, values, regions, &in_args, &mut out_args)? {
-        Reply::Ok => Ok(region_at(&out_args, "OfxImageEffectPropRegionOfDefinition")),
+        Reply::Ok => Ok(region_at(&out_args, REGION)),
         Reply::Default => Ok(default_region(context, optional, values, regions)),
     }
 }
@@ -51,13 +53,6 @@ fn default_region(context: Context, optional: &Flags, values: &Values, regions: 
             hull.unwrap_or(values.project)
         }
     }
-}
-
-/// The region of a clip.
-pub(crate) fn region_of(regions: &[Rect], clip: usize) -> Rect
-    ensures { result ≡ region_of regions.now clip }
-{
-    regions.get(clip).copied().unwrap_or(Rect::of(0, 0, 0, 0))
 }
 
 // The hull of the regions of the connected clips that aren't optional, where there is such a clip.

@@ -4,16 +4,16 @@ ghost use Rattle.std.specs.Prelude.{◌≡◌, [], ◌∷◌, pos, false, codes,
 ghost use Rattle.std.specs.List.{AllZip};
 ghost use Rattle.fx_base.specs.Bounds.{none};
 ghost use Rattle.fx_effect.specs.Shape.{IsLawful, MayBe, optional_flags};
-ghost use Rattle.fx_effect.specs.Asked.{IsFrame, IsWindow};
+ghost use Rattle.fx_effect.specs.Asked.{IsWindow};
+ghost use Rattle.fx_base.specs.Rect.{IsFrame};
 ghost use Rattle.fx_actions.specs.Toys.{clear_clips, clear_shape};
 
 use crate::toys::{Clear, Wide};
-use crate::{
-    descriptor, frames_needed, identity, region_of_definition, regions_of_interest, sequence_args,
-    window_args,
-};
+use crate::{frames_needed, identity, region_of_definition, regions_of_interest};
 use fx_base::{Fix, Memory, Name, Names, Rect};
-use fx_effect::{Context, Flags, Identity, ImageEffect, Numbers, Values};
+use fx_effect::{
+    Context, Flags, Identity, ImageEffect, Numbers, Values, descriptor, sequence_args, window_args,
+};
 use std::alloc::Global;
 use std::test::Fail;
 

@@ -3,18 +3,14 @@
 ghost use Rattle.std.specs.Prelude.{◌≡◌, ◌∷◌, []};
 ghost use Rattle.fx_actions.specs.Toys.{clear, clear_laws, wide, wide_laws};
 
-use crate::read::region_at;
-use crate::region::region_of;
 use fx_base::{Memory, Rect};
 use fx_core::Ticket;
-use fx_effect::{
-    Context, Identity, ImageEffect, Inputs, Reply, Values, write_frames, write_interest,
-    write_region,
-};
+use fx_effect::{Context, Identity, ImageEffect, Inputs, Reply, Values, asked_region, region_of};
 use fx_gate::Hold;
 use fx_image::Part;
 use fx_params::ParamDef;
-use fx_props::PropSet;
+use fx_props::names::REGION;
+use fx_props::{PropSet, write_frames, write_interest, write_region};
 use std::alloc::Global;
 
 /// The zero pixel everywhere, in every context: it leaves each answer to the host. In the general context
@@ -29,14 +25,6 @@ impl ImageEffect for Clear {
 
     ghost laws = { λ toy. clear_laws toy.optional };
 
-    fn load(&self, _alloc: Global) -> Result<Reply, Memory> {
-        Ok(Reply::Default)
-    }
-
-    fn unload(&self) -> Reply {
-        Reply::Default
-    }
-
     fn describe(&self, _alloc: Global, _descriptor: &mut PropSet) -> Result<Reply, Memory> {
         Err(Memory)
     }
@@ -49,23 +37,6 @@ impl ImageEffect for Clear {
         _params: &mut Vec<ParamDef>,
     ) -> Result<Reply, Memory> {
         Err(Memory)
-    }
-
-    fn create_instance(&self, _alloc: Global) -> Result<Reply, Memory> {
-        Ok(Reply::Default)
-    }
-
-    fn destroy_instance(&self) -> Reply {
-        Reply::Default
-    }
-
-    fn get_clip_preferences(
-        &self,
-        _alloc: Global,
-        _values: &Values,
-        _out_args: &mut PropSet,
-    ) -> Result<Reply, Memory> {
-        Ok(Reply::Default)
     }
 
     fn get_region_of_definition(
@@ -103,10 +74,6 @@ impl ImageEffect for Clear {
         Identity::No
     }
 
-    fn begin_sequence_render(&self, _alloc: Global, _in_args: &PropSet) -> Result<Reply, Memory> {
-        Ok(Reply::Default)
-    }
-
     fn render(
         &self,
         _alloc: Global,
@@ -118,10 +85,6 @@ impl ImageEffect for Clear {
         _out: &mut Part<'_>,
     ) -> Result<(), Memory> {
         Err(Memory)
-    }
-
-    fn end_sequence_render(&self, _in_args: &PropSet) -> Reply {
-        Reply::Default
     }
 }
 
@@ -135,14 +98,6 @@ impl ImageEffect for Wide {
     ghost meaning = { λ _. wide };
 
     ghost laws = { λ _. wide_laws };
-
-    fn load(&self, _alloc: Global) -> Result<Reply, Memory> {
-        Ok(Reply::Default)
-    }
-
-    fn unload(&self) -> Reply {
-        Reply::Default
-    }
 
     fn describe(&self, _alloc: Global, _descriptor: &mut PropSet) -> Result<Reply, Memory> {
         Err(Memory)
@@ -158,23 +113,6 @@ impl ImageEffect for Wide {
         Err(Memory)
     }
 
-    fn create_instance(&self, _alloc: Global) -> Result<Reply, Memory> {
-        Ok(Reply::Default)
-    }
-
-    fn destroy_instance(&self) -> Reply {
-        Reply::Default
-    }
-
-    fn get_clip_preferences(
-        &self,
-        _alloc: Global,
-        _values: &Values,
-        _out_args: &mut PropSet,
-    ) -> Result<Reply, Memory> {
-        Ok(Reply::Default)
-    }
-
     fn get_region_of_definition(
         &self,
         alloc: Global,
@@ -184,8 +122,7 @@ impl ImageEffect for Wide {
         out_args: &mut PropSet,
     ) -> Result<Reply, Memory> {
         let hull = region_of(regions, 0).hull(region_of(regions, 1));
-        let name = "OfxImageEffectPropRegionOfDefinition";
-        write_region(alloc, out_args, name, hull.grow(1, 1))?;
+        write_region(alloc, out_args, REGION, hull.grow(1, 1))?;
         Ok(Reply::Ok)
     }
 
@@ -196,8 +133,7 @@ impl ImageEffect for Wide {
         in_args: &PropSet,
         out_args: &mut PropSet,
     ) -> Result<Reply, Memory> {
-        let asked = region_at(in_args, "OfxImageEffectPropRegionOfInterest");
-        let needed = asked.grow(2, 2);
+        let needed = asked_region(in_args).grow(2, 2);
         write_interest(alloc, out_args, &["A", "B"], &[needed, needed])?;
         Ok(Reply::Ok)
     }
@@ -221,10 +157,6 @@ impl ImageEffect for Wide {
         }
     }
 
-    fn begin_sequence_render(&self, _alloc: Global, _in_args: &PropSet) -> Result<Reply, Memory> {
-        Ok(Reply::Default)
-    }
-
     fn render(
         &self,
         _alloc: Global,
@@ -236,9 +168,5 @@ impl ImageEffect for Wide {
         _out: &mut Part<'_>,
     ) -> Result<(), Memory> {
         Err(Memory)
-    }
-
-    fn end_sequence_render(&self, _in_args: &PropSet) -> Reply {
-        Reply::Default
     }
 }

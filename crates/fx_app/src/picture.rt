@@ -2,10 +2,9 @@
 ghost use Rattle.std.specs.Prelude.{◌≡◌, ◌≢◌, ◌<◌, ◌≤◌, ◌&&◌, ◌+◌, ℕ, ℤ, pos, [], ◌∷◌, IfOk, OnOk, IsTrue, replicate};
 ghost use Rattle.std.specs.List.{AllZip};
 ghost use Rattle.std.specs.Int.Signed.{le_z};
-ghost use Rattle.fx_base.specs.Rect.{columns, rows, Holds, IsNear};
+ghost use Rattle.fx_base.specs.Rect.{columns, rows, Holds, IsNear, IsFrame};
 ghost use Rattle.fx_base.specs.Bounds.{none};
 ghost use Rattle.fx_effect.specs.Shape.{InRange, IsProject};
-ghost use Rattle.fx_effect.specs.Asked.{IsFrame};
 ghost use Rattle.fx_gen.specs.Solid.{levels as of_solid};
 ghost use Rattle.fx_pixel.specs.declared.Format.TheVariants.{RgbAlpha};
 ghost use Rattle.fx_image.specs.Image.{SameImage};

@@ -1,3 +1,1 @@
-pub mod PaintLaws
-pub mod ColumnLaws
 pub mod AskedLaws

@@ -1,23 +1,22 @@
 //! The effect solid.
-ghost use Rattle.std.specs.Prelude.{◌≡◌, ◌≤◌, ◌<◌, ◌⊎◌, ℤ, pos, ◌≤ℤ◌, true, false, codes, IfOk, refl};
-ghost use Rattle.std.specs.Int.{int_gap};
-ghost use Rattle.fx_base.specs.Rect.{within, Holds, columns};
+ghost use Rattle.std.specs.Prelude.{◌≡◌, ◌≤◌, ◌≤ℤ◌, pos, IfOk};
 ghost use Rattle.fx_pixel.specs.Pixel.{greatest, components_of, IsOfDepth};
-ghost use Rattle.fx_gen.specs.Solid.{scale, colour, solid, solid_pixel, level, HasLevels};
+ghost use Rattle.fx_effect.specs.Shape.{IsLawful};
+ghost use Rattle.fx_gen.specs.Solid.{scale, colour, solid, solid_shape};
 ghost use Rattle.fx_gen.specs.SolidLaws.{solid_laws};
 
-use crate::paint::paint;
-use fx_base::{Memory, Name, Names, Rect};
+use fx_base::{Fix, Memory, Rect};
 use fx_core::Ticket;
 use fx_effect::{
-    Catalogue, Context, Description, Identity, ImageEffect, Inputs, Reply, RowKernel, Safety,
-    Values, fill, offset, write_region,
+    Context, Description, Identity, ImageEffect, Inputs, PlaceKernel, Reply, Safety, Values,
+    fill_places,
 };
 use fx_gate::Hold;
 use fx_image::Part;
-use fx_params::{ParamDef, ParamKind};
+use fx_params::ParamDef;
 use fx_pixel::{Components, Depth, Pixel};
-use fx_props::PropSet;
+use fx_props::names::REGION;
+use fx_props::{PropSet, write_region};
 use std::alloc::Global;
 
 /// One colour over the project's extent, and zero outside it: a generator. Its parameters are r, g, b
@@ -25,21 +24,14 @@ use std::alloc::Global;
 #[derive(Clone, Copy, Debug, PartialEq, Eq)]
 pub struct Solid;
 
-// Its number in the catalogue.
-const NUMBER: u32 = 0;
+// The levels 0 and 1.
+const NONE: Fix = Fix { raw: 0 };
+const FULL: Fix = Fix { raw: 65536 };
 
 impl ImageEffect for Solid {
     ghost meaning = { λ _. solid };
 
     ghost laws = { λ _. solid_laws };
-
-    fn load(&self, _alloc: Global) -> Result<Reply, Memory> {
-        Ok(Reply::Default)
-    }
-
-    fn unload(&self) -> Reply {
-        Reply::Default
-    }
 
     fn describe(&self, alloc: Global, descriptor: &mut PropSet) -> Result<Reply, Memory> {
         let description = Description {
@@ -61,28 +53,11 @@ impl ImageEffect for Solid {
         _clips: &mut Vec<PropSet>,
         params: &mut Vec<ParamDef>,
     ) -> Result<Reply, Memory> {
-        params.push(level(alloc, "r", 0)?)?;
-        params.push(level(alloc, "g", 0)?)?;
-        params.push(level(alloc, "b", 0)?)?;
-        params.push(level(alloc, "a", GREATEST_LEVEL)?)?;
+        params.push(ParamDef::fix(alloc, "r", NONE, FULL, NONE)?)?;
+        params.push(ParamDef::fix(alloc, "g", NONE, FULL, NONE)?)?;
+        params.push(ParamDef::fix(alloc, "b", NONE, FULL, NONE)?)?;
+        params.push(ParamDef::fix(alloc, "a", NONE, FULL, FULL)?)?;
         Ok(Reply::Ok)
-    }
-
-    fn create_instance(&self, _alloc: Global) -> Result<Reply, Memory> {
-        Ok(Reply::Default)
-    }
-
-    fn destroy_instance(&self) -> Reply {
-        Reply::Default
-    }
-
-    fn get_clip_preferences(
-        &self,
-        _alloc: Global,
-        _values: &Values,
-        _out_args: &mut PropSet,
-    ) -> Result<Reply, Memory> {
-        Ok(Reply::Default)
     }
 
     fn get_region_of_definition(
@@ -93,8 +68,7 @@ impl ImageEffect for Solid {
         _in_args: &PropSet,
         out_args: &mut PropSet,
     ) -> Result<Reply, Memory> {
-        let name = "OfxImageEffectPropRegionOfDefinition";
-        write_region(alloc, out_args, name, values.project)?;
+        write_region(alloc, out_args, REGION, values.project)?;
         Ok(Reply::Ok)
     }
 
@@ -122,10 +96,6 @@ impl ImageEffect for Solid {
         Identity::No
     }
 
-    fn begin_sequence_render(&self, _alloc: Global, _in_args: &PropSet) -> Result<Reply, Memory> {
-        Ok(Reply::Default)
-    }
-
     fn render(
         &self,
         _alloc: Global,
@@ -136,110 +106,45 @@ impl ImageEffect for Solid {
         ticket: &mut Ticket,
         out: &mut Part<'_>,
     ) -> Result<(), Memory> {
-        fill(&SolidRows { values }, out);
+        let colour = colour(out.depth(), out.components(), values);
+        fill_places(&Plain { colour }, values.project, out);
         ticket.stamped = true;
         Ok(())
     }
+}
 
-    fn end_sequence_render(&self, _in_args: &PropSet) -> Reply {
-        Reply::Default
+// One pixel everywhere.
+#[derive(Clone, Copy)]
+struct Plain {
+    colour: Pixel,
+}
+
+impl PlaceKernel for Plain {
+    ghost is_ready = { λ k depth c. IsOfDepth depth k.colour × (components_of k.colour ≡ c) };
+
+    ghost of = { λ k depth c x y. k.colour };
+
+    fn place(&self, _depth: Depth, _components: Components, _x: i64, _y: i64) -> Pixel {
+        self.colour
     }
 }
 
-impl Catalogue for Solid {
-    ghost called = { λ _. codes "solid" };
-
-    ghost number_of = { λ _. 0 };
-
-    ghost one_name = { λ _ _ _. refl };
-
-    ghost one_meaning = { λ _ _ _. refl };
-
-    fn named(name: &str) -> Option<Self> {
-        if name == "solid" { Some(Solid) } else { None }
-    }
-
-    fn number(&self) -> u32 {
-        NUMBER
-    }
-
-    fn safety(&self) -> Safety {
-        Safety::FullySafe
-    }
-}
-
-// One in units of a level.
-const GREATEST_LEVEL: i64 = 65536;
-
-// A parameter that is a level.
-fn level(alloc: Global, name: &str, start: i64) -> Result<ParamDef, Memory>
-    ensures { IfOk result (λ def. def ≡ level name.now start) }
-{
-    Ok(ParamDef {
-        name: Name::of(String::from_str(alloc, name)?),
-        kind: ParamKind::Fix,
-        least: 0,
-        greatest: GREATEST_LEVEL,
-        choices: Names::of(Vec::new(alloc)),
-        start,
-    })
-}
-
-// The rows of a render.
-#[derive(Drop)]
-struct SolidRows<'a> {
-    values: &'a Values,
-}
-
-impl<'a> RowKernel for SolidRows<'a> {
-    ghost makes = { λ k depth c. HasLevels k.values.now.numbers };
-
-    ghost pixel = { λ k depth c x y. solid_pixel k.values.now c (greatest depth) x y };
-
-    fn fill_row(&self, depth: Depth, components: Components, rect: Rect, y: i64, row: &mut [u8]) {
-        let colour = colour(depth, components, self.values.numbers.items());
-        let zero = Pixel::zero(components);
-        let (from, to) = columns_within(self.values.project, rect, y);
-        let end = offset(rect.x1, rect.x2);
-        paint(depth, components, row, 0, from, zero);
-        paint(depth, components, row, from, to, colour);
-        paint(depth, components, row, to, end, zero);
-    }
-}
-
-// The columns of row y of a rectangle that lie in the project, counted from the rectangle's left: from
-// the first up to the second.
-fn columns_within(project: Rect, rect: Rect, y: i64) -> (usize, usize)
-    requires { rect.x1 ≤ℤ rect.x2 }
-    ensures order { result.0 ≤ result.1 }
-    ensures end { result.1 ≤ columns rect }
-    ensures inside { (x : ℤ) → Holds rect x y → result.0 ≤ int_gap rect.x1 x → int_gap rect.x1 x < result.1 → within project x y ≡ true }
-    ensures outside { (x : ℤ) → Holds rect x y → (int_gap rect.x1 x < result.0) ⊎ (result.1 ≤ int_gap rect.x1 x) → within project x y ≡ false }
-{
-    if y < project.y1 || project.y2 <= y {
-        return (0, 0);
-    }
-    let left = project.x1.clamp(rect.x1, rect.x2);
-    let right = project.x2.clamp(rect.x1, rect.x2);
-    (offset(rect.x1, left), offset(rect.x1, right))
-}
-
-// The colour of these levels.
-fn colour(depth: Depth, components: Components, levels: &[i64]) -> Pixel
-    requires { HasLevels levels.now }
-    ensures value { result ≡ colour (greatest depth) levels.now components }
+// The colour of these values' levels.
+fn colour(depth: Depth, components: Components, values: &Values) -> Pixel
+    requires { IsLawful solid_shape values.now }
+    ensures value { result ≡ colour values.now components (greatest depth) }
     ensures depth { IsOfDepth depth result }
     ensures components { components_of result ≡ components }
 {
     match components {
         Components::Rgba => Pixel::Rgba {
-            r: scale(depth, levels[0]),
-            g: scale(depth, levels[1]),
-            b: scale(depth, levels[2]),
-            a: scale(depth, levels[3]),
+            r: scale(depth, values.number(0)),
+            g: scale(depth, values.number(1)),
+            b: scale(depth, values.number(2)),
+            a: scale(depth, values.number(3)),
         },
         Components::Alpha => Pixel::Alpha {
-            a: scale(depth, levels[3]),
+            a: scale(depth, values.number(3)),
         },
     }
 }

@@ -6,24 +6,21 @@ ghost use Rattle.fx_props.specs.declared.value.PropKind.TheVariants as kind;
 ghost use Rattle.fx_props.specs.Value.{kind_of};
 ghost use Rattle.fx_effect.specs.declared.action.Context.{Context as Contexts};
 ghost use Rattle.fx_effect.specs.Shape.{Shape, clip_names};
-ghost use Rattle.fx_effect.specs.Sets.{AwaitEntries, IsBlank, whole, region_values, window_values};
+ghost use Rattle.fx_props.specs.Entries.{AwaitEntries, IsBlank, whole, region_values, window_values, IsModerate};
 ghost use Rattle.fx_effect.specs.Described.{description};
-ghost use Rattle.fx_effect.specs.Entries.{IsModerate};
-ghost use Rattle.fx_effect.specs.Laws.{IsUpTo};
-ghost use Rattle.fx_effect.specs.Asked.{IsAsked, HasTime, HasRegion, HasWindow, AreRegions, AsksRegion, AsksWindow, AsksSequence, MayRender, region_name};
+ghost use Rattle.fx_base.specs.Rect.{IsUpTo};
+ghost use Rattle.fx_effect.specs.Asked.{IsAsked, HasTime, HasRegion, HasWindow, AreRegions, AsksRegion, AsksWindow, AsksSequence, MayRender};
+ghost use Rattle.fx_props.specs.declared.names.TheConstants.{REGION};
 
 use crate::Solid;
 use fx_base::{Fix, Memory, Name, Rect};
 use fx_core::Ticket;
-use fx_effect::{
-    Catalogue, Context, Flags, Identity, ImageEffect, Inputs, Numbers, PropEntry, Reply, Safety,
-    Values, set_of,
-};
+use fx_effect::{Context, Flags, Identity, ImageEffect, Inputs, Numbers, Reply, Values};
 use fx_gate::Gates;
 use fx_image::{Image, Part};
 use fx_params::{ParamDef, ParamKind};
 use fx_pixel::{Components, Depth, Pixel};
-use fx_props::{PropKind, PropSet, PropValue};
+use fx_props::{PropEntry, PropKind, PropSet, PropValue, set_of};
 use std::alloc::Global;
 use std::process::Abort;
 use std::test::Fail;
@@ -99,7 +96,7 @@ fn in_context<E: ImageEffect>(
 
 // A blank region of definition.
 fn blank_region(alloc: Global) -> Result<PropSet, Memory>
-    ensures { IfOk result (λ set. IsBlank set kind.Fix region_name) }
+    ensures { IfOk result (λ set. IsBlank set kind.Fix REGION.now) }
 {
     let name = "OfxImageEffectPropRegionOfDefinition";
     set_of(alloc, vec![in alloc; blank(alloc, name, PropKind::Fix)?]?)
@@ -340,13 +337,6 @@ fn solid_answers_with_the_project(rt: HostRuntime) -> Result<(), Fail> {
         assert_eq!(rt; answers.region.get_fix(name, index)?, Fix { raw });
     }
     Ok(())
-}
-
-#[test]
-fn solid_is_found_by_its_name(rt: HostRuntime) {
-    assert_eq!(rt; Solid::named("solid"), Some(Solid));
-    assert_eq!(rt; Solid::named("invert"), None);
-    assert_eq!(rt; (Solid.number(), Solid.safety()), (0, Safety::FullySafe));
 }
 
 fn rgba(r: u16, g: u16, b: u16, a: u16) -> Pixel {

@@ -2,7 +2,7 @@
 use Rattle.std.proofs.Common.{◌≡◌, ℕ, ◌<◌, List, [], length, slice_index_or, All, Result, Ok, Err, IfOk, subst}
 use Rattle.fx_base.specs.declared.memory.Memory.{Memory}
 use Rattle.fx_props.specs.Set.{Set}
-use Rattle.fx_effect.specs.Sets.{Entry, IsBlank, HasValues}
+use Rattle.fx_props.specs.Entries.{Entry, IsBlank, HasValues}
 
 -- the values of an entry
 pub values_at : (r : Result Set Memory) (items entries : List Entry) (k : ℕ) (d : Entry) → IfOk r (λ set. All (HasValues set) items) → items ≡ entries → k < length entries → IfOk r (λ set. HasValues set (slice_index_or entries k d))

@@ -1,2 +1,1 @@
-pub mod InvertLaws
 pub mod AskedLaws

@@ -8,24 +8,23 @@ ghost use Rattle.fx_props.specs.declared.value.PropKind.TheVariants as kind;
 ghost use Rattle.fx_props.specs.Value.{kind_of};
 ghost use Rattle.fx_effect.specs.declared.action.Context.{Context as Contexts};
 ghost use Rattle.fx_effect.specs.Shape.{Shape, clip_names};
-ghost use Rattle.fx_effect.specs.Sets.{AreBlank, AwaitEntries, IsBlank, whole, region_values, window_values};
+ghost use Rattle.fx_props.specs.Entries.{AreBlank, AwaitEntries, IsBlank, whole, region_values, window_values, IsModerate};
 ghost use Rattle.fx_effect.specs.Described.{description};
-ghost use Rattle.fx_effect.specs.Entries.{IsModerate};
-ghost use Rattle.fx_effect.specs.Laws.{IsUpTo};
-ghost use Rattle.fx_effect.specs.Asked.{IsAsked, HasTime, HasRegion, HasWindow, AreRegions, AsksRegion, AsksWindow, AsksSequence, MayRender, depth_prefix, components_prefix, interest_prefix, frames_prefix, region_name};
+ghost use Rattle.fx_base.specs.Rect.{IsUpTo};
+ghost use Rattle.fx_effect.specs.Asked.{IsAsked, HasTime, HasRegion, HasWindow, AreRegions, AsksRegion, AsksWindow, AsksSequence, MayRender};
+ghost use Rattle.fx_props.specs.declared.names.TheConstants.{CLIP_DEPTH, CLIP_COMPONENTS, CLIP_REGION, CLIP_FRAMES, REGION};
 
 use crate::Invert;
 use fx_base::{Fix, Memory, Name, Rect};
 use fx_core::Ticket;
 use fx_effect::{
-    Catalogue, Context, Flags, Identity, ImageEffect, Inputs, Numbers, Piece, PropEntry, Reply,
-    Safety, Steps, Values, set_of,
+    Context, Flags, Identity, ImageEffect, Inputs, Numbers, Piece, Reply, Steps, Values,
 };
 use fx_gate::Gates;
 use fx_image::{Image, Part};
 use fx_params::ParamDef;
 use fx_pixel::{Components, Depth, Pixel};
-use fx_props::{PropKind, PropSet, PropValue};
+use fx_props::{PropEntry, PropKind, PropSet, PropValue, set_of};
 use std::alloc::Global;
 use std::process::Abort;
 use std::test::Fail;
@@ -100,11 +99,11 @@ fn in_context<E: ImageEffect>(
 
 // Blank properties for each action that writes.
 fn blanks(alloc: Global) -> Result<PropSet, Memory>
-    ensures depths { IfOk result (λ set. AreBlank set depth_prefix kind.Text (codes "Source" ∷ [])) }
-    ensures components { IfOk result (λ set. AreBlank set components_prefix kind.Text (codes "Source" ∷ [])) }
-    ensures interest { IfOk result (λ set. AreBlank set interest_prefix kind.Fix (codes "Source" ∷ [])) }
-    ensures frames { IfOk result (λ set. AreBlank set frames_prefix kind.Fix (codes "Source" ∷ [])) }
-    ensures region { IfOk result (λ set. IsBlank set kind.Fix region_name) }
+    ensures depths { IfOk result (λ set. AreBlank set CLIP_DEPTH.now kind.Text (codes "Source" ∷ [])) }
+    ensures components { IfOk result (λ set. AreBlank set CLIP_COMPONENTS.now kind.Text (codes "Source" ∷ [])) }
+    ensures interest { IfOk result (λ set. AreBlank set CLIP_REGION.now kind.Fix (codes "Source" ∷ [])) }
+    ensures frames { IfOk result (λ set. AreBlank set CLIP_FRAMES.now kind.Fix (codes "Source" ∷ [])) }
+    ensures region { IfOk result (λ set. IsBlank set kind.Fix REGION.now) }
 {
     let entries = vec![in alloc;
         blank(alloc, "OfxImageClipPropDepth_Source", PropKind::Text)?,
@@ -333,13 +332,6 @@ fn invert_leaves_answers_to_the_host(rt: HostRuntime) -> Result<(), Fail> {
     Ok(())
 }
 
-#[test]
-fn invert_is_found_by_its_name(rt: HostRuntime) {
-    assert_eq!(rt; Invert::named("invert"), Some(Invert));
-    assert_eq!(rt; Invert::named("solid"), None);
-    assert_eq!(rt; (Invert.number(), Invert.safety()), (4, Safety::FullySafe));
-}
-
 const SOURCE: Pixel = Pixel::Rgba {
     r: 10,
     g: 200,
@@ -408,7 +400,7 @@ fn inverted_row(
     let mut inputs = Inputs::new(alloc, to, vec![in alloc; rgba]?)?;
     let through = Steps::of(vec![in alloc;]?);
     let view = frame.view(frame.rect());
-    inputs.push(0, 7, Piece::Frame { view, through })?;
+    inputs.push(alloc, 0, 7, Piece::Frame { view, through })?;
     let mut image = Image::new(alloc, Rect::of(0, 0, 5, 1), to, rgba, 40)?;
     let window = Rect::of(1, 0, 3, 1);
     let in_args_here = in_args(alloc, window)?;

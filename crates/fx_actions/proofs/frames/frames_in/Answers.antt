@@ -1,9 +1,8 @@
 use Rattle.std.proofs.Common.{◌≡◌, ◌∙◌, ◌++◌, ◌<◌, [], ◌∷◌, get_or, length, map, sym, ap, subst, arith}
 use Rattle.std.proofs.lemmas.List.{map-append}
 use Rattle.fx_props.specs.declared.value.PropKind.TheVariants as kind
-use Rattle.fx_effect.specs.Sets.{range_values, HasValues}
-use Rattle.fx_effect.specs.Asked.{frames_prefix}
-use Rattle.fx_actions.specs.Read.{frames_entry}
+use Rattle.fx_props.specs.Entries.{range_values, HasValues, frames_entry}
+use Rattle.fx_props.specs.declared.names.TheConstants.{CLIP_FRAMES}
 use Rattle.fx_actions.proofs.AnswerLemmas.{entry_of_clip, each_clip-more}
 use Rattle.fx_actions.proofs.frames.frames_in.Goals as goal
 
@@ -17,7 +16,7 @@ frames_of-requires c =
     let within : k < length names = omega (arith, ap length c.items-name-items.ensures) in
     record {
       spans = spans k;
-      there = subst (λ n. HasValues set (frames_entry (frames_prefix ++ n) (spans k))) (sym named) (entry_of_clip (HasValues set) frames_prefix kind.Fix (λ clip. range_values (spans clip)) names k c.name-item.result c.requires.are within);
+      there = subst (λ n. HasValues set (frames_entry (CLIP_FRAMES.now ++ n) (spans k))) (sym named) (entry_of_clip (HasValues set) CLIP_FRAMES.now kind.Fix (λ clip. range_values (spans clip)) names k c.name-item.result c.requires.are within);
     }
 
 pub loop-name-preserved : goal.loop-name-preserved
@@ -27,6 +26,6 @@ loop-name-preserved c = λ spans are.
     let k = c.loop-name.name-index in
     let named : c.text.result.now ≡ get_or names k c.name-item.result = c.text.ensures ∙ c.name-item.is ∙ ap (λ ns. get_or ns k c.name-item.result) c.items-name-items.ensures in
     let within : k < length names = omega (arith, ap length c.items-name-items.ensures) in
-    let there = subst (λ n. HasValues set (frames_entry (frames_prefix ++ n) (spans k))) (sym named) (entry_of_clip (HasValues set) frames_prefix kind.Fix (λ clip. range_values (spans clip)) names k c.name-item.result are within) in
+    let there = subst (λ n. HasValues set (frames_entry (CLIP_FRAMES.now ++ n) (spans k))) (sym named) (entry_of_clip (HasValues set) CLIP_FRAMES.now kind.Fix (λ clip. range_values (spans clip)) names k c.name-item.result are within) in
     let pushed = ap (map (λ s. s.items)) c.in_ok-push.ensures.items ∙ map-append (λ s. s.items) c.loop-name.frames.items (c.in_ok-frames_of.field-0 ∷ []) in
     each_clip-more spans k _ _ _ pushed (c.loop-name.invariant spans are) (c.in_ok-frames_of.ensures (spans k) there)

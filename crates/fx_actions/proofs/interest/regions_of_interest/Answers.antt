@@ -1,13 +1,13 @@
 use Rattle.std.proofs.Common.{◌∙◌, ap, subst, length, replicate}
 use Rattle.fx_props.specs.declared.value.PropKind.TheVariants as kind
-use Rattle.fx_effect.specs.Sets.{AreBlank}
-use Rattle.fx_effect.specs.Asked.{interest_prefix}
+use Rattle.fx_props.specs.Entries.{AreBlank}
+use Rattle.fx_props.specs.declared.names.TheConstants.{CLIP_REGION}
 use Rattle.fx_actions.proofs.AnswerLemmas.{names_differ, interest_written, interest_left, each_clip-same}
 use Rattle.fx_actions.proofs.interest.regions_of_interest.Goals as goal
 
 pub clip_set_of_blanks-requires : goal.clip_set_of_blanks-requires
 clip_set_of_blanks-requires g c =
-    let bound = g.met.E.ImageEffect g.world.𝓛 g.world.𝓜 g.world.𝓡 ((λ s x. x), (λ x. x), (λ x. x), λ x. x) in
+    let bound = g.met.E.ImageEffect in
     names_differ (g.E.ImageEffect.meaning c.args.effect.now) c.args.values.now c.args.names.now (bound.laws c.args.effect.now) c.requires.names
 
 pub get_regions_of_interest-requires-clause-blank : goal.get_regions_of_interest-requires-clause-blank
@@ -16,7 +16,7 @@ get_regions_of_interest-requires-clause-blank g c =
     record {
       context = names.context;
       lawful = names.lawful;
-      blank = subst (AreBlank c.in_ok-out_args.out_args interest_prefix kind.Fix) names.are c.in_ok-out_args.ensures;
+      blank = subst (AreBlank c.in_ok-out_args.out_args CLIP_REGION.now kind.Fix) names.are c.in_ok-out_args.ensures;
     }
 
 pub regions_in-requires : goal.regions_in-requires
@@ -24,7 +24,7 @@ regions_in-requires g c =
     let m = g.E.ImageEffect.meaning c.args.effect.now in
     let v = c.args.values.now in
     let names = c.requires.names in
-    let bound = g.met.E.ImageEffect g.world.𝓛 g.world.𝓜 g.world.𝓡 ((λ s x. x), (λ x. x), (λ x. x), λ x. x) in
+    let bound = g.met.E.ImageEffect in
     let asked = c.in_ok-get_regions_of_interest.ensures names.context c.args.window names.lawful c.requires.window c.in_ok-in_args.ensures.region in
     record {
       regions = m.roi v c.args.window;
@@ -36,7 +36,7 @@ returns-in-Ok g c =
     let m = g.E.ImageEffect.meaning c.args.effect.now in
     let v = c.args.values.now in
     let names = c.requires.names in
-    let bound = g.met.E.ImageEffect g.world.𝓛 g.world.𝓜 g.world.𝓡 ((λ s x. x), (λ x. x), (λ x. x), λ x. x) in
+    let bound = g.met.E.ImageEffect in
     let asked = c.in_ok-get_regions_of_interest.ensures names.context c.args.window names.lawful c.requires.window c.in_ok-in_args.ensures.region in
     c.regions_in.ensures (m.roi v c.args.window) (interest_written m v c.args.window c.args.names.now names _ _ _ (bound.laws c.args.effect.now) c.requires.window.bounds c.in-Ok.is asked)
 

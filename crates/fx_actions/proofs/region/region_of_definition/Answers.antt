@@ -6,7 +6,7 @@ pub region_at-requires : goal.region_at-requires
 region_at-requires g c =
     let m = g.E.ImageEffect.meaning c.args.effect.now in
     let v = c.args.values.now in
-    let bound = g.met.E.ImageEffect g.world.𝓛 g.world.𝓜 g.world.𝓡 ((λ s x. x), (λ x. x), (λ x. x), λ x. x) in
+    let bound = g.met.E.ImageEffect in
     let regions = c.args.regions.now in
     let asked = c.in_ok-get_region_of_definition.ensures c.args.context c.requires.lawful in
     record {
@@ -19,7 +19,7 @@ pub returns-in-Ok : goal.returns-in-Ok
 returns-in-Ok g c =
     let m = g.E.ImageEffect.meaning c.args.effect.now in
     let v = c.args.values.now in
-    let bound = g.met.E.ImageEffect g.world.𝓛 g.world.𝓜 g.world.𝓡 ((λ s x. x), (λ x. x), (λ x. x), λ x. x) in
+    let bound = g.met.E.ImageEffect in
     let regions = c.args.regions.now in
     let asked = c.in_ok-get_region_of_definition.ensures c.args.context c.requires.lawful in
     c.region_at.ensures (m.rod c.args.context v regions) ((bound.laws c.args.effect.now).region_is_rect c.args.context v regions c.requires.lawful c.requires.regions) (region_written m v regions c.args.context _ _ _ c.in-Ok.is asked)

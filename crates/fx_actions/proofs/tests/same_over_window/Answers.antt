@@ -3,7 +3,7 @@ use Rattle.std.proofs.lemmas.Int.{ints}
 use Rattle.fx_actions.proofs.tests.same_over_window.Goals as goal
 
 pub identity-requires-clause-window : goal.identity-requires-clause-window
-identity-requires-clause-window g c κs within =
+identity-requires-clause-window g c =
     record {
       region = record { x1 = pos 2; y1 = pos 1; x2 = pos 5; y2 = pos 4 };
       window = record {

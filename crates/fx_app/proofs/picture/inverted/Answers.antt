@@ -11,7 +11,7 @@ returns c frames k shows =
     shows_invert c.args.graph.now frames k c.args.frame c.args.before.now c.in_ok-image.image c.render.new.image _ shows c.in_ok-image.ensures.frame c.in_ok-render.ensures (λ x y. ap inverted (c.in_ok-inputs.ensures.pixels x y))
 
 pub render-requires-clause-may : goal.render-requires-clause-may
-render-requires-clause-may c κs =
+render-requires-clause-may c =
     let none : c.of.result ≡ [] = search rules in
     let one : c.of-2.result ≡ true ∷ [] = search rules in
     let depth : c.in_ok-inputs.inputs.depth ≡ Byte = search rules in

@@ -19,7 +19,7 @@ returns c frames is =
     }
 
 pub render-requires-clause-may : goal.render-requires-clause-may
-render-requires-clause-may c κs =
+render-requires-clause-may c =
     let none : c.of-2.result ≡ [] = search rules in
     let depth : c.in_ok-inputs.inputs.depth ≡ Byte = search rules in
     let source : c.in_ok-inputs.inputs.components ≡ [] = search rules in

@@ -4,7 +4,7 @@ use Rattle.fx_props.specs.Set.{Set}
 use Rattle.fx_props.specs.declared.value.PropKind.{PropKind}
 use Rattle.fx_props.specs.declared.value.PropKind.TheVariants as kind
 use Rattle.fx_effect.specs.Shape.{Shape}
-use Rattle.fx_effect.specs.Sets.{Entry, IsBlank, AwaitEntries}
+use Rattle.fx_props.specs.Entries.{Entry, IsBlank, AwaitEntries}
 use Rattle.fx_effect.specs.Described.{description}
 use Rattle.fx_gen.proofs.AskedLaws.{with_blanks}
 use Rattle.fx_gen.proofs.tests.blank_descriptor.Goals as goal

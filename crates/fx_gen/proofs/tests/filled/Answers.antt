@@ -47,7 +47,7 @@ may v given depth c is depth_is none =
     }
 
 pub rendered-requires-clause-asked : goal.rendered-requires-clause-asked
-rendered-requires-clause-asked g c lifetimes = asked c.in_ok-values.values c.in_ok-in_args.in_args c.in_ok-values.ensures c.in_ok-in_args.ensures.time
+rendered-requires-clause-asked g c = asked c.in_ok-values.values c.in_ok-in_args.in_args c.in_ok-values.ensures c.in_ok-in_args.ensures.time
 
 pub rendered-requires-clause-may : goal.rendered-requires-clause-may
-rendered-requires-clause-may g c lifetimes = may c.in_ok-values.values c.in_ok-inputs.inputs c.part-part.result.image.now.depth c.part-part.result.image.now.components c.in_ok-values.ensures (search rules) (search rules)
+rendered-requires-clause-may g c = may c.in_ok-values.values c.in_ok-inputs.inputs c.part-part.result.image.now.depth c.part-part.result.image.now.components c.in_ok-values.ensures (search rules) (search rules)

@@ -3,9 +3,8 @@ use Rattle.fx_base.specs.declared.memory.Memory.{Memory}
 use Rattle.fx_base.specs.Bounds.{Bounds}
 use Rattle.fx_props.specs.Set.{Set}
 use Rattle.fx_props.specs.declared.value.PropKind.TheVariants as kind
-use Rattle.fx_effect.specs.Sets.{Entry, HasValues, whole, region_values, window_values}
+use Rattle.fx_props.specs.Entries.{Entry, HasValues, whole, region_values, window_values, NamesDiffer}
 use Rattle.fx_effect.specs.Asked.{AsksSequence}
-use Rattle.fx_effect.specs.Entries.{NamesDiffer}
 use Rattle.fx_effect.specs.ShapeLaws.{names_differ}
 use Rattle.fx_point.proofs.AskedLaws.{values_at}
 use Rattle.fx_point.proofs.tests.in_args.Goals as goal

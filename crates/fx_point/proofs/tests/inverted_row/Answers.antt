@@ -45,13 +45,13 @@ may v given depth c is depth_is samples rgba =
     }
 
 pub rendered-requires-clause-asked : goal.rendered-requires-clause-asked
-rendered-requires-clause-asked g c lifetimes = asked c.in_ok-values.values c.in_ok-in_args_here.in_args_here c.in_ok-values.ensures c.in_ok-in_args_here.ensures.time
+rendered-requires-clause-asked g c = asked c.in_ok-values.values c.in_ok-in_args_here.in_args_here c.in_ok-values.ensures c.in_ok-in_args_here.ensures.time
 
 pub rendered-requires-clause-may : goal.rendered-requires-clause-may
-rendered-requires-clause-may g c lifetimes = may c.in_ok-values.values c.push.new.self c.part-part.result.image.now.depth c.part-part.result.image.now.components c.in_ok-values.ensures (search rules) (search rules) (search rules)
+rendered-requires-clause-may g c = may c.in_ok-values.values c.push.new.self c.part-part.result.image.now.depth c.part-part.result.image.now.components c.in_ok-values.ensures (search rules) (search rules) (search rules)
 
 pub rendered-requires-2-clause-asked : goal.rendered-requires-2-clause-asked
-rendered-requires-2-clause-asked g c lifetimes = asked c.in_ok-values.values c.in_ok-in_args_there.in_args_there c.in_ok-values.ensures c.in_ok-in_args_there.ensures.time
+rendered-requires-2-clause-asked g c = asked c.in_ok-values.values c.in_ok-in_args_there.in_args_there c.in_ok-values.ensures c.in_ok-in_args_there.ensures.time
 
 pub rendered-requires-2-clause-may : goal.rendered-requires-2-clause-may
-rendered-requires-2-clause-may g c lifetimes = may c.in_ok-values.values c.push.new.self c.part-part-2.result.image.now.depth c.part-part-2.result.image.now.components c.in_ok-values.ensures (search rules) (search rules) (search rules)
+rendered-requires-2-clause-may g c = may c.in_ok-values.values c.push.new.self c.part-part-2.result.image.now.depth c.part-part-2.result.image.now.components c.in_ok-values.ensures (search rules) (search rules) (search rules)

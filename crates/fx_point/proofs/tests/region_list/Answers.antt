@@ -1,5 +1,5 @@
 use Rattle.fx_props.specs.declared.value.PropKind.TheVariants as kind
-use Rattle.fx_effect.proofs.WritingLaws.{four_of}
+use Rattle.fx_props.proofs.EntryLaws.{four_of}
 use Rattle.fx_point.proofs.tests.region_list.Goals as goal
 
 pub returns-clause-of_kind : goal.returns-clause-of_kind

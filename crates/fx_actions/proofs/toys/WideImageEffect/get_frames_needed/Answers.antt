@@ -1,7 +1,6 @@
 use Rattle.std.proofs.Common.{◌≡◌, [], ◌∷◌, codes, ℤ, pos, ◌+ℤ◌, ◌-ℤ◌, w64, to_z, of_z, subst, arith}
 use Rattle.std.proofs.lemmas.Int.{ints}
-use Rattle.fx_effect.specs.Sets.{Wrote}
-use Rattle.fx_effect.specs.Asked.{frame_ranges}
+use Rattle.fx_props.specs.Entries.{Wrote, frame_ranges}
 use Rattle.fx_actions.proofs.toys.WideImageEffect.get_frames_needed.Goals as goal
 
 pub returns : goal.returns

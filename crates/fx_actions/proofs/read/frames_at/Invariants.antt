@@ -1,7 +1,0 @@
-use Rattle.std.proofs.Common.{◌≡◌, ℤ, List, take}
-use Rattle.fx_effect.specs.Sets.{HasValues}
-use Rattle.fx_actions.specs.Read.{frames_entry}
-use Rattle.fx_actions.proofs.read.frames_at.Given as goal
-
-abbrev pub invariant-loop-k : goal.invariant-loop-k
-invariant-loop-k l = (spans : List (ℤ × ℤ)) → HasValues l.set (frames_entry l.name spans) → l.spans.items ≡ take l.k spans
