@@ -34,6 +34,7 @@ colour_of_depth context v depth c lawful = go c
   where
     bound : (k : ℕ) → k < 4 → scale (greatest depth) (number v k) ≤ greatest depth
     bound k low = scale_bound (greatest depth) (number v k) (level_between context v k lawful low).below
+
     go : (c : Components) → IsOfDepth depth (colour v c (greatest depth))
     go components.Rgba = (bound 0 (omega arith), bound 1 (omega arith), bound 2 (omega arith), bound 3 (omega arith))
     go components.Alpha = bound 3 (omega arith)

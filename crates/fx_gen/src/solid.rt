@@ -26,6 +26,7 @@ pub struct Solid;
 
 // The levels 0 and 1.
 const NONE: Fix = Fix { raw: 0 };
+
 const FULL: Fix = Fix { raw: 65536 };
 
 impl ImageEffect for Solid {
