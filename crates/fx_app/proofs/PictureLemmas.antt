@@ -18,7 +18,7 @@ use Rattle.fx_effect.specs.Tap.{tap}
 use Rattle.fx_effect.specs.Given.{GivenPiece, first_pixel}
 use Rattle.fx_point.specs.Invert.{inverted}
 use Rattle.fx_scene.specs.Graph.{Graph, project}
-use Rattle.fx_gen.specs.Solid.{solid_pixel}
+use Rattle.fx_gen.specs.Solid.{solid}
 use Rattle.fx_scene.specs.declared.solid.Levels.{Levels}
 use Rattle.fx_scene.specs.declared.graph.Source.{Source}
 use Rattle.fx_scene.specs.declared.graph.Start.TheVariants as start
@@ -129,7 +129,7 @@ pub source_there : (g : Graph) (frames : Frames) (s : Source) (t x y : ℤ) (ima
 source_there g frames s t x y image is has there = first_value g frames s t x y is ∙ rw (has, there) refl
 
 -- the value of the first node, where it is a solid
-pub solid_value : (g : Graph) (frames : Frames) (l : Levels) (t x y : ℤ) → g.start ≡ start.Solid l → value (nodes_of g frames) 0 t x y ≡ solid_pixel (solid_values g l t) Rgba 255 x y
+pub solid_value : (g : Graph) (frames : Frames) (l : Levels) (t x y : ℤ) → g.start ≡ start.Solid l → value (nodes_of g frames) 0 t x y ≡ solid.mix (solid_values g l t) Rgba 255 x y []
 solid_value g frames l t x y is = start_value g frames t x y ∙ ap (λ n. node_value (value (nodes_of g frames)) (first_node g frames n) t x y) is
 
 -- an image of a frame shows the first node

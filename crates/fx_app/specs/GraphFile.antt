@@ -136,8 +136,13 @@ pattern_for frames text =
 
 abbrev pub source_from : Option (List ℕ) → Option (List ℕ) → Option Frames → Option Source
 source_from (Some name) (Some text) (Some frames) =
-    option_map (λ pattern. record { name =
-        name; pattern = pattern; first = frames.first; last = frames.last }) (pattern_for frames text)
+    option_map (λ pattern. record {
+      name =
+          name;
+      pattern = pattern;
+      first = frames.first;
+      last = frames.last;
+    }) (pattern_for frames text)
 source_from _ _ _ = None
 
 abbrev pub source_of : Data → Option Source
@@ -248,8 +253,16 @@ is_framed d = is_object_of top_keys d && has_whole (codes "ofxr") 1 d
 
 abbrev pub graph_from : Option (ℕ × ℕ) → Option Frames → Option Start → Option Chain → Option (List ℕ) → Option Graph
 graph_from (Some sides) (Some range) (Some start) (Some chain) (Some file) =
-    Some (record { width =
-        sides.0; height = sides.1; start = start; inverts = chain.inverts; file = file; first = range.first; last = range.last })
+    Some (record {
+      width =
+          sides.0;
+      height = sides.1;
+      start = start;
+      inverts = chain.inverts;
+      file = file;
+      first = range.first;
+      last = range.last;
+    })
 graph_from _ _ _ _ _ = None
 
 abbrev pub graph_on : Items → Data → Option Graph

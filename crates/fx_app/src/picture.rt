@@ -20,11 +20,12 @@ ghost use Rattle.fx_pam.specs.Text.{pam_text};
 ghost use Rattle.fx_scene.specs.Scene.{Frames, picture};
 ghost use Rattle.fx_app.specs.Steps.{frames_of};
 ghost use Rattle.fx_app.specs.Ready.{AreReady};
-ghost use Rattle.fx_app.specs.Running.{instances};
+ghost use Rattle.fx_app.specs.Running.{instances, IsOf};
 ghost use Rattle.fx_app.specs.Picture.{IsFrame as IsFrameOf, IsCanvas, ShowsNode, IsFilled};
 
 use crate::copy::copy_frame;
 use crate::plugins::Plugins;
+use crate::shipped::Shipped;
 use fx_base::{Memory, Rect};
 use fx_effect::{Flags, Inputs, Numbers, Piece, Steps, Values};
 use fx_image::Image;
@@ -109,6 +110,7 @@ fn solid_image(
     frame: i64,
 ) -> Result<Image, Memory>
     requires ready { instances plugins.now.solid ≡ 1 }
+    requires effect { IsOf Shipped.Solid plugins.now.solid }
     requires frame { IsFrame frame }
     ensures { (frames : Frames) → graph.now.start ≡ SolidNode levels
         → IfOk result (λ image. ShowsNode graph.now frames 0 frame image) }
@@ -212,7 +214,7 @@ fn inputs_of<'a>(alloc: Global, image: &'a Image, frame: i64) -> Result<Inputs<'
     let mut inputs = Inputs::new(alloc, Depth::Byte, components)?;
     let view = image.view(image.rect());
     let through = Steps::of(Vec::new(alloc));
-    inputs.push(0, frame, Piece::Frame { view, through })?;
+    inputs.push(alloc, 0, frame, Piece::Frame { view, through })?;
     Ok(inputs)
 }
 
@@ -226,6 +228,7 @@ fn inverted(
     frame: i64,
 ) -> Result<Image, Memory>
     requires place { place < instances plugins.now.invert }
+    requires effect { IsOf Shipped.Invert plugins.now.invert }
     requires frame { IsFrame frame }
     requires before { IsFrameOf graph.now before.now }
     ensures { (frames : Frames) (k : ℕ) → ShowsNode graph.now frames k frame before.now
