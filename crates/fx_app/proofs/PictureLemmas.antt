@@ -18,13 +18,13 @@ use Rattle.fx_effect.specs.Tap.{tap}
 use Rattle.fx_effect.specs.Given.{GivenPiece, first_pixel}
 use Rattle.fx_point.specs.Invert.{inverted}
 use Rattle.fx_scene.specs.Graph.{Graph, project}
-use Rattle.fx_gen.specs.Solid.{solid_pixel}
+use Rattle.fx_gen.specs.Solid.{solid}
 use Rattle.fx_scene.specs.declared.solid.Levels.{Levels}
 use Rattle.fx_scene.specs.declared.graph.Source.{Source}
 use Rattle.fx_scene.specs.declared.graph.Start.TheVariants as start
-use Rattle.fx_scene.specs.Plan.{Reel}
-use Rattle.fx_scene.specs.Value.{value, node_value, reel_value, has_frame}
-use Rattle.fx_scene.specs.Scene.{Frames, plan_of, start_kind, solid_values, picture}
+use Rattle.fx_scene.specs.Nodes.{SourceFrames}
+use Rattle.fx_scene.specs.Value.{value, node_value, source_value, has_frame}
+use Rattle.fx_scene.specs.Scene.{Frames, nodes_of, first_node, solid_values, picture}
 use Rattle.fx_scene.proofs.ChainLemmas.{start_value, invert_value}
 use Rattle.fx_app.specs.Picture.{IsFrame, IsCanvas, ShowsNode, IsFilled}
 
@@ -104,36 +104,36 @@ shows_picture g frames t image shows = record { rect = shows.frame.rect; depth =
     by x y false is = rw (shows.frame.rect, shows.frame.components, is) refl
 
 -- a canvas shows a node that is zero
-pub shows_zero : (g : Graph) (frames : Frames) (k : ℕ) (t : ℤ) (image : Stored) → IsCanvas g image → ((x y : ℤ) → value (plan_of g frames) k t x y ≡ zero_pixel Rgba) → ShowsNode g frames k t image
+pub shows_zero : (g : Graph) (frames : Frames) (k : ℕ) (t : ℤ) (image : Stored) → IsCanvas g image → ((x y : ℤ) → value (nodes_of g frames) k t x y ≡ zero_pixel Rgba) → ShowsNode g frames k t image
 shows_zero g frames k t image is black = record { frame = is.frame; pixels = λ x y inside. is.zeros x y ∙ sym (black x y) }
 
-abbrev pub reel : Source → Frames → Reel
-reel s frames = record { first = pos s.first; last = pos s.last; frames = frames; depth = Byte; components = Rgba }
+abbrev pub frames_of_source : Source → Frames → SourceFrames
+frames_of_source s frames = record { first = pos s.first; last = pos s.last; frames = frames; depth = Byte; components = Rgba }
 
 -- the value of the first node, where it is a source
-source_value : (g : Graph) (frames : Frames) (s : Source) (t x y : ℤ) → g.start ≡ start.Source s → value (plan_of g frames) 0 t x y ≡ reel_value (reel s frames) t x y
-source_value g frames s t x y is = start_value g frames t x y ∙ ap (λ n. node_value (value (plan_of g frames)) (start_kind g frames n) t x y) is
+first_value : (g : Graph) (frames : Frames) (s : Source) (t x y : ℤ) → g.start ≡ start.Source s → value (nodes_of g frames) 0 t x y ≡ source_value (frames_of_source s frames) t x y
+first_value g frames s t x y is = start_value g frames t x y ∙ ap (λ n. node_value (value (nodes_of g frames)) (first_node g frames n) t x y) is
 
 -- outside its frames it is zero, and so is a frame that isn't there
-pub source_outside : (g : Graph) (frames : Frames) (s : Source) (t x y : ℤ) → g.start ≡ start.Source s → has_frame (reel s frames) t ≡ false → value (plan_of g frames) 0 t x y ≡ zero_pixel Rgba
-source_outside g frames s t x y is out = source_value g frames s t x y is ∙ rw out refl
+pub source_outside : (g : Graph) (frames : Frames) (s : Source) (t x y : ℤ) → g.start ≡ start.Source s → has_frame (frames_of_source s frames) t ≡ false → value (nodes_of g frames) 0 t x y ≡ zero_pixel Rgba
+source_outside g frames s t x y is out = first_value g frames s t x y is ∙ rw out refl
 
-pub source_absent : (g : Graph) (frames : Frames) (s : Source) (t x y : ℤ) → g.start ≡ start.Source s → frames t ≡ None → value (plan_of g frames) 0 t x y ≡ zero_pixel Rgba
-source_absent g frames s t x y is none = source_value g frames s t x y is ∙ by (has_frame (reel s frames) t) refl
+pub source_absent : (g : Graph) (frames : Frames) (s : Source) (t x y : ℤ) → g.start ≡ start.Source s → frames t ≡ None → value (nodes_of g frames) 0 t x y ≡ zero_pixel Rgba
+source_absent g frames s t x y is none = first_value g frames s t x y is ∙ by (has_frame (frames_of_source s frames) t) refl
   where
-    by : (b : Bool) → has_frame (reel s frames) t ≡ b → reel_value (reel s frames) t x y ≡ zero_pixel Rgba
+    by : (b : Bool) → has_frame (frames_of_source s frames) t ≡ b → source_value (frames_of_source s frames) t x y ≡ zero_pixel Rgba
     by true has = rw (has, none) refl
     by false out = rw out refl
 
-pub source_there : (g : Graph) (frames : Frames) (s : Source) (t x y : ℤ) (image : Image) → g.start ≡ start.Source s → has_frame (reel s frames) t ≡ true → frames t ≡ Some image → value (plan_of g frames) 0 t x y ≡ convert image.depth Byte Rgba (pixel_at image x y)
-source_there g frames s t x y image is has there = source_value g frames s t x y is ∙ rw (has, there) refl
+pub source_there : (g : Graph) (frames : Frames) (s : Source) (t x y : ℤ) (image : Image) → g.start ≡ start.Source s → has_frame (frames_of_source s frames) t ≡ true → frames t ≡ Some image → value (nodes_of g frames) 0 t x y ≡ convert image.depth Byte Rgba (pixel_at image x y)
+source_there g frames s t x y image is has there = first_value g frames s t x y is ∙ rw (has, there) refl
 
 -- the value of the first node, where it is a solid
-pub solid_value : (g : Graph) (frames : Frames) (l : Levels) (t x y : ℤ) → g.start ≡ start.Solid l → value (plan_of g frames) 0 t x y ≡ solid_pixel (solid_values g l t) Rgba 255 x y
-solid_value g frames l t x y is = start_value g frames t x y ∙ ap (λ n. node_value (value (plan_of g frames)) (start_kind g frames n) t x y) is
+pub solid_value : (g : Graph) (frames : Frames) (l : Levels) (t x y : ℤ) → g.start ≡ start.Solid l → value (nodes_of g frames) 0 t x y ≡ solid.mix (solid_values g l t) Rgba 255 x y []
+solid_value g frames l t x y is = start_value g frames t x y ∙ ap (λ n. node_value (value (nodes_of g frames)) (first_node g frames n) t x y) is
 
 -- an image of a frame shows the first node
-pub shows_frame : {E : Type 0} (g : Graph) (frames : Frames) (s : Source) (t : ℤ) (held : Stored) (r : Result Stored E) → g.start ≡ start.Source s → has_frame (reel s frames) t ≡ true → frames t ≡ Some (image_of held) → IfOk r (IsFrame g) → IfOk r (λ image. (x y : ℤ) → Holds (project g) x y → shown image x y ≡ convert held.depth Byte Rgba (shown held x y)) → IfOk r (ShowsNode g frames 0 t)
+pub shows_frame : {E : Type 0} (g : Graph) (frames : Frames) (s : Source) (t : ℤ) (held : Stored) (r : Result Stored E) → g.start ≡ start.Source s → has_frame (frames_of_source s frames) t ≡ true → frames t ≡ Some (image_of held) → IfOk r (IsFrame g) → IfOk r (λ image. (x y : ℤ) → Holds (project g) x y → shown image x y ≡ convert held.depth Byte Rgba (shown held x y)) → IfOk r (ShowsNode g frames 0 t)
 shows_frame g frames s t held (Ok image) is has there frame pixels = record { frame = frame; pixels = λ x y inside. pixels x y inside ∙ sym (source_there g frames s t x y (image_of held) is has there) }
 shows_frame g frames s t held (Err e) is has there frame pixels = tt
 

@@ -131,20 +131,29 @@ abbrev pub names_each : Frames → List ℕ → Bool
 names_each frames pattern = frames.first == frames.last || runs pattern == 1
 
 abbrev pub pattern_for : Frames → List ℕ → Option (List ℕ)
-pattern_for frames text = option_and_then (λ pattern. if names_each frames pattern then Some pattern else None) (pattern_of text)
+pattern_for frames text =
+    option_and_then (λ pattern. if names_each frames pattern then Some pattern else None) (pattern_of text)
 
 abbrev pub source_from : Option (List ℕ) → Option (List ℕ) → Option Frames → Option Source
 source_from (Some name) (Some text) (Some frames) =
-    option_map (λ pattern. record { name = name; pattern = pattern; first = frames.first; last = frames.last }) (pattern_for frames text)
+    option_map (λ pattern. record {
+      name =
+          name;
+      pattern = pattern;
+      first = frames.first;
+      last = frames.last;
+    }) (pattern_for frames text)
 source_from _ _ _ = None
 
 abbrev pub source_of : Data → Option Source
-source_of d = if is_object_of source_keys d then source_from (name_at d) (text_at (codes "source") d) (frames_of d) else None
+source_of d =
+    if is_object_of source_keys d then source_from (name_at d) (text_at (codes "source") d) (frames_of d) else None
 
 -- ---- the first node is a source where it has a member of that name, and else a solid
 
 abbrev pub start_of : Data → Option Start
-start_of d = if is_some (get (codes "source") d) then option_map start.Source (source_of d) else option_map start.Solid (solid_of d)
+start_of d =
+    if is_some (get (codes "source") d) then option_map start.Source (source_of d) else option_map start.Solid (solid_of d)
 
 abbrev pub start_in : Items → Option Start
 start_in no_items = None
@@ -166,7 +175,8 @@ abbrev pub is_clip_of : List ℕ → Data → Bool
 is_clip_of before d = is_object_of clip_keys d && has_text (codes "Source") before d
 
 abbrev pub is_invert_of : List ℕ → Data → Bool
-is_invert_of before d = is_object_of invert_keys d && has_text (codes "effect") (codes "invert") d && holds_at (is_clip_of before) (get (codes "clips") d)
+is_invert_of before d =
+    is_object_of invert_keys d && has_text (codes "effect") (codes "invert") d && holds_at (is_clip_of before) (get (codes "clips") d)
 
 -- ---- the chain, by the names of its nodes, the last one's first
 
@@ -243,7 +253,16 @@ is_framed d = is_object_of top_keys d && has_whole (codes "ofxr") 1 d
 
 abbrev pub graph_from : Option (ℕ × ℕ) → Option Frames → Option Start → Option Chain → Option (List ℕ) → Option Graph
 graph_from (Some sides) (Some range) (Some start) (Some chain) (Some file) =
-    Some (record { width = sides.0; height = sides.1; start = start; inverts = chain.inverts; file = file; first = range.first; last = range.last })
+    Some (record {
+      width =
+          sides.0;
+      height = sides.1;
+      start = start;
+      inverts = chain.inverts;
+      file = file;
+      first = range.first;
+      last = range.last;
+    })
 graph_from _ _ _ _ _ = None
 
 abbrev pub graph_on : Items → Data → Option Graph

@@ -8,3 +8,4 @@ pub mod Steps
 pub mod Picture
 pub mod Running
 pub mod Ready
+pub mod Shipped

@@ -8,7 +8,7 @@ use Rattle.fx_pixel.specs.Pixel.{zero}
 use Rattle.fx_image.specs.Stored.{Stored, shown}
 use Rattle.fx_scene.specs.Graph.{Graph, project}
 use Rattle.fx_scene.specs.Value.{value}
-use Rattle.fx_scene.specs.Scene.{Frames, plan_of}
+use Rattle.fx_scene.specs.Scene.{Frames, nodes_of}
 
 -- an image of bytes and RGBA over the project's extent
 pub record IsFrame (g : Graph) (image : Stored) : Type 0 where
@@ -25,7 +25,7 @@ pub record IsCanvas (g : Graph) (image : Stored) : Type 0 where
 -- such an image, which shows the value of node k
 pub record ShowsNode (g : Graph) (frames : Frames) (k : ℕ) (t : ℤ) (image : Stored) : Type 0 where
   pub frame : IsFrame g image
-  pub pixels : (x y : ℤ) → Holds (project g) x y → shown image x y ≡ value (plan_of g frames) k t x y
+  pub pixels : (x y : ℤ) → Holds (project g) x y → shown image x y ≡ value (nodes_of g frames) k t x y
 
 -- the image keeps its form, and shows these pixels at each place of its rectangle
 pub record IsFilled (old new : Stored) (f : ℤ → ℤ → Pixel) : Type 0 where

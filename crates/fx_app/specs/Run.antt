@@ -49,7 +49,9 @@ frame_refused library g = first_refused library 4096 2147483648 0 (wanted_of g)
 
 -- each wanted source frame shows the image of its file
 abbrev pub AreFrames : Files → Graph → Frames → Type 0
-AreFrames library g frames = (w : Wanted) → Contains (wanted_of g) w → (image : Image) × (frames w.frame ≡ Some image) × (bytes : List ℕ) × (library w.name ≡ Some bytes) × IsPam bytes 4096 image
+AreFrames library g frames =
+    (w : Wanted) → Contains (wanted_of g) w → (image : Image) × (frames w.frame ≡ Some image) × (bytes : List ℕ)
+    × (library w.name ≡ Some bytes) × IsPam bytes 4096 image
 
 -- ---- the files of a run
 
@@ -68,7 +70,8 @@ with_file name bytes files other = if bytes_eq name other then Some bytes else f
 -- files, to which those of n frames from the range's first on are added: each has the text of its frame's picture
 abbrev pub with_frames : Graph → Frames → ℕ → Files → Files
 with_frames g frames zero files = files
-with_frames g frames (suc n) files = with_file (file_name g (g.first + n)) (pam_text RgbAlpha (picture g frames (pos (g.first + n)))) (with_frames g frames n files)
+with_frames g frames (suc n) files =
+    with_file (file_name g (g.first + n)) (pam_text RgbAlpha (picture g frames (pos (g.first + n)))) (with_frames g frames n files)
 
 -- the depot has gained the files of the first n frames, and nothing else
 abbrev pub HasGained : Graph → Frames → ℕ → Files → Files → Type 0
@@ -96,7 +99,8 @@ source_name (start.Source s) = s.name
 
 -- the fault of a run that is this refusal
 abbrev pub Tells : Graph → SeqFault → RunFault → Type 0
-Tells g (seq.Frame node t fault) f = (why : FrameFault) × (fault_of fault ≡ Some why) × (f ≡ run.Frame (source_name g.start) t why)
+Tells g (seq.Frame node t fault) f =
+    (why : FrameFault) × (fault_of fault ≡ Some why) × (f ≡ run.Frame (source_name g.start) t why)
 Tells g (seq.TooLarge node t sum) f = f ≡ run.Frame (source_name g.start) t (frame.TooLarge sum)
 Tells g (seq.Fetch node t name) f = ⊥
 Tells g seq.Memory f = ⊥
@@ -105,9 +109,16 @@ Tells g seq.Memory f = ⊥
 abbrev pub Cause : Files → List ℕ → List ℕ → List ℕ → RunFault → Type 0
 Cause library graph_name last_fetch last_put run.Usage = ⊥
 Cause library graph_name last_fetch last_put run.Graph = IsRefused library graph_name
-Cause library graph_name last_fetch last_put (run.Frame node t why) = (g : Graph) × (graph_under library graph_name ≡ Some g) × (refusal : SeqFault) × (frame_refused library g ≡ Some refusal) × Tells g refusal (run.Frame node t why)
-Cause library graph_name last_fetch last_put (run.Read name) = (last_fetch ≡ name) × ((name ≡ graph_name) ⊎ ((g : Graph) × (graph_under library graph_name ≡ Some g) × (w : Wanted) × Contains (wanted_of g) w × (w.name ≡ name)))
-Cause library graph_name last_fetch last_put (run.Write name) = (last_put ≡ name) × ((g : Graph) × (graph_under library graph_name ≡ Some g) × (k : ℕ) × (k < frame_count g) × (file_name g (g.first + k) ≡ name))
+Cause library graph_name last_fetch last_put (run.Frame node t why) =
+    (g : Graph) × (graph_under library graph_name ≡ Some g) × (refusal : SeqFault)
+    × (frame_refused library g ≡ Some refusal) × Tells g refusal (run.Frame node t why)
+Cause library graph_name last_fetch last_put (run.Read name) =
+    (last_fetch ≡ name) × ((name ≡ graph_name)
+    ⊎ ((g : Graph) × (graph_under library graph_name ≡ Some g) × (w : Wanted) × Contains (wanted_of g) w
+    × (w.name ≡ name)))
+Cause library graph_name last_fetch last_put (run.Write name) =
+    (last_put ≡ name) × ((g : Graph) × (graph_under library graph_name ≡ Some g) × (k : ℕ) × (k < frame_count g)
+    × (file_name g (g.first + k) ≡ name))
 Cause library graph_name last_fetch last_put run.Memory = Unit {0}
 Cause library graph_name last_fetch last_put run.Report = (g : Graph) × (graph_under library graph_name ≡ Some g)
 
@@ -156,7 +167,8 @@ Leaves library graph_name fault old new = SameFiles old new
 
 -- the report was written: how many frames were rendered
 abbrev pub HasReported : Files → List ℕ → List ℕ → List ℕ → Type 0
-HasReported library graph_name old new = (g : Graph) × (graph_under library graph_name ≡ Some g) × (new ≡ old ++ report_of (frame_count g))
+HasReported library graph_name old new =
+    (g : Graph) × (graph_under library graph_name ≡ Some g) × (new ≡ old ++ report_of (frame_count g))
 
 -- ---- by the words
 
@@ -177,11 +189,13 @@ HasTold words library old new = (name : List ℕ) × (order_of words ≡ Some na
 -- the cause of a fault, and what it leaves in the depot, by the words
 abbrev pub CauseOf : List (List ℕ) → Files → List ℕ → List ℕ → RunFault → Type 0
 CauseOf words library last_fetch last_put run.Usage = order_of words ≡ None
-CauseOf words library last_fetch last_put fault = (name : List ℕ) × (order_of words ≡ Some name) × Cause library name last_fetch last_put fault
+CauseOf words library last_fetch last_put fault =
+    (name : List ℕ) × (order_of words ≡ Some name) × Cause library name last_fetch last_put fault
 
 abbrev pub LeavesOf : List (List ℕ) → Files → RunFault → Files → Files → Type 0
 LeavesOf words library run.Usage old new = SameFiles old new
-LeavesOf words library fault old new = (name : List ℕ) × (order_of words ≡ Some name) × Leaves library name fault old new
+LeavesOf words library fault old new =
+    (name : List ℕ) × (order_of words ≡ Some name) × Leaves library name fault old new
 
 -- the statuses that a run may end with
 abbrev pub is_status : ℕ → Bool

@@ -12,3 +12,8 @@ pub record AreSequences (number : ℕ) (live : List ℕ) (sequences : List Rende
 abbrev pub instances : {E : Type 0} → Option (Plugin E) → ℕ
 instances None = 0
 instances (Some p) = length p.live
+
+-- the plug-in, where there is one, is of this effect
+abbrev pub IsOf : {E : Type 0} → E → Option (Plugin E) → Type 0
+IsOf effect None = Unit {0}
+IsOf effect (Some p) = p.effect ≡ effect

@@ -41,7 +41,8 @@ IsGraphFault library name fault = ⊥
 
 -- a wanted frame is refused, or was not fetched
 abbrev pub IsFramesFault : Files → Graph → RunFault → Type 0
-IsFramesFault library g (run.Frame node t why) = (refusal : SeqFault) × (frame_refused library g ≡ Some refusal) × Tells g refusal (run.Frame node t why)
+IsFramesFault library g (run.Frame node t why) =
+    (refusal : SeqFault) × (frame_refused library g ≡ Some refusal) × Tells g refusal (run.Frame node t why)
 IsFramesFault library g (run.Read name) = (w : Wanted) × Contains (wanted_of g) w × (w.name ≡ name)
 IsFramesFault library g run.Memory = Unit {0}
 IsFramesFault library g fault = ⊥
@@ -55,7 +56,8 @@ IsFillFault g (seq.TooLarge node t sum) f = Tells g (seq.TooLarge node t sum) f 
 
 -- a file of the range was not put: the depot's count rose, and the name is the last that failed
 abbrev pub IsPutFault : Graph → ℕ → ℕ → List ℕ → RunFault → Type 0
-IsPutFault g before now last (run.Write name) = HasRisen before now × (last ≡ name) × (k : ℕ) × (k < frame_count g) × (file_name g (g.first + k) ≡ name)
+IsPutFault g before now last (run.Write name) =
+    HasRisen before now × (last ≡ name) × (k : ℕ) × (k < frame_count g) × (file_name g (g.first + k) ≡ name)
 IsPutFault g before now last run.Memory = Unit {0}
 IsPutFault g before now last fault = ⊥
 
@@ -72,7 +74,8 @@ LeavesFile file fault old new = SameFiles old new
 
 -- what the frames leave where one was not put
 abbrev pub LeavesFrames : Graph → Frames → RunFault → Files → Files → Type 0
-LeavesFrames g frames (run.Write name) old new = (k : ℕ) × (k < frame_count g) × (name ≡ file_name g (g.first + k)) × HasGainedBut g frames k old new
+LeavesFrames g frames (run.Write name) old new =
+    (k : ℕ) × (k < frame_count g) × (name ≡ file_name g (g.first + k)) × HasGainedBut g frames k old new
 LeavesFrames g frames run.Memory old new = (k : ℕ) × (k ≤ frame_count g) × HasGained g frames k old new
 LeavesFrames g frames fault old new = ⊥
 
@@ -94,7 +97,8 @@ LeavesEnd g frames fault old new = ⊥
 abbrev pub GraphCause : Files → Graph → List ℕ → List ℕ → RunFault → Type 0
 GraphCause library g last_fetch last_put (run.Frame node t why) = IsFramesFault library g (run.Frame node t why)
 GraphCause library g last_fetch last_put (run.Read name) = (last_fetch ≡ name) × IsFramesFault library g (run.Read name)
-GraphCause library g last_fetch last_put (run.Write name) = (last_put ≡ name) × (k : ℕ) × (k < frame_count g) × (file_name g (g.first + k) ≡ name)
+GraphCause library g last_fetch last_put (run.Write name) =
+    (last_put ≡ name) × (k : ℕ) × (k < frame_count g) × (file_name g (g.first + k) ≡ name)
 GraphCause library g last_fetch last_put run.Memory = Unit {0}
 GraphCause library g last_fetch last_put run.Report = Unit {0}
 GraphCause library g last_fetch last_put fault = ⊥

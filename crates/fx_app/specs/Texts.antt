@@ -28,7 +28,8 @@ frame_text (frame.TooLarge sum) = codes "P6 " ++ decimal sum
 abbrev pub line_of : RunFault → List ℕ
 line_of run.Usage = codes "usage: ofxr MODE GRAPH [--first N] [--last N] [--tile N] [--cache N] [--workers N]\n"
 line_of run.Graph = codes "ofxr: graph: G0\n"
-line_of (run.Frame node t fault) = codes "ofxr: frame: " ++ node ++ codes " " ++ signed_decimal t ++ codes " " ++ frame_text fault ++ codes "\n"
+line_of (run.Frame node t fault) =
+    codes "ofxr: frame: " ++ node ++ codes " " ++ signed_decimal t ++ codes " " ++ frame_text fault ++ codes "\n"
 line_of (run.Read name) = codes "ofxr: read: " ++ name ++ codes "\n"
 line_of (run.Write name) = codes "ofxr: write: " ++ name ++ codes "\n"
 line_of run.Memory = codes "ofxr: memory\n"

@@ -103,9 +103,11 @@ pub fn put_frames<D: Depot>(
     store: &Store,
     depot: &mut D,
 ) -> Result<(), RunFault>
-    ensures ok { D.tells → OnOk result (HasGained graph.now (frames_of store.now) (frame_count graph.now) (D.file depot.old) (D.file depot.new)) }
+    ensures ok { D.tells
+        → OnOk result (HasGained graph.now (frames_of store.now) (frame_count graph.now) (D.file depot.old) (D.file depot.new)) }
     ensures fault { IfErr result (λ e. IsPutFault graph.now (D.faults depot.old) (D.faults depot.new) (D.last depot.new) e) }
-    ensures leaves { D.tells → IfErr result (λ e. LeavesFrames graph.now (frames_of store.now) e (D.file depot.old) (D.file depot.new)) }
+    ensures leaves { D.tells
+        → IfErr result (λ e. LeavesFrames graph.now (frames_of store.now) e (D.file depot.old) (D.file depot.new)) }
 {
     let plugins = Plugins::start(alloc, graph)?;
     let put = put_each(alloc, graph, store, &plugins, depot);
@@ -121,9 +123,11 @@ fn put_each<D: Depot>(
     depot: &mut D,
 ) -> Result<(), RunFault>
     requires ready { AreReady graph.now plugins.now }
-    ensures ok { D.tells → OnOk result (HasGained graph.now (frames_of store.now) (frame_count graph.now) (D.file depot.old) (D.file depot.new)) }
+    ensures ok { D.tells
+        → OnOk result (HasGained graph.now (frames_of store.now) (frame_count graph.now) (D.file depot.old) (D.file depot.new)) }
     ensures fault { IfErr result (λ e. IsPutFault graph.now (D.faults depot.old) (D.faults depot.new) (D.last depot.new) e) }
-    ensures leaves { D.tells → IfErr result (λ e. LeavesFrames graph.now (frames_of store.now) e (D.file depot.old) (D.file depot.new)) }
+    ensures leaves { D.tells
+        → IfErr result (λ e. LeavesFrames graph.now (frames_of store.now) e (D.file depot.old) (D.file depot.new)) }
 {
     for frame in graph.first()..graph.last() + 1 {
         match put_frame(alloc, graph, store, plugins, frame, depot) {
@@ -144,9 +148,11 @@ fn put_frame<D: Depot>(
 ) -> Result<(), RunFault>
     requires ready { AreReady graph.now plugins.now }
     requires frame { frame ≤ 999999 }
-    ensures ok { D.tells → OnOk result (SameFiles (with_file (file_name graph.now frame) (pam_text RgbAlpha (picture graph.now (frames_of store.now) (pos frame))) (D.file depot.old)) (D.file depot.new)) }
+    ensures ok { D.tells
+        → OnOk result (SameFiles (with_file (file_name graph.now frame) (pam_text RgbAlpha (picture graph.now (frames_of store.now) (pos frame))) (D.file depot.old)) (D.file depot.new)) }
     ensures fault { IfErr result (λ e. IsPutFaultOf (file_name graph.now frame) (D.faults depot.old) (D.faults depot.new) (D.last depot.new) e) }
-    ensures leaves { D.tells → IfErr result (λ e. LeavesFile (file_name graph.now frame) e (D.file depot.old) (D.file depot.new)) }
+    ensures leaves { D.tells
+        → IfErr result (λ e. LeavesFile (file_name graph.now frame) e (D.file depot.old) (D.file depot.new)) }
     ensures later { D.faults depot.old ≤ D.faults depot.new }
 {
     let name = graph.file().name(alloc, frame)?;

@@ -7,11 +7,12 @@
 mod copy;
 mod frames;
 mod graph;
+mod graph_under;
 mod json;
 mod picture;
 mod plugins;
 mod running;
-mod source;
+mod shipped;
 mod steps;
 mod tell;
 mod texts;

@@ -2,10 +2,9 @@
 ghost use Rattle.std.specs.Prelude.{◌≡◌, ◌≢◌, ◌<◌, ◌≤◌, ◌&&◌, ◌+◌, ℕ, ℤ, pos, [], ◌∷◌, IfOk, OnOk, IsTrue, replicate};
 ghost use Rattle.std.specs.List.{AllZip};
 ghost use Rattle.std.specs.Int.Signed.{le_z};
-ghost use Rattle.fx_base.specs.Rect.{columns, rows, Holds, IsNear};
+ghost use Rattle.fx_base.specs.Rect.{columns, rows, Holds, IsNear, IsFrame};
 ghost use Rattle.fx_base.specs.Bounds.{none};
 ghost use Rattle.fx_effect.specs.Shape.{InRange, IsProject};
-ghost use Rattle.fx_effect.specs.Asked.{IsFrame};
 ghost use Rattle.fx_gen.specs.Solid.{levels as of_solid};
 ghost use Rattle.fx_pixel.specs.declared.Format.TheVariants.{RgbAlpha};
 ghost use Rattle.fx_image.specs.Image.{SameImage};
@@ -21,11 +20,12 @@ ghost use Rattle.fx_pam.specs.Text.{pam_text};
 ghost use Rattle.fx_scene.specs.Scene.{Frames, picture};
 ghost use Rattle.fx_app.specs.Steps.{frames_of};
 ghost use Rattle.fx_app.specs.Ready.{AreReady};
-ghost use Rattle.fx_app.specs.Running.{instances};
+ghost use Rattle.fx_app.specs.Running.{instances, IsOf};
 ghost use Rattle.fx_app.specs.Picture.{IsFrame as IsFrameOf, IsCanvas, ShowsNode, IsFilled};
 
 use crate::copy::copy_frame;
 use crate::plugins::Plugins;
+use crate::shipped::Shipped;
 use fx_base::{Memory, Rect};
 use fx_effect::{Flags, Inputs, Numbers, Piece, Steps, Values};
 use fx_image::Image;
@@ -110,8 +110,10 @@ fn solid_image(
     frame: i64,
 ) -> Result<Image, Memory>
     requires ready { instances plugins.now.solid ≡ 1 }
+    requires effect { IsOf Shipped.Solid plugins.now.solid }
     requires frame { IsFrame frame }
-    ensures { (frames : Frames) → graph.now.start ≡ SolidNode levels → IfOk result (λ image. ShowsNode graph.now frames 0 frame image) }
+    ensures { (frames : Frames) → graph.now.start ≡ SolidNode levels
+        → IfOk result (λ image. ShowsNode graph.now frames 0 frame image) }
 {
     let values = Values {
         frame,
@@ -161,7 +163,8 @@ fn source_image(
     store: &Store,
     frame: i64,
 ) -> Result<Image, Memory>
-    ensures { graph.now.start ≡ SourceNode source.now → IfOk result (λ image. ShowsNode graph.now (frames_of store.now) 0 frame image) }
+    ensures { graph.now.start ≡ SourceNode source.now
+        → IfOk result (λ image. ShowsNode graph.now (frames_of store.now) 0 frame image) }
 {
     if !has_frame(source, frame) {
         return canvas(alloc, graph);
@@ -181,7 +184,8 @@ fn has_frame(source: &Source, frame: i64) -> bool
 // A frame, converted to bytes, as far as the project's extent goes.
 fn copied(alloc: Global, graph: &Graph, held: &Image, frame: i64) -> Result<Image, Memory>
     ensures frame { IfOk result (λ image. IsFrameOf graph.now image) }
-    ensures pixels { IfOk result (λ image. (x y : ℤ) → Holds (project graph.now) x y → shown image x y ≡ convert held.now.depth Bytes RgbaSamples (shown held.now x y)) }
+    ensures pixels { IfOk result (λ image. (x y : ℤ) → Holds (project graph.now) x y
+        → shown image x y ≡ convert held.now.depth Bytes RgbaSamples (shown held.now x y)) }
 {
     let inputs = inputs_of(alloc, held, frame)?;
     let mut image = canvas(alloc, graph)?;
@@ -203,13 +207,14 @@ fn copy_whole(inputs: &Inputs<'_>, frame: i64, image: &mut Image)
 fn inputs_of<'a>(alloc: Global, image: &'a Image, frame: i64) -> Result<Inputs<'a>, Memory>
     ensures depth { IfOk result (λ inputs. inputs.depth ≡ Bytes) }
     ensures source { IfOk result (λ inputs. inputs.components ≡ RgbaSamples ∷ []) }
-    ensures pixels { IfOk result (λ inputs. (x y : ℤ) → input_pixel inputs (tap 0 frame x y) ≡ convert image.now.depth Bytes RgbaSamples (shown image.now x y)) }
+    ensures pixels { IfOk result (λ inputs. (x y : ℤ)
+        → input_pixel inputs (tap 0 frame x y) ≡ convert image.now.depth Bytes RgbaSamples (shown image.now x y)) }
 {
     let components = vec![in alloc; Components::Rgba]?;
     let mut inputs = Inputs::new(alloc, Depth::Byte, components)?;
     let view = image.view(image.rect());
     let through = Steps::of(Vec::new(alloc));
-    inputs.push(0, frame, Piece::Frame { view, through })?;
+    inputs.push(alloc, 0, frame, Piece::Frame { view, through })?;
     Ok(inputs)
 }
 
@@ -223,9 +228,11 @@ fn inverted(
     frame: i64,
 ) -> Result<Image, Memory>
     requires place { place < instances plugins.now.invert }
+    requires effect { IsOf Shipped.Invert plugins.now.invert }
     requires frame { IsFrame frame }
     requires before { IsFrameOf graph.now before.now }
-    ensures { (frames : Frames) (k : ℕ) → ShowsNode graph.now frames k frame before.now → IfOk result (λ image. ShowsNode graph.now frames (k + 1) frame image) }
+    ensures { (frames : Frames) (k : ℕ) → ShowsNode graph.now frames k frame before.now
+        → IfOk result (λ image. ShowsNode graph.now frames (k + 1) frame image) }
 {
     let values = Values {
         frame,

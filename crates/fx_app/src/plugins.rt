@@ -1,21 +1,20 @@
 //! The effects of a graph, through their order of life.
 ghost use Rattle.std.specs.Prelude.{◌≡◌, ◌<◌, ◌≤◌, ◌+◌, IfOk};
 ghost use Rattle.std.specs.List.{Contains};
-ghost use Rattle.fx_app.specs.Running.{instances};
+ghost use Rattle.fx_app.specs.Running.{instances, IsOf};
 ghost use Rattle.fx_app.specs.Ready.{solids, AreReady};
 
 use crate::running::{Running, Span};
+use crate::shipped::Shipped;
 use fx_base::Memory;
 use fx_effect::{Catalogue, Context};
-use fx_gen::Solid;
-use fx_point::Invert;
 use fx_scene::{Graph, Start};
 use std::alloc::Global;
 
 /// An instance of each node of a graph that is an effect, each in its sequence. They have to be finished.
 pub(crate) struct Plugins {
-    pub(crate) solid: Option<Running<Solid>>,
-    pub(crate) invert: Option<Running<Invert>>,
+    pub(crate) solid: Option<Running<Shipped>>,
+    pub(crate) invert: Option<Running<Shipped>>,
 }
 
 impl Plugins {
@@ -26,13 +25,13 @@ impl Plugins {
     {
         let solid = running(
             alloc,
-            Solid,
+            Shipped::Solid,
             Context::Generator,
             span(graph, 0, solids(graph)),
         )?;
         match running(
             alloc,
-            Invert,
+            Shipped::Invert,
             Context::Filter,
             span(graph, 1, graph.inverts()),
         ) {
@@ -84,7 +83,8 @@ fn running<E: Catalogue + Drop>(
     requires supported { Contains (E.meaning effect).shape.contexts context }
     requires nodes { span.first_node + span.count ≤ 65536 }
     requires frames { (span.first ≤ 1073741824) × (span.last ≤ 1073741824) }
-    ensures { IfOk result (λ r. instances r ≡ span.count) }
+    ensures instances { IfOk result (λ r. instances r ≡ span.count) }
+    ensures effect { IfOk result (λ r. IsOf effect r) }
 {
     if span.count == 0 {
         Ok(None)

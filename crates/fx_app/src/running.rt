@@ -5,7 +5,8 @@ ghost use Rattle.std.specs.List.{Contains};
 ghost use Rattle.fx_base.specs.Bounds.{none};
 ghost use Rattle.fx_effect.specs.Shape.{IsLawful};
 ghost use Rattle.fx_effect.specs.Meaning.{rendered};
-ghost use Rattle.fx_effect.specs.Asked.{IsFrame, MayRender};
+ghost use Rattle.fx_effect.specs.Asked.{MayRender};
+ghost use Rattle.fx_base.specs.Rect.{IsFrame};
 ghost use Rattle.fx_life.specs.Plugin.{described};
 ghost use Rattle.fx_app.specs.Picture.{IsFilled};
 

@@ -12,7 +12,7 @@ ghost use Rattle.fx_app.specs.declared.texts.RunFault.{RunFault};
 ghost use Rattle.fx_app.specs.declared.texts.RunFault.TheVariants.{Memory as OutOfMemory, Usage as OtherWords};
 
 use crate::frames::{frame_count, put_frames, store_of};
-use crate::source::graph_of;
+use crate::graph_under::graph_of;
 use crate::tell::{report_frames, tell};
 use crate::texts::RunFault;
 use crate::words::order_of;
@@ -57,7 +57,8 @@ pub fn run<R: Threads + Wait + Sync, L: Library, D: Depot, O: Sink, F: Sink, P: 
         × LeavesOf (map string_bytes words.now) (L.file library.old) fault (D.file depot.old) (D.file depot.new)
         × LeavesReport fault (O.written out.old) (O.written out.new)
         × (result ≢ 6 → GainsLine (line_of fault) (F.written err.old) (F.written err.new) (F.faults err.old) (F.faults err.new)) }
-    ensures memory_line { F.tells → result ≡ 6 → AddsPrefix (line_of OutOfMemory) (F.written err.old) (F.written err.new) }
+    ensures memory_line { F.tells → result ≡ 6
+        → AddsPrefix (line_of OutOfMemory) (F.written err.old) (F.written err.new) }
     ensures causes_usage { (result ≡ 1) → order_of (map string_bytes words.now) ≡ None }
     ensures refuses_words { order_of (map string_bytes words.now) ≡ None → (result ≡ 1) ⊎ (result ≡ 6) }
     ensures causes_read { result ≡ 4 → HasRisen (L.faults library.old) (L.faults library.new) }
@@ -79,15 +80,20 @@ fn outcome<L: Library, D: Depot, O: Sink>(
     depot: &mut D,
     out: &mut O,
 ) -> Result<(), RunFault>
-    ensures done { L.tells → D.tells → OnOk result (HasDone (map string_bytes words.now) (L.file library.old) (D.file depot.old) (D.file depot.new)) }
-    ensures told { L.tells → O.tells → OnOk result (HasTold (map string_bytes words.now) (L.file library.old) (O.written out.old) (O.written out.new)) }
+    ensures done { L.tells → D.tells
+        → OnOk result (HasDone (map string_bytes words.now) (L.file library.old) (D.file depot.old) (D.file depot.new)) }
+    ensures told { L.tells → O.tells
+        → OnOk result (HasTold (map string_bytes words.now) (L.file library.old) (O.written out.old) (O.written out.new)) }
     ensures accepted { L.tells → OnOk result (IsAccepted (map string_bytes words.now) (L.file library.old)) }
-    ensures cause { L.tells → IfErr result (λ e. CauseOf (map string_bytes words.now) (L.file library.old) (L.last library.new) (D.last depot.new) e) }
-    ensures leaves { L.tells → D.tells → IfErr result (λ e. LeavesOf (map string_bytes words.now) (L.file library.old) e (D.file depot.old) (D.file depot.new)) }
+    ensures cause { L.tells
+        → IfErr result (λ e. CauseOf (map string_bytes words.now) (L.file library.old) (L.last library.new) (D.last depot.new) e) }
+    ensures leaves { L.tells → D.tells
+        → IfErr result (λ e. LeavesOf (map string_bytes words.now) (L.file library.old) e (D.file depot.old) (D.file depot.new)) }
     ensures report { O.tells → IfErr result (λ e. LeavesReport e (O.written out.old) (O.written out.new)) }
     ensures rose { IfErr result (λ e. Rose (L.faults library.old, L.faults library.new) (D.faults depot.old, D.faults depot.new) (O.faults out.old, O.faults out.new) e) }
     ensures usage { IfErr result (λ e. e ≡ OtherWords → order_of (map string_bytes words.now) ≡ None) }
-    ensures other_words { order_of (map string_bytes words.now) ≡ None → IfErr result (λ e. e ≡ OtherWords) × (OnOk result ⊥) }
+    ensures other_words { order_of (map string_bytes words.now) ≡ None → IfErr result (λ e. e ≡ OtherWords)
+        × (OnOk result ⊥) }
 {
     match order_of(words) {
         None => Err(RunFault::Usage),
@@ -103,11 +109,16 @@ fn render<L: Library, D: Depot, O: Sink>(
     depot: &mut D,
     out: &mut O,
 ) -> Result<(), RunFault>
-    ensures done { L.tells → D.tells → OnOk result (HasPutAll (L.file library.old) name.now (D.file depot.old) (D.file depot.new)) }
-    ensures told { L.tells → O.tells → OnOk result (HasReported (L.file library.old) name.now (O.written out.old) (O.written out.new)) }
-    ensures accepted { L.tells → OnOk result ((g : Graph) × (graph_under (L.file library.old) name.now ≡ Some g) × (frame_refused (L.file library.old) g ≡ None)) }
-    ensures cause { L.tells → IfErr result (λ e. Cause (L.file library.old) name.now (L.last library.new) (D.last depot.new) e) }
-    ensures leaves { L.tells → D.tells → IfErr result (λ e. Leaves (L.file library.old) name.now e (D.file depot.old) (D.file depot.new)) }
+    ensures done { L.tells → D.tells
+        → OnOk result (HasPutAll (L.file library.old) name.now (D.file depot.old) (D.file depot.new)) }
+    ensures told { L.tells → O.tells
+        → OnOk result (HasReported (L.file library.old) name.now (O.written out.old) (O.written out.new)) }
+    ensures accepted { L.tells → OnOk result ((g : Graph) × (graph_under (L.file library.old) name.now ≡ Some g)
+        × (frame_refused (L.file library.old) g ≡ None)) }
+    ensures cause { L.tells
+        → IfErr result (λ e. Cause (L.file library.old) name.now (L.last library.new) (D.last depot.new) e) }
+    ensures leaves { L.tells → D.tells
+        → IfErr result (λ e. Leaves (L.file library.old) name.now e (D.file depot.old) (D.file depot.new)) }
     ensures report { O.tells → IfErr result (λ e. LeavesReport e (O.written out.old) (O.written out.new)) }
     ensures rose { IfErr result (λ e. Rose (L.faults library.old, L.faults library.new) (D.faults depot.old, D.faults depot.new) (O.faults out.old, O.faults out.new) e) }
     ensures no_usage { IfErr result (λ e. e ≢ OtherWords) }
@@ -126,11 +137,14 @@ fn render_graph<L: Library, D: Depot, O: Sink>(
     depot: &mut D,
     out: &mut O,
 ) -> Result<(), RunFault>
-    ensures done { L.tells → D.tells → OnOk result ((frames : Frames) × AreFrames (L.file library.old) graph.now frames × HasGained graph.now frames (frame_count graph.now) (D.file depot.old) (D.file depot.new)) }
+    ensures done { L.tells → D.tells → OnOk result ((frames : Frames) × AreFrames (L.file library.old) graph.now frames
+        × HasGained graph.now frames (frame_count graph.now) (D.file depot.old) (D.file depot.new)) }
     ensures told { O.tells → OnOk result (O.written out.new ≡ O.written out.old ++ report_of (frame_count graph.now)) }
     ensures accepted { L.tells → OnOk result (frame_refused (L.file library.old) graph.now ≡ None) }
-    ensures cause { L.tells → IfErr result (λ e. GraphCause (L.file library.old) graph.now (L.last library.new) (D.last depot.new) e) }
-    ensures leaves { L.tells → D.tells → IfErr result (λ e. LeavesGraph (L.file library.old) graph.now e (D.file depot.old) (D.file depot.new)) }
+    ensures cause { L.tells
+        → IfErr result (λ e. GraphCause (L.file library.old) graph.now (L.last library.new) (D.last depot.new) e) }
+    ensures leaves { L.tells → D.tells
+        → IfErr result (λ e. LeavesGraph (L.file library.old) graph.now e (D.file depot.old) (D.file depot.new)) }
     ensures report { O.tells → IfErr result (λ e. LeavesReport e (O.written out.old) (O.written out.new)) }
     ensures rose { IfErr result (λ e. Rose (L.faults library.old, L.faults library.new) (D.faults depot.old, D.faults depot.new) (O.faults out.old, O.faults out.new) e) }
     ensures no_usage { IfErr result (λ e. e ≢ OtherWords) }
@@ -149,10 +163,12 @@ fn put_and_report<D: Depot, O: Sink>(
     depot: &mut D,
     out: &mut O,
 ) -> Result<(), RunFault>
-    ensures done { D.tells → OnOk result (HasGained graph.now (frames_of store.now) (frame_count graph.now) (D.file depot.old) (D.file depot.new)) }
+    ensures done { D.tells
+        → OnOk result (HasGained graph.now (frames_of store.now) (frame_count graph.now) (D.file depot.old) (D.file depot.new)) }
     ensures told { O.tells → OnOk result (O.written out.new ≡ O.written out.old ++ report_of (frame_count graph.now)) }
     ensures fault { IfErr result (λ e. IsEndFault graph.now (D.faults depot.old, D.faults depot.new) (D.last depot.new) (O.faults out.old, O.faults out.new) e) }
-    ensures leaves { D.tells → IfErr result (λ e. LeavesEnd graph.now (frames_of store.now) e (D.file depot.old) (D.file depot.new)) }
+    ensures leaves { D.tells
+        → IfErr result (λ e. LeavesEnd graph.now (frames_of store.now) e (D.file depot.old) (D.file depot.new)) }
     ensures report { O.tells → IfErr result (λ e. LeavesReport e (O.written out.old) (O.written out.new)) }
 {
     match put_frames(alloc, graph, store, depot) {

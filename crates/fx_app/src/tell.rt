@@ -13,7 +13,8 @@ use std::alloc::Global;
 /// the status are those of want of memory.
 pub fn tell<F: Sink>(alloc: Global, err: &mut F, fault: &RunFault) -> u8
     ensures status { (result ≡ status_of fault.now) ⊎ (result ≡ 6) }
-    ensures line { F.tells → result ≢ 6 → GainsLine (line_of fault.now) (F.written err.old) (F.written err.new) (F.faults err.old) (F.faults err.new) }
+    ensures line { F.tells → result ≢ 6
+        → GainsLine (line_of fault.now) (F.written err.old) (F.written err.new) (F.faults err.old) (F.faults err.new) }
     ensures memory { F.tells → result ≡ 6 → AddsPrefix (line_of OutOfMemory) (F.written err.old) (F.written err.new) }
 {
     match fault {
@@ -36,7 +37,8 @@ fn tell_memory<F: Sink>(alloc: Global, err: &mut F) -> u8
 
 // At `Memory` nothing was written.
 fn write_line<F: Sink>(alloc: Global, err: &mut F, fault: &RunFault) -> Result<(), Memory>
-    ensures ok { F.tells → OnOk result (GainsLine (line_of fault.now) (F.written err.old) (F.written err.new) (F.faults err.old) (F.faults err.new)) }
+    ensures ok { F.tells
+        → OnOk result (GainsLine (line_of fault.now) (F.written err.old) (F.written err.new) (F.faults err.old) (F.faults err.new)) }
     ensures memory { F.tells → OnErr result (F.written err.new ≡ F.written err.old) }
 {
     let line = fault.line(alloc)?;

@@ -109,7 +109,8 @@ fn write_line(alloc: Global, name: &str) -> Result<String, Memory>
 }
 
 fn frame_line(alloc: Global, node: &str, frame: i64, fault: &FrameFault) -> Result<String, Memory>
-    ensures { IfOk result (λ text. string_bytes text ≡ codes "ofxr: frame: " ++ node.now ++ codes " " ++ signed_decimal frame ++ codes " " ++ frame_text fault.now ++ codes "\n") }
+    ensures { IfOk result (λ text. string_bytes text ≡ codes "ofxr: frame: " ++ node.now ++ codes " "
+        ++ signed_decimal frame ++ codes " " ++ frame_text fault.now ++ codes "\n") }
 {
     let why = frame_text(alloc, *fault)?;
     Ok(format!(in alloc; "ofxr: frame: {node} {frame} {why}\n")?)

@@ -1,20 +1,24 @@
 -- An effect of the tests: a generator of zero, of a thread safety that is chosen.
-use Rattle.std.specs.Prelude.{◌≡◌, ◌+◌, ℕ, true, false, List, [], ◌∷◌, length, codes, refl}
+use Rattle.std.specs.Prelude.{◌≡◌, ◌<◌, ◌+◌, ℕ, true, false, List, [], ◌∷◌, length, codes, Option, Some, None, if◌then◌else◌, refl}
+use Rattle.std.specs.Str.{bytes_eq}
 use Rattle.std.specs.List.{Contains}
-use Rattle.std.proofs.Common.{zero as none, suc, ap, arith, inr}
-use Rattle.std.proofs.lemmas.Int.{ints}
+use Rattle.std.proofs.Common.{zero as none, suc, ap, arith}
 use Rattle.std.proofs.lemmas.List.Elements.{All-nil}
 use Rattle.fx_base.specs.Bounds.{Bounds, IsRect}
 use Rattle.fx_pixel.specs.declared.Depth.{Depth}
 use Rattle.fx_pixel.specs.declared.Depth.TheVariants as depths
 use Rattle.fx_pixel.specs.declared.Components.{Components}
 use Rattle.fx_pixel.specs.declared.Components.TheVariants as components
-use Rattle.fx_pixel.specs.Pixel.{zero, IsOfDepth, components_of}
-use Rattle.fx_effect.specs.Shape.{Shape, Clip, IsShape, IsContext, IsParam, IsProject, IsLabel}
+use Rattle.fx_pixel.specs.Pixel.{zero}
+use Rattle.fx_pixel.specs.PixelLaws.{zero_form}
+use Rattle.fx_effect.specs.Shape.{Shape, IsShape}
+use Rattle.fx_effect.specs.ShapeTests.{shape_is}
+use Rattle.fx_effect.specs.Generator.{project_is_rect}
 use Rattle.fx_effect.specs.Meaning.{Meaning}
 use Rattle.fx_effect.specs.Default.{default_rod, default_spans}
 use Rattle.fx_effect.specs.DefaultLaws.{default_spans_near, first_near, second_near}
-use Rattle.fx_effect.specs.Laws.{Laws, IsCovered, IsUpTo}
+use Rattle.fx_effect.specs.Laws.{Laws, IsCovered}
+use Rattle.fx_base.specs.Rect.{IsUpTo}
 use Rattle.fx_effect.specs.declared.action.Context.{Context}
 use Rattle.fx_effect.specs.declared.action.Context.TheVariants as context
 use Rattle.fx_effect.specs.declared.action.Identity.TheVariants.{No}
@@ -28,7 +32,7 @@ toy_shape kind =
       label = codes "toy";
       contexts = context.Generator ∷ [];
       depths = depths.Byte ∷ [];
-      components = components.Rgba ∷ [];
+      components = components.Rgba ∷ components.Alpha ∷ [];
       temporal = false;
       tiles = true;
       safety = kind;
@@ -60,6 +64,20 @@ toy_number safety.Unsafe = 3
 toy_number safety.InstanceSafe = 5
 toy_number safety.FullySafe = 7
 
+-- the thread safety of the toy of a name
+abbrev pub toy_of : List ℕ → Option Safety
+toy_of name =
+    if bytes_eq name (codes "unsafe toy")
+    then Some safety.Unsafe
+    else (if bytes_eq name (codes "instance-safe toy")
+    then Some safety.InstanceSafe
+    else (if bytes_eq name (codes "fully safe toy") then Some safety.FullySafe else None))
+
+pub few_toys : (kind : Safety) → toy_number kind < 64
+few_toys safety.Unsafe = omega arith
+few_toys safety.InstanceSafe = omega arith
+few_toys safety.FullySafe = omega arith
+
 same_kind : (a b : Safety) → toy_number a ≡ toy_number b → a ≡ b
 same_kind safety.Unsafe safety.Unsafe e = refl
 same_kind safety.InstanceSafe safety.InstanceSafe e = refl
@@ -79,33 +97,8 @@ one_toy_meaning a b e = ap toy (same_kind a b e)
 
 -- ---- its laws
 
-clear_is_pixel : (depth : Depth) (c : Components) → IsOfDepth depth (zero c) × (components_of (zero c) ≡ c)
-clear_is_pixel depth components.Rgba = ((omega arith, omega arith, omega arith, omega arith), refl)
-clear_is_pixel depth components.Alpha = (omega arith, refl)
-
-toy_is_context : (kind : Safety) (c : Context) → Contains (context.Generator ∷ []) c → IsContext (toy_shape kind) c
-toy_is_context kind context.Generator supported =
-    record { clips = refl; clips_differ = λ i j d low high. absurd (omega arith); few_clips = omega arith; params = All-nil IsParam; params_differ = λ i j d low high. absurd (omega arith); few_params = omega arith }
-toy_is_context kind context.General (none, low, e) = absurd cc
-toy_is_context kind context.General (suc n, low, e) = absurd (omega arith)
-toy_is_context kind context.Filter (none, low, e) = absurd cc
-toy_is_context kind context.Filter (suc n, low, e) = absurd (omega arith)
-toy_is_context kind context.Transition (none, low, e) = absurd cc
-toy_is_context kind context.Transition (suc n, low, e) = absurd (omega arith)
-
 toy_is_shape : (kind : Safety) → IsShape (toy_shape kind)
-toy_is_shape kind =
-    record {
-      label = (omega arith, omega arith);
-      some_context = λ e. cc;
-      some_depth = λ e. cc;
-      rgba = (0, omega arith, refl);
-      contexts = toy_is_context kind;
-      clip_labels = λ c supported. All-nil (λ (clip : Clip). IsLabel clip.name);
-    }
-
-project_is_rect : (r : Bounds) → IsProject r → IsRect r
-project_is_rect r project = inr (omega (arith, ints, project.left, project.wide.0), omega (arith, ints, project.bottom, project.high.0))
+toy_is_shape kind = shape_is (toy_shape kind) refl
 
 -- its region is the project's extent
 only_project : (P : Bounds → Type 0) (c : Context) (v : Values) (regions : List Bounds) → Contains (context.Generator ∷ []) c → P v.project → P (default_rod c [] v regions)
@@ -129,5 +122,6 @@ toy_laws kind =
       interest_near = λ context v r clip n lawful rect up_to. second_near n v.project r up_to;
       region_is_rect = λ context v regions lawful are. only_project IsRect context v regions lawful.supported (project_is_rect v.project lawful.project);
       interest_is_rect = λ context v r clip lawful rect. rect;
-      pixel = λ context v depth c value x y given. clear_is_pixel depth c;
+      pixel = λ context v depth c value x y given. zero_form depth c;
+      whole_within_project = λ context v regions whole lawful are. absurd cc;
     }

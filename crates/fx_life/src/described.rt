@@ -5,15 +5,15 @@ ghost use Rattle.fx_base.specs.Bounds.{none};
 ghost use Rattle.fx_image.specs.Part.{IsPart, SamePart, IsWritten};
 ghost use Rattle.fx_effect.specs.Shape.{IsLawful};
 ghost use Rattle.fx_effect.specs.Meaning.{rendered};
-ghost use Rattle.fx_effect.specs.Asked.{IsFrame, MayRender};
+ghost use Rattle.fx_effect.specs.Asked.{MayRender};
+ghost use Rattle.fx_base.specs.Rect.{IsFrame};
 ghost use Rattle.fx_life.specs.Plugin.{described, without, gate_of};
 ghost use Rattle.fx_life.specs.Course.{Phase, Idle, Sequence, DescribeInContext, Create, Begin, Render, End, Destroy, Unload, Unloaded, state_of, with_phase, Allows};
 
 use crate::{InSequence, Instance};
-use fx_actions::{sequence_args, window_args};
 use fx_base::{Memory, Rect};
 use fx_core::Ticket;
-use fx_effect::{Catalogue, Context, Inputs, Safety, Values};
+use fx_effect::{Catalogue, Context, Inputs, Safety, Values, sequence_args, window_args};
 use fx_gate::Hold;
 use fx_image::Part;
 use std::alloc::Global;

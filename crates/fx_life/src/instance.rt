@@ -1,6 +1,6 @@
 //! Instances of a plug-in: idle ones, and those in a sequence of renders.
-ghost use Rattle.std.specs.Prelude.{◌≡◌, ◌≤◌};
-ghost use Rattle.fx_effect.specs.Asked.{AsksSequence};
+ghost use Rattle.std.specs.Prelude.{◌≡◌, ◌≤◌, pos};
+ghost use Rattle.fx_effect.specs.Asked.{AsksSequence, HasRange};
 
 use fx_props::PropSet;
 use std::marker::Model;
@@ -46,20 +46,23 @@ pub struct InSequence {
 }
 
 impl Model for InSequence {
-    ghost use Rattle.fx_effect.specs.Asked.{AsksSequence};
+    ghost use Rattle.std.specs.Prelude.{pos};
+    ghost use Rattle.fx_effect.specs.Asked.{AsksSequence, HasRange};
     ghost use Rattle.fx_life.specs.Plugin.{Rendering};
 
     ghost Value = { Rendering };
 
     ghost view = { λ s. record { plugin = s.instance.plugin; node = s.instance.node; first = s.first; last = s.last } };
 
-    ghost invariant = { λ s. AsksSequence s.args };
+    // begin was told these very frames
+    ghost invariant = { λ s. AsksSequence s.args × HasRange s.args (pos s.first) (pos s.last) };
 }
 
 impl InSequence {
     // The instance in the sequence that these arguments begin.
     pub(crate) fn of(instance: Instance, first: u32, last: u32, args: PropSet) -> InSequence
-        requires { AsksSequence args }
+        requires asks { AsksSequence args }
+        requires range { HasRange args (pos first) (pos last) }
         ensures { result ≡ record { plugin = instance.plugin; node = instance.node; first = first; last = last } }
     {
         InSequence {

@@ -4,9 +4,8 @@ ghost use Rattle.fx_life.specs.Plugin.{described};
 ghost use Rattle.fx_life.specs.Course.{Phase, Load, Describe, Unload, NotLoaded, Loaded as IsLoaded, Unloaded, state_of, Allows};
 
 use crate::Described;
-use fx_actions::descriptor;
 use fx_base::Memory;
-use fx_effect::Catalogue;
+use fx_effect::{Catalogue, descriptor};
 use std::alloc::Global;
 use std::marker::Model;
 

@@ -1,17 +1,17 @@
 //! An effect of the tests, which notes the actions that come to it.
-ghost use Rattle.std.specs.Prelude.{◌≡◌};
+ghost use Rattle.std.specs.Prelude.{◌≡◌, None};
+ghost use Rattle.std.specs.Option.{option_map};
 ghost use Rattle.fx_pixel.specs.Pixel.{zero};
-ghost use Rattle.fx_life.specs.Toy.{toy, toy_name, toy_number, toy_laws, one_toy_name, one_toy_meaning};
+ghost use Rattle.fx_life.specs.Toy.{toy, toy_name, toy_number, toy_of, toy_laws, one_toy_name, one_toy_meaning, few_toys};
 
 use fx_base::{Memory, Rect};
 use fx_core::Ticket;
 use fx_effect::{
-    Catalogue, Context, Description, Identity, ImageEffect, Inputs, Reply, RowKernel, Safety,
-    Values, fill, offset,
+    Catalogue, Context, Description, Identity, ImageEffect, Inputs, PlaceKernel, Reply, Safety,
+    Values, fill_places,
 };
 use fx_gate::Hold;
 use fx_image::Part;
-use fx_image::samples::set_pixel;
 use fx_params::ParamDef;
 use fx_pixel::{Components, Depth, Pixel};
 use fx_props::PropSet;
@@ -87,15 +87,6 @@ impl ImageEffect for Toy<'_> {
         Reply::Ok
     }
 
-    fn get_clip_preferences(
-        &self,
-        _alloc: Global,
-        _values: &Values,
-        _out_args: &mut PropSet,
-    ) -> Result<Reply, Memory> {
-        Ok(Reply::Default)
-    }
-
     fn get_region_of_definition(
         &self,
         _alloc: Global,
@@ -147,7 +138,7 @@ impl ImageEffect for Toy<'_> {
         out: &mut Part<'_>,
     ) -> Result<(), Memory> {
         self.note(6);
-        fill(&ZeroRows, out);
+        fill_places(&Zero, Rect::of(0, 0, 0, 0), out);
         ticket.stamped = true;
         Ok(())
     }
@@ -163,9 +154,13 @@ impl Catalogue for Toy<'_> {
 
     ghost number_of = { λ t. toy_number t.safety };
 
+    ghost find = { λ name. option_map (λ s. record { safety = s; notes = None }) (toy_of name) };
+
     ghost one_name = { λ a b e. one_toy_name a.safety b.safety e };
 
     ghost one_meaning = { λ a b e. one_toy_meaning a.safety b.safety e };
+
+    ghost few = { λ e. few_toys e.safety };
 
     fn named(name: &str) -> Option<Self> {
         let safety = match name {
@@ -193,18 +188,16 @@ impl Catalogue for Toy<'_> {
     }
 }
 
-// The rows of a render.
-#[derive(Drop)]
-struct ZeroRows;
+// The zero pixel everywhere.
+#[derive(Clone, Copy)]
+struct Zero;
 
-impl RowKernel for ZeroRows {
-    ghost makes = { λ k depth c. Unit {0} };
+impl PlaceKernel for Zero {
+    ghost is_ready = { λ _ _ _. Unit {0} };
 
-    ghost pixel = { λ k depth c x y. zero c };
+    ghost of = { λ _ depth c x y. zero c };
 
-    fn fill_row(&self, depth: Depth, components: Components, rect: Rect, _y: i64, row: &mut [u8]) {
-        for i in 0..offset(rect.x1, rect.x2) {
-            set_pixel(depth, row, i, Pixel::zero(components));
-        }
+    fn place(&self, _depth: Depth, components: Components, _x: i64, _y: i64) -> Pixel {
+        Pixel::zero(components)
     }
 }

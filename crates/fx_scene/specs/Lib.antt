@@ -1,5 +1,5 @@
 pub mod Table
-pub mod Plan
+pub mod Nodes
 pub mod Value
 pub mod Scene
 pub mod Graph

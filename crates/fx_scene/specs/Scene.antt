@@ -11,7 +11,7 @@ use Rattle.fx_point.specs.Invert.{invert}
 use Rattle.fx_scene.specs.declared.solid.Levels.{Levels}
 use Rattle.fx_scene.specs.declared.graph.Start.{Start}
 use Rattle.fx_scene.specs.declared.graph.Start.TheVariants as start
-use Rattle.fx_scene.specs.Plan.{Op, Kind, Effect, Plan, Source as Reel_of}
+use Rattle.fx_scene.specs.Nodes.{EffectNode, Node, Effect, Nodes, Source as source_node}
 use Rattle.fx_scene.specs.Value.{value}
 use Rattle.fx_scene.specs.Graph.{Graph, project}
 
@@ -20,8 +20,8 @@ abbrev pub Frames : Type 0
 Frames = ℤ → Option Image
 
 -- an effect of bytes and RGBA in its place: what it means by its values at each frame, and which node each input clip is
-abbrev pub op_of : Meaning → (ℤ → Values) → List (Option ℕ) → Op
-op_of m values clips =
+abbrev pub effect_node : Meaning → (ℤ → Values) → List (Option ℕ) → EffectNode
+effect_node m values clips =
     record {
       taps = λ t x y. m.taps (values t) x y;
       mix = λ t x y pixels. m.mix (values t) Rgba (greatest Byte) x y pixels;
@@ -29,20 +29,23 @@ op_of m values clips =
     }
 
 abbrev pub solid_values : Graph → Levels → ℤ → Values
-solid_values g l t = record { frame = t; numbers = pos l.r ∷ pos l.g ∷ pos l.b ∷ pos l.a ∷ []; connected = []; project = project g }
+solid_values g l t =
+    record { frame = t; numbers = pos l.r ∷ pos l.g ∷ pos l.b ∷ pos l.a ∷ []; connected = []; project = project g }
 
 abbrev pub invert_values : Graph → ℤ → Values
 invert_values g t = record { frame = t; numbers = []; connected = true ∷ []; project = project g }
 
-abbrev pub start_kind : Graph → Frames → Start → Kind
-start_kind g frames (start.Solid levels) = Effect (op_of solid (solid_values g levels) [])
-start_kind g frames (start.Source s) = Reel_of (record { first = pos s.first; last = pos s.last; frames = frames; depth = Byte; components = Rgba })
+abbrev pub first_node : Graph → Frames → Start → Node
+first_node g frames (start.Solid levels) = Effect (effect_node solid (solid_values g levels) [])
+first_node g frames (start.Source s) =
+    source_node (record { first = pos s.first; last = pos s.last; frames = frames; depth = Byte; components = Rgba })
 
 -- the nodes: the first one, and then inverts, each over the node just before
-abbrev pub plan_of : Graph → Frames → Plan
-plan_of g frames zero = start_kind g frames g.start
-plan_of g frames (suc k) = Effect (op_of invert (invert_values g) (Some k ∷ []))
+abbrev pub nodes_of : Graph → Frames → Nodes
+nodes_of g frames zero = first_node g frames g.start
+nodes_of g frames (suc k) = Effect (effect_node invert (invert_values g) (Some k ∷ []))
 
 -- the picture of a frame: the value of the last node over the project's extent
 abbrev pub picture : Graph → Frames → ℤ → Image
-picture g frames t = record { rect = project g; depth = Byte; components = Rgba; pixel = value (plan_of g frames) g.inverts t }
+picture g frames t =
+    record { rect = project g; depth = Byte; components = Rgba; pixel = value (nodes_of g frames) g.inverts t }

@@ -6,13 +6,13 @@ use Rattle.fx_app.proofs.RunningLemmas.{more_sequences, without_last}
 use Rattle.fx_app.proofs.running.Running.begin.Goals as goal
 
 pub begin-requires-clause-live : goal.begin-requires-clause-live
-begin-requires-clause-live g c κs within =
+begin-requires-clause-live g c =
     let live : c.create_instance.new.self.live ≡ c.self.inside.plugin.live ++ c.args.node ∷ [] = search rules in
     let node : c.in_ok-instance.instance.node ≡ c.args.node = search rules in
     rw (live, node) (Contains-push c.self.inside.plugin.live c.args.node)
 
 pub destroy_instance-requires-clause-live : goal.destroy_instance-requires-clause-live
-destroy_instance-requires-clause-live g c κs within =
+destroy_instance-requires-clause-live g c =
     let live : c.create_instance.new.self.live ≡ c.self.inside.plugin.live ++ c.args.node ∷ [] = search rules in
     let node : c.in-Err.instance.node ≡ c.args.node = search rules in
     rw (live, node) (Contains-push c.self.inside.plugin.live c.args.node)
