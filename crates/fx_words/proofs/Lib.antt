@@ -1,2 +1,5 @@
 mod Numbers
 mod Found
+mod LineRows
+mod LineWalk
+mod LineLaws

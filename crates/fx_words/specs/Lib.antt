@@ -1,5 +1,6 @@
 pub mod Command
 pub mod Ordered
 pub mod Order
+pub mod Line
 pub mod Seen
 pub mod Texts

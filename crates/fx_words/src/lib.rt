@@ -4,6 +4,7 @@
 
 mod command;
 mod fault;
+mod law;
 mod order;
 mod report;
 #[cfg(test)]
@@ -11,6 +12,7 @@ mod tests;
 mod words;
 
 pub use fault::{FrameFault, RunFault, fault_text};
+pub use law::options_in_any_order;
 pub use order::{Mode, Order};
 pub use report::{Report, report_text};
 pub use words::{WordFault, read_words};

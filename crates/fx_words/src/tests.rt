@@ -1,4 +1,7 @@
-use crate::{FrameFault, Mode, Report, RunFault, WordFault, fault_text, read_words, report_text};
+use crate::{
+    FrameFault, Mode, Report, RunFault, WordFault, fault_text, options_in_any_order, read_words,
+    report_text,
+};
 use fx_base::{Memory, Name};
 use fx_pam::PamField;
 use fx_text::{GraphCode, GraphPath};
@@ -126,6 +129,7 @@ fn words_are_an_order_or_usage(rt: HostRuntime) -> Result<(), AllocError> {
     }
     let none: Vec<String> = Vec::new(alloc);
     assert!(rt; matches!(read_words(alloc, none.as_slice()), Err(WordFault::Usage)));
+    options_in_any_order();
     Ok(())
 }
 
