@@ -137,16 +137,15 @@ fn colour(depth: Depth, components: Components, values: &Values) -> Pixel
     ensures depth { IsOfDepth depth result }
     ensures components { components_of result ≡ components }
 {
+    let a = scale(depth, values.number(3));
     match components {
         Components::Rgba => Pixel::Rgba {
             r: scale(depth, values.number(0)),
             g: scale(depth, values.number(1)),
             b: scale(depth, values.number(2)),
-            a: scale(depth, values.number(3)),
+            a,
         },
-        Components::Alpha => Pixel::Alpha {
-            a: scale(depth, values.number(3)),
-        },
+        Components::Alpha => Pixel::Alpha { a },
     }
 }
 

@@ -156,9 +156,6 @@ pub record CutImages (s : Stored) (all rest : List Raster) (bands : List Stored)
   pub few : length bands ≤ length all
   pub made : (k : ℕ) (d : Stored) → k < length bands → slice_index_or bands k d ≡ band_of s k (slice_index_or all k s.raster)
 
-pub none_made : (s : Stored) (all : List Raster) → CutImages s all all []
-none_made s all = record { rest_is = refl; few = omega arith; made = λ k d low. absurd (omega arith) }
-
 pub made_more : (s : Stored) (all rest rest' : List Raster) (bands : List Stored) (own : Raster) → CutImages s all rest bands → rest ≡ own ∷ rest' → CutImages s all rest' (bands ++ band_of s (length bands) own ∷ [])
 made_more s all rest rest' bands own done e =
     let head = head_of all (length bands) own rest' s.raster (done.rest_is ∙ e) in
@@ -206,9 +203,6 @@ pub record JoinImages (bands rest : List Stored) (all : List Raster) : Type 0 wh
   pub few : length all ≤ length bands
   pub joined : (k : ℕ) (d : Raster) (e : Stored) → k < length all → slice_index_or all k d ≡ (slice_index_or bands k e).raster
   pub stored : (k : ℕ) (e : Stored) → k < length all → IsStored (slice_index_or bands k e)
-
-pub none_taken : (bands : List Stored) → JoinImages bands bands []
-none_taken bands = record { rest_is = refl; few = omega arith; joined = λ k d e low. absurd (omega arith); stored = λ k e low. absurd (omega arith) }
 
 stored_at : (bands : List Stored) (n k : ℕ) (b e : Stored) → (k < n → IsStored (slice_index_or bands k e)) → slice_index_or bands n e ≡ b → IsStored b → k < n + 1 → (k < n) ⊎ (n ≤ k) → IsStored (slice_index_or bands k e)
 stored_at bands n k b e old at is low (inl h) = old h

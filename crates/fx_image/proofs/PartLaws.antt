@@ -2,8 +2,8 @@
 use Rattle.std.proofs.Common.{◌≡◌, ◌≢◌, ◌⊎◌, inl, inr, ℕ, ◌+◌, ◌*◌, ℤ, pos, ◌+ℤ◌, ◌≤ℤ◌, ◌<ℤ◌, List, length, refl, sym, subst, arith, ◌∙◌}
 use Rattle.std.specs.Int.{int_gap}
 use Rattle.std.proofs.lemmas.Int.{ints, by_lt_z}
-use Rattle.fx_base.specs.Bounds.{Bounds, IsRect}
-use Rattle.fx_base.specs.Rect.{Holds, IsWithin, columns}
+use Rattle.fx_base.specs.Bounds.{Bounds}
+use Rattle.fx_base.specs.Rect.{Holds, columns}
 use Rattle.fx_pixel.specs.declared.Pixel.{Pixel}
 use Rattle.fx_image.specs.Rows.{HasRows}
 use Rattle.fx_image.specs.Stored.{Stored, IsStored, SameFrame, pixel_size, pixel_in, shown}
@@ -77,10 +77,6 @@ pub wrote_within : (p q : Part) (rect : Bounds) (y : ℤ) (f : ℤ → ℤ → P
 wrote_within p q rect y f ws same_rect next =
     let wrote = wrote_row (narrowed p rect) (narrowed q rect) y f ws next.same next.part next.stored next.rows next.above next.below next.long next.right next.before in
     ((wrote.0.0, same_rect, wrote.0.2), wrote.1)
-
--- a rectangle within a part is a part of the image
-pub part_within : (p : Part) (rect : Bounds) → IsPart p → IsRect rect → IsWithin rect p.rect → IsPart (narrowed p rect)
-part_within p rect is bounds inside = record { rect = bounds; within = λ x y there. is.within x y (inside x y there) }
 
 -- the same of row z of a part whose rows count from 0
 pub wrote_row_up : (p q : Part) (y : ℕ) (z : ℤ) (f : ℤ → ℤ → Pixel) (ws : List ℕ) → z ≡ pos y → SamePart p q → IsPart p → IsStored q.image.now → HasRows q.image.now.raster → p.rect.y1 ≡ pos 0 → pos y <ℤ p.rect.y2 → length ws ≡ columns p.rect * pixel_size q.image.now.depth q.image.now.components

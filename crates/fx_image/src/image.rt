@@ -32,7 +32,8 @@ impl Model for Image {
 
     ghost view = { λ a. record { rect = a.rect; depth = a.depth; components = a.components; raster = a.rows } };
 
-    ghost invariant = { λ a. IsStored (record { rect = a.rect; depth = a.depth; components = a.components; raster = a.rows }) };
+    ghost invariant = { λ a.
+        IsStored (record { rect = a.rect; depth = a.depth; components = a.components; raster = a.rows }) };
 }
 
 impl Image {

@@ -63,7 +63,8 @@ impl Model for Rows {
 
     ghost view = { λ a. record { pitch = a.pitch; height = a.height; step = a.step; blocks = a.blocks.items } };
 
-    ghost invariant = { λ a. IsKept (record { pitch = a.pitch; height = a.height; step = a.step; blocks = a.blocks.items }) };
+    ghost invariant = { λ a.
+        IsKept (record { pitch = a.pitch; height = a.height; step = a.step; blocks = a.blocks.items }) };
 }
 
 impl Rows {

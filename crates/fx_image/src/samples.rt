@@ -68,7 +68,8 @@ pub fn set_pixel(depth: Depth, row: &mut [u8], i: usize, p: Pixel)
     requires room { let size = pixel_size depth (components_of p) in i * size + size ≤ length row.old }
     requires depth { IsOfDepth depth p }
     ensures there { pixel_in depth (components_of p) row.new i ≡ p }
-    ensures others { let c = components_of p in (j : ℕ) → j ≢ i → pixel_in depth c row.new j ≡ pixel_in depth c row.old j }
+    ensures others { let c = components_of p in
+        (j : ℕ) → j ≢ i → pixel_in depth c row.new j ≡ pixel_in depth c row.old j }
 {
     match p {
         Pixel::Rgba { r, g, b, a } => {
@@ -92,7 +93,8 @@ pub fn copy_pixels(
 )
     requires source { length source.now ≡ count * pixel_size depth components }
     requires room { (first + count) * pixel_size depth components ≤ length row.old }
-    ensures copied { (i : ℕ) → i < count → pixel_in depth components row.new (first + i) ≡ pixel_in depth components source.now i }
+    ensures copied { (i : ℕ) → i < count
+        → pixel_in depth components row.new (first + i) ≡ pixel_in depth components source.now i }
     ensures others { (j : ℕ) → (j < first) ⊎ (first + count ≤ j)
         → pixel_in depth components row.new j ≡ pixel_in depth components row.old j }
 {

@@ -95,7 +95,9 @@ field_fault h None = raster_fault h
 
 abbrev pub header_fault : ℕ → HeaderReading → Option PamFault
 header_fault side (IsWrongAt line) = Some (HeaderWrong line)
-header_fault side (Reads numbers behind) = let h = header_with numbers behind in field_fault h (field_out_of_range side h)
+header_fault side (Reads numbers behind) =
+    let h = header_with numbers behind in
+    field_fault h (field_out_of_range side h)
 
 -- the header of a file, whose line `P7` has number 1
 abbrev pub header_in : List ℕ → HeaderReading

@@ -39,7 +39,8 @@ fn read_numbers(bytes: &[u8], most_side: u32) -> Result<(HeaderNumbers, &[u8]), 
     ensures reads { IfOk result (λ header. header_in bytes.now ≡ Reads header.0 header.1.now) }
     ensures ranged { IfOk result (λ header. IsRanged 8192 (header_with header.0 header.1.now)) }
     // The fault that is left is the raster's.
-    ensures left { IfOk result (λ header. pam_fault bytes.now most_side ≡ raster_fault (header_with header.0 header.1.now)) }
+    ensures left { let fault = pam_fault bytes.now most_side in
+        IfOk result (λ header. fault ≡ raster_fault (header_with header.0 header.1.now)) }
     ensures fault { IfErr result (λ e. pam_fault bytes.now most_side ≡ Some e) }
 {
     if !bytes.starts_with(b"P7\n") {
@@ -71,7 +72,8 @@ fn image_of(alloc: Global, numbers: HeaderNumbers, raster: &[u8]) -> Result<Imag
 
 fn fill_image(numbers: HeaderNumbers, raster: &[u8], image: &mut Image)
     requires whole { IsWhole 8192 (header_with numbers raster.now) }
-    requires rect { image.old.rect ≡ record { x1 = pos 0; y1 = pos 0; x2 = pos numbers.width; y2 = pos numbers.height } }
+    requires rect { image.old.rect
+        ≡ record { x1 = pos 0; y1 = pos 0; x2 = pos numbers.width; y2 = pos numbers.height } }
     requires depth { image.old.depth ≡ depth_of (header_with numbers raster.now) }
     requires components { image.old.components ≡ RgbaSamples }
     ensures image { IsImageOf (header_with numbers raster.now) (image_of image.new) }

@@ -111,7 +111,8 @@ fn raster_length(width: u64, height: u64, format: Format, depth: Depth) -> usize
 
 fn push_rows(image: &Image, format: Format, out: &mut Vec<u8>) -> Result<(), AllocError>
     requires { image.now.components ≡ components_for format }
-    ensures ok { OnOk result (out.new.items ≡ out.old.items ++ raster format (image_of image.now) (rows image.now.rect)) }
+    ensures ok { let text = raster format (image_of image.now) (rows image.now.rect) in
+        OnOk result (out.new.items ≡ out.old.items ++ text) }
     ensures err { OnErr result (take (length out.old.items) out.new.items ≡ out.old.items) }
 {
     let rect = image.rect();

@@ -36,9 +36,6 @@ picture_refusal files side limit sum w image p =
 abbrev pub Accepts : Files → ℕ → ℕ → List Wanted → ℕ → Type 0
 Accepts files side limit ws sum = (rest : List Wanted) → first_refused files side limit 0 (ws ++ rest) ≡ first_refused files side limit sum rest
 
-pub accepts_none : (files : Files) (side limit : ℕ) → Accepts files side limit [] 0
-accepts_none files side limit = λ rest. refl
-
 -- one more
 pub accepts_more : (files : Files) (side limit : ℕ) (ws : List Wanted) (sum : ℕ) (w : Wanted) (image : Stored) → Accepts files side limit ws sum → IsPicture files side w.name image → sum + image_size image ≤ limit → Accepts files side limit (ws ++ w ∷ []) (sum + image_size image)
 accepts_more files side limit ws sum w image acc p fits = λ rest.

@@ -9,7 +9,8 @@ ghost use Rattle.fx_seq.specs.Filling.{first_refused, IsReadable, wanted_size, R
 /// limit. It computes nothing.
 pub fn accepted_is()
     ensures { (files : Files) (side limit : ℕ) (wanted : List Wanted)
-        → (first_refused files side limit 0 wanted ≡ None) ↔ (All (IsReadable files side) wanted × (wanted_size files wanted ≤ limit)) }
+        → (first_refused files side limit 0 wanted ≡ None)
+        ↔ (All (IsReadable files side) wanted × (wanted_size files wanted ≤ limit)) }
 {}
 
 /// What is refused first of a list is a frame of it: those before are not refused, and it is, by its file

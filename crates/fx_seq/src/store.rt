@@ -63,8 +63,10 @@ impl Store {
         requires side { most_side ≤ 8192 }
         // Where it is filled no wanted frame is refused, each is held with the image of its file, no other
         // frame is held, and no fetch failed.
-        ensures accepted { L.tells → OnOk result (first_refused (L.file library.old) most_side limit 0 wanted.now ≡ None) }
-        ensures pictures { L.tells → IfOk result (λ store. HoldsPictures (L.file library.old) most_side wanted.now (held store)) }
+        ensures accepted { let told = first_refused (L.file library.old) most_side limit 0 wanted.now in
+            L.tells → OnOk result (told ≡ None) }
+        ensures pictures { L.tells
+            → IfOk result (λ store. HoldsPictures (L.file library.old) most_side wanted.now (held store)) }
         ensures only { IfOk result (λ store. HoldsOnly wanted.now (held store)) }
         ensures size { IfOk result (λ store. held_size store ≤ limit) }
         ensures quiet { OnOk result (L.faults library.new ≡ L.faults library.old) }
@@ -75,7 +77,8 @@ impl Store {
         // A fetch that failed is of a wanted frame, and no frame before it is refused.
         ensures fetch { let last = L.last library.new in
             IfErr result (λ e. IsFetchIn (L.faults library.old) (L.faults library.new) last wanted.now e) }
-        ensures fetch_first { L.tells → IfErr result (λ e. IsFirstFetch (L.file library.old) most_side limit wanted.now e) }
+        ensures fetch_first { L.tells
+            → IfErr result (λ e. IsFirstFetch (L.file library.old) most_side limit wanted.now e) }
         ensures later { L.faults library.old ≤ L.faults library.new }
         ensures same { L.tells → SameFiles (L.file library.old) (L.file library.new) }
     {
