@@ -21,16 +21,29 @@ use Rattle.fx_effect.specs.declared.values.Values.{Values}
 pub default_spans_near : (v : Values) (clip : ℕ) → All (IsNearSpan v.frame) (default_spans v clip)
 default_spans_near v clip =
     All-cons (IsNearSpan v.frame) (v.frame, v.frame) []
-    (record { first_after = omega (arith, ints); first_before = omega (arith, ints); last_after = omega (arith, ints); last_before = omega (arith, ints) })
+    (record {
+      first_after = omega (arith, ints);
+      first_before = omega (arith, ints);
+      last_after = omega (arith, ints);
+      last_before = omega (arith, ints);
+    })
     (All-nil (IsNearSpan v.frame))
 
 -- the tap at the same place of the current frame, where the region that is asked for is the one of interest
-pub covered_here : (clips clip : ℕ) (v : Values) (r : Bounds) (x y : ℤ) → clip < clips → Holds r x y → IsCovered clips (default_spans v) (λ _. r) (tap clip v.frame x y)
+pub covered_here : (clips clip : ℕ) (v : Values) (r : Bounds) (x y : ℤ) → clip < clips → Holds r x y
+    → IsCovered clips (default_spans v) (λ _. r) (tap clip v.frame x y)
 covered_here clips clip v r x y low inside =
-    record { clip = low; span = (v.frame, v.frame); listed = (0, omega arith, refl); at_frame = (omega (arith, ints), omega (arith, ints)); in_region = inside }
+    record {
+      clip = low;
+      span = (v.frame, v.frame);
+      listed = (0, omega arith, refl);
+      at_frame = (omega (arith, ints), omega (arith, ints));
+      in_region = inside;
+    }
 
 -- there is a flag for each input clip
-pub flag_for_each : (clips : List Clip) (connected : List Bool) → AllZip MayBe clips connected → length connected ≡ length clips
+pub flag_for_each : (clips : List Clip) (connected : List Bool) → AllZip MayBe clips connected
+    → length connected ≡ length clips
 flag_for_each clips connected may = AllZip-long MayBe clips connected may
 
 -- ---- rectangles that reach no further
@@ -45,13 +58,18 @@ second_near n p r up_to = IsUpTo-more n (n + 32768) r (omega arith) (up_to 1 p (
 -- ---- the region of a clip
 
 -- it is no further than the rectangles that were handed in
-pub region_near : (n clip : ℕ) (p : Bounds) (regions : List Bounds) → All (IsUpTo n) (p ∷ regions) → IsUpTo (n + 32768) (region_of regions clip)
+pub region_near : (n clip : ℕ) (p : Bounds) (regions : List Bounds) → All (IsUpTo n) (p ∷ regions)
+    → IsUpTo (n + 32768) (region_of regions clip)
 region_near n clip p [] up_to = IsUpTo-none (n + 32768)
 region_near n zero p (r ∷ regions) up_to = IsUpTo-more n (n + 32768) r (omega arith) (up_to 1 p (omega arith))
 region_near n (suc clip) p (r ∷ regions) up_to =
-    region_near n clip p regions (All-cons (IsUpTo n) p regions (All-head (IsUpTo n) p (r ∷ regions) up_to) (λ k d low. up_to (suc (suc k)) d (omega arith)))
+    region_near n clip p regions
+    (All-cons (IsUpTo n) p regions (All-head (IsUpTo n) p (r ∷ regions) up_to)
+    (λ k d low. up_to (suc (suc k)) d (omega arith)))
 
-region_rect_from : (clip : ℕ) (connected : List Bool) (regions : List Bounds) → AllZip (λ connected r. IsWindow r × (connected ≡ false → r ≡ none)) connected regions → IsRect (region_of regions clip)
+region_rect_from : (clip : ℕ) (connected : List Bool) (regions : List Bounds)
+    → AllZip (λ connected r. IsWindow r × (connected ≡ false → r ≡ none)) connected regions
+    → IsRect (region_of regions clip)
 region_rect_from clip [] [] are = inl refl
 region_rect_from clip [] (r ∷ regions) are = elim are [ ]
 region_rect_from clip (c ∷ connected) [] are = elim are [ ]
@@ -59,5 +77,6 @@ region_rect_from zero (c ∷ connected) (r ∷ regions) are = are.0.0.bounds
 region_rect_from (suc clip) (c ∷ connected) (r ∷ regions) are = region_rect_from clip connected regions are.1
 
 -- and a rectangle of pixels
-pub region_is_rect : (clip : ℕ) (v : Values) (regions : List Bounds) → AreRegions v regions → IsRect (region_of regions clip)
+pub region_is_rect : (clip : ℕ) (v : Values) (regions : List Bounds) → AreRegions v regions
+    → IsRect (region_of regions clip)
 region_is_rect clip v regions are = region_rect_from clip v.connected regions are

@@ -67,7 +67,8 @@ pub record IsGenerating (s : Shape) (of : Values → PlacePixels) : Type 0 where
   pub components : (v : Values) (m : ℕ) (c : Components) (x y : ℤ) → components_of (of v c m x y) ≡ c
 
 pub project_is_rect : (r : Bounds) → IsProject r → IsRect r
-project_is_rect r project = inr (omega (arith, ints, project.left, project.wide.0), omega (arith, ints, project.bottom, project.high.0))
+project_is_rect r project =
+    inr (omega (arith, ints, project.left, project.wide.0), omega (arith, ints, project.bottom, project.high.0))
 
 -- a project that holds a pixel of the depth and components, or zero
 generated_fits : (depth : Depth) (c : Components) (p : Pixel) (b : Bool) → IsOfDepth depth p → components_of p ≡ c
@@ -79,12 +80,16 @@ clear_outside : (b : Bool) (c : Components) (p : Pixel) → (b ≡ true → ⊥)
 clear_outside true c p outside = absurd (outside refl)
 clear_outside false c p outside = refl
 
-pub generator_laws : (s : Shape) (of : Values → PlacePixels) → IsShape s → s.tiles ≡ true → IsGenerating s of → Laws (generator_effect s of)
+pub generator_laws : (s : Shape) (of : Values → PlacePixels) → IsShape s → s.tiles ≡ true → IsGenerating s of
+    → Laws (generator_effect s of)
 generator_laws s of is tiles makes =
     record {
       shape = is;
-      interest_holds_taps = λ context v r x y lawful inside. All-nil (IsCovered (length v.connected) (default_spans v) (λ clip. r));
-      zero_outside_region = λ context v regions depth c value x y given are zeros outside. clear_outside (within v.project x y) c (of v c (greatest depth) x y) outside;
+      interest_holds_taps =
+          λ context v r x y lawful inside. All-nil (IsCovered (length v.connected) (default_spans v) (λ clip. r));
+      zero_outside_region =
+          λ context v regions depth c value x y given are zeros outside. clear_outside (within v.project x y) c
+          (of v c (greatest depth) x y) outside;
       identity_is_tap = λ context v window clip frame depth c value given same. absurd cc;
       frames_near = λ context v clip lawful. default_spans_near v clip;
       region_near = λ context v regions n lawful are up_to. first_near n v.project regions up_to;
@@ -92,6 +97,8 @@ generator_laws s of is tiles makes =
       region_is_rect = λ context v regions lawful are. project_is_rect v.project lawful.project;
       interest_is_rect = λ context v r clip lawful rect. rect;
       pixel = λ context v depth c value x y given.
-          generated_fits depth c (of v c (greatest depth) x y) (within v.project x y) (makes.depth context v depth c x y given.lawful given.supported) (makes.components v (greatest depth) c x y);
+          generated_fits depth c (of v c (greatest depth) x y) (within v.project x y)
+          (makes.depth context v depth c x y given.lawful given.supported)
+          (makes.components v (greatest depth) c x y);
       whole_within_project = λ context v regions whole lawful are x y inside. inside;
     }

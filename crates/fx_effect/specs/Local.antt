@@ -89,7 +89,8 @@ map_same f g (x ∷ xs) same =
 
 all_map : {A B : Type 0} (P : B → Type 0) (f : A → B) (xs : List A) → All (λ x. P (f x)) xs → All P (map f xs)
 all_map P f [] all = All-nil P
-all_map P f (x ∷ xs) all = All-cons P (f x) (map f xs) (all 0 x (omega arith)) (all_map P f xs (λ k d low. all (suc k) d (omega arith)))
+all_map P f (x ∷ xs) all =
+    All-cons P (f x) (map f xs) (all 0 x (omega arith)) (all_map P f xs (λ k d low. all (suc k) d (omega arith)))
 
 all_weaker : {A : Type 0} (P Q : A → Type 0) → ((x : A) → P x → Q x) → (xs : List A) → All P xs → All Q xs
 all_weaker P Q tells xs all k d low = tells _ (all k d low)
@@ -97,7 +98,8 @@ all_weaker P Q tells xs all k d low = tells _ (all k d low)
 contains_map : {A B : Type 0} (f : A → B) (xs : List A) (x : A) → Contains xs x → Contains (map f xs) (f x)
 contains_map f [] x (k, low, is) = absurd (omega arith)
 contains_map f (y ∷ xs) x (zero, low, is) = (0, omega arith, ap f is)
-contains_map f (y ∷ xs) x (suc k, low, is) = let there = contains_map f xs x (k, omega arith, is) in (suc there.0, omega (arith, there.1), there.2)
+contains_map f (y ∷ xs) x (suc k, low, is) =
+    let there = contains_map f xs x (k, omega arith, is) in (suc there.0, omega (arith, there.1), there.2)
 
 -- ---- their laws
 
@@ -106,46 +108,69 @@ module _ (m : Meaning) (reads : Values → List Read) (is : IsShape m.shape) (ke
   at_place : TapPixels → ℤ → ℤ → Read → Pixel
   at_place value x y r = value (tap r.0 r.1 x y)
 
-  mixed_is : (v : Values) (depth : Depth) (c : Components) (value : TapPixels) (x y : ℤ) → mixed m v depth c value x y ≡ m.mix v c (greatest depth) x y (map (λ r. value (tap r.0 r.1 x y)) (reads v))
+  mixed_is : (v : Values) (depth : Depth) (c : Components) (value : TapPixels) (x y : ℤ)
+      → mixed m v depth c value x y ≡ m.mix v c (greatest depth) x y (map (λ r. value (tap r.0 r.1 x y)) (reads v))
   mixed_is v depth c value x y =
       ap (λ ts. m.mix v c (greatest depth) x y (map value ts)) (keeps.taps v x y)
       ∙ ap (m.mix v c (greatest depth) x y) (map-map value (λ (r : Read). tap r.0 r.1 x y) (reads v))
 
-  shown : (context : Context) (v : Values) (depth : Depth) (c : Components) (value : TapPixels) (x y : ℤ) → IsGiven m.shape context v depth c value → AreShown m.shape context depth c (λ r. value (tap r.0 r.1 x y))
-  shown context v depth c value x y given = record { depth_is = λ r. given.depth_is (tap r.0 r.1 x y); components_are = λ r. given.components_are (tap r.0 r.1 x y) }
+  shown : (context : Context) (v : Values) (depth : Depth) (c : Components) (value : TapPixels) (x y : ℤ)
+      → IsGiven m.shape context v depth c value → AreShown m.shape context depth c (λ r. value (tap r.0 r.1 x y))
+  shown context v depth c value x y given =
+      record {
+        depth_is = λ r. given.depth_is (tap r.0 r.1 x y);
+        components_are = λ r. given.components_are (tap r.0 r.1 x y);
+      }
 
-  covers : (context : Context) (v : Values) (r : Bounds) (x y : ℤ) → IsLawfulIn m.shape context v → Holds r x y → All (IsCovered (length v.connected) (m.spans v) (m.roi v r)) (m.taps v x y)
+  covers : (context : Context) (v : Values) (r : Bounds) (x y : ℤ) → IsLawfulIn m.shape context v → Holds r x y
+      → All (IsCovered (length v.connected) (m.spans v) (m.roi v r)) (m.taps v x y)
   covers context v r x y lawful inside =
       let P : Tap → Type 0 = IsCovered (length v.connected) (m.spans v) (m.roi v r) in
       subst (All P) (sym (keeps.taps v x y))
       (all_map P (λ (a : Read). tap a.0 a.1 x y) (reads v)
       (all_weaker (IsRead (length v.connected) (m.spans v)) (λ a. P (tap a.0 a.1 x y))
-      (λ a read. record { clip = read.there; span = read.span; listed = read.listed; at_frame = read.at_frame; in_region = subst (λ b. Holds b x y) (sym (keeps.interest v r a.0)) inside })
+      (λ a read. record {
+        clip = read.there;
+        span = read.span;
+        listed = read.listed;
+        at_frame = read.at_frame;
+        in_region = subst (λ b. Holds b x y) (sym (keeps.interest v r a.0)) inside;
+      })
       (reads v) (keeps.reads_there context v lawful)))
 
-  zeros : (context : Context) (v : Values) (regions : List Bounds) (depth : Depth) (c : Components) (value : TapPixels) (x y : ℤ) → IsGiven m.shape context v depth c value → AreRegions v regions
-      → IsZeroOutside m.shape context c regions value → (Holds (m.rod context v regions) x y → ⊥) → mixed m v depth c value x y ≡ clear c
+  zeros : (context : Context) (v : Values) (regions : List Bounds) (depth : Depth) (c : Components) (value : TapPixels)
+      (x y : ℤ) → IsGiven m.shape context v depth c value → AreRegions v regions
+      → IsZeroOutside m.shape context c regions value → (Holds (m.rod context v regions) x y → ⊥)
+      → mixed m v depth c value x y ≡ clear c
   zeros context v regions depth c value x y given are none outside =
       mixed_is v depth c value x y
-      ∙ ap (m.mix v c (greatest depth) x y) (map_same (λ (r : Read). value (tap r.0 r.1 x y)) (λ (r : Read). clear (seen_as m.shape context c r.0)) (reads v)
-      (λ r there. none (tap r.0 r.1 x y) (λ held. outside (keeps.region_holds context v regions r x y given.lawful are there held))))
+      ∙ ap (m.mix v c (greatest depth) x y)
+      (map_same (λ (r : Read). value (tap r.0 r.1 x y)) (λ (r : Read). clear (seen_as m.shape context c r.0)) (reads v)
+      (λ r there. none (tap r.0 r.1 x y)
+      (λ held. outside (keeps.region_holds context v regions r x y given.lawful are there held))))
       ∙ keeps.zero_stays context v depth c x y given.lawful given.supported
 
-  same_as : (context : Context) (v : Values) (window : Bounds) (clip : ℕ) (frame : ℤ) (depth : Depth) (c : Components) (value : TapPixels) → IsGiven m.shape context v depth c value → m.same v window ≡ Same clip frame
+  same_as : (context : Context) (v : Values) (window : Bounds) (clip : ℕ) (frame : ℤ) (depth : Depth) (c : Components)
+      (value : TapPixels) → IsGiven m.shape context v depth c value → m.same v window ≡ Same clip frame
       → IsSameAs m context v depth c value window clip frame
   same_as context v window clip frame depth c value given answer =
       let one = keeps.same context v window clip frame depth c given.lawful given.supported answer in
       record {
         connected = one.connected;
         no_mask = one.no_mask;
-        pixels = λ x y inside. mixed_is v depth c value x y ∙ one.pixels (λ r. value (tap r.0 r.1 x y)) x y (shown context v depth c value x y given) inside;
-        read = λ x y inside. subst (λ ts. Contains ts (tap clip frame x y)) (sym (keeps.taps v x y)) (contains_map (λ (r : Read). tap r.0 r.1 x y) (reads v) (clip, frame) one.read);
+        pixels = λ x y inside. mixed_is v depth c value x y
+            ∙ one.pixels (λ r. value (tap r.0 r.1 x y)) x y (shown context v depth c value x y given) inside;
+        read = λ x y inside. subst (λ ts. Contains ts (tap clip frame x y)) (sym (keeps.taps v x y))
+            (contains_map (λ (r : Read). tap r.0 r.1 x y) (reads v) (clip, frame) one.read);
       }
 
-  makes : (context : Context) (v : Values) (depth : Depth) (c : Components) (value : TapPixels) (x y : ℤ) → IsGiven m.shape context v depth c value → IsOfDepth depth (mixed m v depth c value x y) × (components_of (mixed m v depth c value x y) ≡ c)
+  makes : (context : Context) (v : Values) (depth : Depth) (c : Components) (value : TapPixels) (x y : ℤ)
+      → IsGiven m.shape context v depth c value
+      → IsOfDepth depth (mixed m v depth c value x y) × (components_of (mixed m v depth c value x y) ≡ c)
   makes context v depth c value x y given =
       subst (λ p. IsOfDepth depth p × (components_of p ≡ c)) (sym (mixed_is v depth c value x y))
-      (keeps.pixel context v depth c (λ r. value (tap r.0 r.1 x y)) x y given.lawful given.supported (shown context v depth c value x y given))
+      (keeps.pixel context v depth c (λ r. value (tap r.0 r.1 x y)) x y given.lawful given.supported
+      (shown context v depth c value x y given))
 
   pub local_laws : Laws m
   local_laws =
@@ -156,7 +181,9 @@ module _ (m : Meaning) (reads : Values → List Read) (is : IsShape m.shape) (ke
         identity_is_tap = same_as;
         frames_near = keeps.frames_near;
         region_near = keeps.region_near;
-        interest_near = λ context v r clip n lawful rect up_to. subst (IsUpTo (n + 32768)) (sym (keeps.interest v r clip)) (second_near n v.project r up_to);
+        interest_near =
+            λ context v r clip n lawful rect up_to. subst (IsUpTo (n + 32768)) (sym (keeps.interest v r clip))
+            (second_near n v.project r up_to);
         region_is_rect = keeps.region_is_rect;
         interest_is_rect = λ context v r clip lawful rect. subst IsRect (sym (keeps.interest v r clip)) rect;
         pixel = makes;

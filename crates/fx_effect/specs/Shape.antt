@@ -4,6 +4,7 @@ use Rattle.std.specs.Prelude.{◌≡◌, ◌≢◌, ◌≤◌, ◌<◌, ℕ, ℤ
 use Rattle.std.specs.List.{Contains, AllZip, list_any}
 use Rattle.std.specs.Str.{bytes_eq}
 use Rattle.fx_base.specs.Bounds.{Bounds}
+use Rattle.fx_base.specs.declared.limits.TheConstants.{MOST_SIDE}
 use Rattle.fx_pixel.specs.declared.Depth.{Depth}
 use Rattle.fx_pixel.specs.declared.Depth.TheVariants as depths
 use Rattle.fx_pixel.specs.declared.Components.{Components}
@@ -127,12 +128,12 @@ InRange def n = IsWithin def n
 abbrev pub MayBe : Clip → Bool → Type 0
 MayBe clip connected = clip.optional ≡ false → connected ≡ true
 
--- the project's extent: from the origin, with sides from 1 to 8,192
+-- the project's extent: from the origin, with sides of at least one pixel
 pub record IsProject (r : Bounds) : Type 0 where
   pub left : r.x1 ≡ pos 0
   pub bottom : r.y1 ≡ pos 0
-  pub wide : (pos 1 ≤ℤ r.x2) × (r.x2 ≤ℤ pos 8192)
-  pub high : (pos 1 ≤ℤ r.y2) × (r.y2 ≤ℤ pos 8192)
+  pub wide : (pos 1 ≤ℤ r.x2) × (r.x2 ≤ℤ pos MOST_SIDE)
+  pub high : (pos 1 ≤ℤ r.y2) × (r.y2 ≤ℤ pos MOST_SIDE)
 
 -- the values are lawful in a context that the effect supports
 pub record IsLawfulIn (s : Shape) (c : Context) (v : Values) : Type 0 where

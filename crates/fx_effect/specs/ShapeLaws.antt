@@ -32,15 +32,19 @@ not_both false h e = false≢true e
 differ : (name other : List ℕ) → IsTrue (not (bytes_eq name other)) → name ≢ other
 differ name other h e = not_both (bytes_eq name other) h ((bytes_eq-Decides name other).1 e)
 
-new_differs : {A : Type 0} (name : A → List ℕ) (item : A) (items : List A) → IsTrue (is_new (name item) (map name items)) → All (λ other. name item ≢ name other) items
+new_differs : {A : Type 0} (name : A → List ℕ) (item : A) (items : List A)
+    → IsTrue (is_new (name item) (map name items)) → All (λ other. name item ≢ name other) items
 new_differs name item [] h = All-nil (λ other. name item ≢ name other)
 new_differs name item (x ∷ items) h =
     All-cons (λ other. name item ≢ name other) x items
-    (differ (name item) (name x) (left_of (not (bytes_eq (name item) (name x))) (is_new (name item) (map name items)) h))
-    (new_differs name item items (right_of (not (bytes_eq (name item) (name x))) (is_new (name item) (map name items)) h))
+    (differ (name item) (name x)
+    (left_of (not (bytes_eq (name item) (name x))) (is_new (name item) (map name items)) h))
+    (new_differs name item items
+    (right_of (not (bytes_eq (name item) (name x))) (is_new (name item) (map name items)) h))
 
 -- the names of items differ
-pub names_differ : {A : Type 0} (name : A → List ℕ) (items : List A) → IsTrue (are_apart (map name items)) → AllPairs (λ a b. name a ≢ name b) items
+pub names_differ : {A : Type 0} (name : A → List ℕ) (items : List A) → IsTrue (are_apart (map name items))
+    → AllPairs (λ a b. name a ≢ name b) items
 names_differ name [] h = λ i j d low high. absurd (omega arith)
 names_differ name (x ∷ items) h =
     AllPairs-cons (λ a b. name a ≢ name b) x items

@@ -110,9 +110,11 @@ few_of n most h = grind (arith, nat_tests)
 up_to_of : (n most : ℕ) → IsTrue (nat_le n most) → n ≤ most
 up_to_of n most h = grind (arith, nat_tests)
 
-all_of : {A : Type 0} (p : A → Bool) (P : A → Type 0) → ((x : A) → IsTrue (p x) → P x) → (xs : List A) → IsTrue (list_all p xs) → All P xs
+all_of : {A : Type 0} (p : A → Bool) (P : A → Type 0) → ((x : A) → IsTrue (p x) → P x) → (xs : List A)
+    → IsTrue (list_all p xs) → All P xs
 all_of p P tells [] h = All-nil P
-all_of p P tells (x ∷ xs) h = All-cons P x xs (tells x (left_of (p x) (list_all p xs) h)) (all_of p P tells xs (right_of (p x) (list_all p xs) h))
+all_of p P tells (x ∷ xs) h =
+    All-cons P x xs (tells x (left_of (p x) (list_all p xs) h)) (all_of p P tells xs (right_of (p x) (list_all p xs) h))
 
 same_context : (a b : Context) → is_context a b ≡ true → a ≡ b
 same_context context.Generator context.Generator h = refl
@@ -145,15 +147,19 @@ same_components components.Alpha components.Rgba h = absurd (false≢true h)
 pub components_listed : (c : Components) (cs : List Components) → IsTrue (list_any (is_components c) cs) → Contains cs c
 components_listed c cs h = Contains-from_any same_components c cs h
 
-required_is : (name : List ℕ) (clip : Clip) → IsTrue (is_required name clip) → clip ≡ record { name = name; optional = false }
+required_is : (name : List ℕ) (clip : Clip) → IsTrue (is_required name clip)
+    → clip ≡ record { name = name; optional = false }
 required_is name clip h = whole clip.optional refl (right_of (bytes_eq clip.name name) (not clip.optional) h)
   where
     named : clip.name ≡ name
     named = (bytes_eq-Decides clip.name name).0 (left_of (bytes_eq clip.name name) (not clip.optional) h)
 
-    whole : (b : Bool) → clip.optional ≡ b → IsTrue (not clip.optional) → clip ≡ record { name = name; optional = false }
+    whole : (b : Bool) → clip.optional ≡ b → IsTrue (not clip.optional)
+        → clip ≡ record { name = name; optional = false }
     whole true is none = absurd (false≢true (sym (ap not is) ∙ none))
-    whole false is none = ap (λ n. record { name = n; optional = clip.optional }) named ∙ ap (λ b. record { name = name; optional = b }) is
+    whole false is none =
+        ap (λ n. record { name = n; optional = clip.optional }) named
+        ∙ ap (λ b. record { name = name; optional = b }) is
 
 clips_are : (c : Context) (clips : List Clip) → IsTrue (has_clips c clips) → HasClips c clips
 clips_are context.Generator [] h = refl
@@ -164,30 +170,44 @@ clips_are context.Filter (x ∷ (y ∷ xs)) h = absurd (false≢true h)
 clips_are context.Transition [] h = absurd (false≢true h)
 clips_are context.Transition (x ∷ []) h = absurd (false≢true h)
 clips_are context.Transition (x ∷ (y ∷ [])) h =
-    ap (λ a. a ∷ y ∷ []) (required_is (codes "SourceFrom") x (left_of (is_required (codes "SourceFrom") x) (is_required (codes "SourceTo") y) h))
-    ∙ ap (λ b. record { name = codes "SourceFrom"; optional = false } ∷ b ∷ []) (required_is (codes "SourceTo") y (right_of (is_required (codes "SourceFrom") x) (is_required (codes "SourceTo") y) h))
+    ap (λ a. a ∷ y ∷ [])
+    (required_is (codes "SourceFrom") x
+    (left_of (is_required (codes "SourceFrom") x) (is_required (codes "SourceTo") y) h))
+    ∙ ap (λ b. record { name = codes "SourceFrom"; optional = false } ∷ b ∷ [])
+    (required_is (codes "SourceTo") y
+    (right_of (is_required (codes "SourceFrom") x) (is_required (codes "SourceTo") y) h))
 clips_are context.Transition (x ∷ (y ∷ (z ∷ xs))) h = absurd (false≢true h)
 clips_are context.General clips h = tt
 
 range_is : (kind : ParamKind) (def : ParamDef) → IsTrue (has_range kind def) → HasRange kind def
 range_is param.Int def h = tt
 range_is param.Fix def h = tt
-range_is param.Bool def h = (le_of (pos 0) def.least (left_of _ _ h), le_of def.greatest (pos 1) (right_of (le_z (pos 0) def.least) _ h))
+range_is param.Bool def h =
+    (le_of (pos 0) def.least (left_of _ _ h), le_of def.greatest (pos 1) (right_of (le_z (pos 0) def.least) _ h))
 range_is param.Choice def h =
-    let some = right_of (le_z (pos 0) def.least) _ h in
-    (le_of (pos 0) def.least (left_of _ _ h), lt_of def.greatest (pos (length def.choices)) (left_of _ _ some), few_of (length def.choices) 65536 (right_of (lt_z def.greatest (pos (length def.choices))) _ some))
+    let some = right_of (le_z (pos 0) def.least) _ h in (
+      le_of (pos 0) def.least (left_of _ _ h),
+      lt_of def.greatest (pos (length def.choices)) (left_of _ _ some),
+      few_of (length def.choices) 65536 (right_of (lt_z def.greatest (pos (length def.choices))) _ some),
+    )
 
 param_is : (def : ParamDef) → IsTrue (is_param def) → IsParam def
 param_is def h =
     let more = right_of (le_z def.least def.start) _ h in
-    record { above = le_of def.least def.start (left_of _ _ h); below = le_of def.start def.greatest (left_of _ _ more); range = range_is def.kind def (right_of (le_z def.start def.greatest) _ more) }
+    record {
+      above = le_of def.least def.start (left_of _ _ h);
+      below = le_of def.start def.greatest (left_of _ _ more);
+      range = range_is def.kind def (right_of (le_z def.start def.greatest) _ more);
+    }
 
 label_is : (text : List ℕ) → IsTrue (is_label text) → IsLabel text
-label_is text h = (up_to_of 1 (length text) (left_of _ _ h), up_to_of (length text) 64 (right_of (nat_le 1 (length text)) _ h))
+label_is text h =
+    (up_to_of 1 (length text) (left_of _ _ h), up_to_of (length text) 64 (right_of (nat_le 1 (length text)) _ h))
 
 masks_all : (clips : List Clip) → All IsMask clips → list_all (λ clip. is_mask clip.name) clips ≡ true
 masks_all [] masks = refl
-masks_all (clip ∷ clips) masks = both_true _ _ (masks 0 clip (omega arith)) (masks_all clips (λ k d low. masks (suc k) d (omega arith)))
+masks_all (clip ∷ clips) masks =
+    both_true _ _ (masks 0 clip (omega arith)) (masks_all clips (λ k d low. masks (suc k) d (omega arith)))
 
 told_is : (told listed : Bool) → told ≡ true → IsTrue (not told || listed) → IsTrue listed
 told_is true listed is h = h
@@ -207,10 +227,12 @@ context_is s c h =
       few_clips = few_of (length clips) 65536 (left_of _ _ counted);
       params = all_of is_param IsParam param_is params (left_of _ _ numbers);
       params_differ = names_differ (λ (def : ParamDef). def.name) params (left_of _ _ differ);
-      few_params = few_of (length params) 65536 (right_of (are_apart (map (λ (def : ParamDef). def.name) params)) _ differ);
+      few_params =
+          few_of (length params) 65536 (right_of (are_apart (map (λ (def : ParamDef). def.name) params)) _ differ);
     }
 
-good_in : (s : Shape) (cs : List Context) (c : Context) → IsTrue (list_all (is_good_in s) cs) → Contains cs c → IsTrue (is_good_in s c)
+good_in : (s : Shape) (cs : List Context) (c : Context) → IsTrue (list_all (is_good_in s) cs) → Contains cs c
+    → IsTrue (is_good_in s c)
 good_in s cs c h (k, low, is) =
     ap (is_good_in s) (sym is) ∙ all_of (is_good_in s) (λ x. IsTrue (is_good_in s x)) (λ x p. p) cs h k c low
 
@@ -219,7 +241,8 @@ labels_are s c h =
     let clips = s.clips c in
     let apart = right_of (has_clips c clips) _ (left_of (are_clips c clips) _ h) in
     let counted = right_of (are_apart (map (λ (clip : Clip). clip.name) clips)) _ apart in
-    all_of (λ (clip : Clip). is_label clip.name) (λ clip. IsLabel clip.name) (λ clip. label_is clip.name) clips (right_of (nat_lt (length clips) 65536) _ counted)
+    all_of (λ (clip : Clip). is_label clip.name) (λ clip. IsLabel clip.name) (λ clip. label_is clip.name) clips
+    (right_of (nat_lt (length clips) 65536) _ counted)
 
 -- a shape that passes the test is as it may be
 pub shape_is : (s : Shape) → IsTrue (is_shape s) → IsShape s
@@ -236,6 +259,7 @@ shape_is s h =
       contexts = λ c there. context_is s c (good_in s s.contexts c good there);
       clip_labels = λ c there. labels_are s c (good_in s s.contexts c good there);
       without_clips = λ c there masks.
-          let told = right_of (are_params (s.params c)) _ (right_of (are_clips c (s.clips c)) _ (good_in s s.contexts c good there)) in
+          let told = right_of (are_params (s.params c)) _
+          (right_of (are_clips c (s.clips c)) _ (good_in s s.contexts c good there)) in
           components_listed components.Alpha s.components (told_is _ _ (masks_all (s.clips c) masks) told);
     }

@@ -84,7 +84,8 @@ pub record IsMaking (s : Shape) (of : Values → ℕ → Pixel → Pixel) (same 
       → IsLawfulIn s context v → same v window ≡ Same clip frame → IsTrue (supports s depth (components_of p))
       → IsOfDepth depth p → of v (greatest depth) p ≡ p
 
-module _ (label : List ℕ) (depths : List Depth) (cs : List Components) (safety : Safety) (params : List ParamDef) (of : Values → ℕ → Pixel → Pixel) (same : Values → Bounds → Identity) where
+module _ (label : List ℕ) (depths : List Depth) (cs : List Components) (safety : Safety) (params : List ParamDef)
+    (of : Values → ℕ → Pixel → Pixel) (same : Values → Bounds → Identity) where
   abbrev shape : Shape
   shape = source_shape label depths cs false safety params
 
@@ -94,22 +95,34 @@ module _ (label : List ℕ) (depths : List Depth) (cs : List Components) (safety
   one_flag : (context : Context) (v : Values) → IsLawfulIn shape context v → length v.connected ≡ 1
   one_flag context v lawful = flag_for_each source_clips v.connected lawful.connected
 
-  point_covers : (context : Context) (v : Values) (r : Bounds) (x y : ℤ) → IsLawfulIn shape context v → Holds r x y → All (IsCovered (length v.connected) (default_spans v) (λ clip. r)) (tap 0 v.frame x y ∷ [])
+  point_covers : (context : Context) (v : Values) (r : Bounds) (x y : ℤ) → IsLawfulIn shape context v → Holds r x y
+      → All (IsCovered (length v.connected) (default_spans v) (λ clip. r)) (tap 0 v.frame x y ∷ [])
   point_covers context v r x y lawful inside =
       All-cons (IsCovered (length v.connected) (default_spans v) (λ clip. r)) (tap 0 v.frame x y) []
       (covered_here (length v.connected) 0 v r x y (source_flag v.connected (one_flag context v lawful)) inside)
       (All-nil (IsCovered (length v.connected) (default_spans v) (λ clip. r)))
 
-  point_supported : (context : Context) (v : Values) (depth : Depth) (c : Components) (value : Tap → Pixel) (t : Tap) → t.clip ≡ 0 → IsGiven shape context v depth c value → components_of (value t) ≡ c
+  point_supported : (context : Context) (v : Values) (depth : Depth) (c : Components) (value : Tap → Pixel) (t : Tap)
+      → t.clip ≡ 0 → IsGiven shape context v depth c value → components_of (value t) ≡ c
   point_supported context v depth c value t is given = given.components_are t ∙ ap (seen_as shape context c) is
 
-  point_pixel : IsMaking shape of same → (context : Context) (v : Values) (depth : Depth) (c : Components) (value : Tap → Pixel) (x y : ℤ) → IsGiven shape context v depth c value → IsOfDepth depth (of v (greatest depth) (value (tap 0 v.frame x y))) × (components_of (of v (greatest depth) (value (tap 0 v.frame x y))) ≡ c)
+  point_pixel : IsMaking shape of same
+      → (context : Context) (v : Values) (depth : Depth) (c : Components) (value : Tap → Pixel) (x y : ℤ)
+      → IsGiven shape context v depth c value
+      → IsOfDepth depth (of v (greatest depth) (value (tap 0 v.frame x y)))
+      × (components_of (of v (greatest depth) (value (tap 0 v.frame x y))) ≡ c)
   point_pixel making context v depth c value x y given =
       let t = tap 0 v.frame x y in
-      let seen : components_of (value t) ≡ c = point_supported context v depth c value t refl given in
-      (making.of_depth context v depth (value t) given.lawful (subst (λ k. IsTrue (supports shape depth k)) (sym seen) given.supported) (given.depth_is t), making.components v (greatest depth) (value t) ∙ seen)
+      let seen : components_of (value t) ≡ c = point_supported context v depth c value t refl given in (
+        making.of_depth context v depth (value t) given.lawful
+            (subst (λ k. IsTrue (supports shape depth k)) (sym seen) given.supported) (given.depth_is t),
+        making.components v (greatest depth) (value t) ∙ seen,
+      )
 
-  point_same : IsMaking shape of same → (context : Context) (v : Values) (window : Bounds) (clip : ℕ) (frame : ℤ) (depth : Depth) (c : Components) (value : Tap → Pixel) → IsGiven shape context v depth c value → same v window ≡ Same clip frame → IsSameAs meaning context v depth c value window clip frame
+  point_same : IsMaking shape of same
+      → (context : Context) (v : Values) (window : Bounds) (clip : ℕ) (frame : ℤ) (depth : Depth) (c : Components)
+      (value : Tap → Pixel) → IsGiven shape context v depth c value → same v window ≡ Same clip frame
+      → IsSameAs meaning context v depth c value window clip frame
   point_same making context v window clip frame depth c value given is =
       let at = making.source context v window clip frame given.lawful is in
       record {
@@ -118,9 +131,11 @@ module _ (label : List ℕ) (depths : List Depth) (cs : List Components) (safety
         pixels = λ x y inside.
             let t = tap 0 v.frame x y in
             let seen : components_of (value t) ≡ c = point_supported context v depth c value t refl given in
-            making.stays context v window clip frame depth (value t) given.lawful is (subst (λ k. IsTrue (supports shape depth k)) (sym seen) given.supported) (given.depth_is t)
+            making.stays context v window clip frame depth (value t) given.lawful is
+            (subst (λ k. IsTrue (supports shape depth k)) (sym seen) given.supported) (given.depth_is t)
             ∙ ap (λ k. value (tap k v.frame x y)) (sym at.0) ∙ ap (λ f. value (tap clip f x y)) (sym at.1);
-        read = λ x y inside. (0, omega arith, ap (λ k. tap k v.frame x y) (sym at.0) ∙ ap (λ f. tap clip f x y) (sym at.1));
+        read = λ x y inside.
+            (0, omega arith, ap (λ k. tap k v.frame x y) (sym at.0) ∙ ap (λ f. tap clip f x y) (sym at.1));
       }
 
   pub point_laws : IsShape shape → IsMaking shape of same → Laws meaning
@@ -128,7 +143,9 @@ module _ (label : List ℕ) (depths : List Depth) (cs : List Components) (safety
       record {
         shape = is;
         interest_holds_taps = point_covers;
-        zero_outside_region = λ context v regions depth c value x y given are zeros outside. ap (of v (greatest depth)) (zeros (tap 0 v.frame x y) outside) ∙ making.zero_stays context v (greatest depth) c given.lawful;
+        zero_outside_region =
+            λ context v regions depth c value x y given are zeros outside. ap (of v (greatest depth))
+            (zeros (tap 0 v.frame x y) outside) ∙ making.zero_stays context v (greatest depth) c given.lawful;
         identity_is_tap = point_same making;
         frames_near = λ context v clip lawful. default_spans_near v clip;
         region_near = λ context v regions n lawful are up_to. region_near n 0 v.project regions up_to;
