@@ -4,5 +4,4 @@ pub mod FilesLemmas
 pub mod FillLemmas
 pub mod StepsLemmas
 pub mod PictureLemmas
-mod RunningLemmas
 mod EffectLemmas

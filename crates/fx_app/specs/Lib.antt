@@ -6,6 +6,4 @@ pub mod Nodes
 pub mod Texts
 pub mod Steps
 pub mod Picture
-pub mod Running
 pub mod Ready
-pub mod Shipped

@@ -11,11 +11,10 @@ mod graph_under;
 mod json;
 mod picture;
 mod plugins;
-mod running;
-mod shipped;
 mod steps;
 mod tell;
 mod texts;
+mod whole;
 mod words;
 
 pub use steps::run;

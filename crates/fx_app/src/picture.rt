@@ -19,13 +19,12 @@ ghost use Rattle.fx_scene.specs.declared.graph.Start.TheVariants.{Solid as Solid
 ghost use Rattle.fx_pam.specs.Text.{pam_text};
 ghost use Rattle.fx_scene.specs.Scene.{Frames, picture};
 ghost use Rattle.fx_app.specs.Steps.{frames_of};
-ghost use Rattle.fx_app.specs.Ready.{AreReady};
-ghost use Rattle.fx_app.specs.Running.{instances, IsOf};
+ghost use Rattle.fx_app.specs.Ready.{AreReady, instances, IsOf};
 ghost use Rattle.fx_app.specs.Picture.{IsFrame as IsFrameOf, IsCanvas, ShowsNode, IsFilled};
 
 use crate::copy::copy_frame;
 use crate::plugins::Plugins;
-use crate::shipped::Shipped;
+use crate::whole::render_whole;
 use fx_base::{Memory, Rect};
 use fx_effect::{Flags, Inputs, Numbers, Piece, Steps, Values};
 use fx_image::Image;
@@ -33,6 +32,7 @@ use fx_pam::write;
 use fx_pixel::{Components, Depth, Format};
 use fx_scene::{Graph, Levels, Source, Start};
 use fx_seq::Store;
+use fx_shipped::Shipped;
 use std::alloc::Global;
 
 /// The text of the picture of a frame.
@@ -126,7 +126,7 @@ fn solid_image(
     let Some(solid) = &plugins.solid else {
         unreachable!()
     };
-    solid.render(alloc, 0, &values, &inputs, &mut image)?;
+    render_whole(alloc, solid, 0, &values, &inputs, &mut image)?;
     Ok(image)
 }
 
@@ -245,6 +245,6 @@ fn inverted(
     let Some(invert) = &plugins.invert else {
         unreachable!()
     };
-    invert.render(alloc, place, &values, &inputs, &mut image)?;
+    render_whole(alloc, invert, place, &values, &inputs, &mut image)?;
     Ok(image)
 }

@@ -1,14 +1,13 @@
 //! The effects of a graph, through their order of life.
 ghost use Rattle.std.specs.Prelude.{◌≡◌, ◌<◌, ◌≤◌, ◌+◌, IfOk};
 ghost use Rattle.std.specs.List.{Contains};
-ghost use Rattle.fx_app.specs.Running.{instances, IsOf};
-ghost use Rattle.fx_app.specs.Ready.{solids, AreReady};
+ghost use Rattle.fx_app.specs.Ready.{instances, IsOf, solids, AreReady};
 
-use crate::running::{Running, Span};
-use crate::shipped::Shipped;
 use fx_base::Memory;
 use fx_effect::{Catalogue, Context};
+use fx_life::{Running, Span};
 use fx_scene::{Graph, Start};
+use fx_shipped::Shipped;
 use std::alloc::Global;
 
 /// An instance of each node of a graph that is an effect, each in its sequence. They have to be finished.

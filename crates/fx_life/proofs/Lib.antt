@@ -1,3 +1,4 @@
 pub mod Phases
 pub mod Nodes
 pub mod Lives
+mod RunningLemmas

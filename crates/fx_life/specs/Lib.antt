@@ -1,4 +1,4 @@
 pub mod Plugin
 pub mod Course
 pub mod Life
-pub mod Toy
+pub mod Running

@@ -8,12 +8,10 @@ mod described;
 mod instance;
 mod laws;
 mod loaded;
-#[cfg(test)]
-mod tests;
-#[cfg(test)]
-mod toy;
+mod running;
 
 pub use described::Described;
 pub use instance::{InSequence, Instance};
 pub use laws::every_life;
 pub use loaded::Loaded;
+pub use running::{Running, Span};

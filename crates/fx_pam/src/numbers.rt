@@ -1,5 +1,6 @@
 //! The numbers of a header.
 ghost use Rattle.std.specs.Prelude.{◌≡◌};
+ghost use Rattle.fx_base.specs.declared.limits.TheConstants.{MOST_SIDE};
 ghost use Rattle.fx_pam.specs.Reading.{is_outside};
 
 use crate::PamField;
@@ -128,7 +129,7 @@ impl HeaderNumbers {
 
     /// How many samples the raster has.
     pub fn sample_count(self) -> usize
-        requires { IsRanged 8192 (header_with self []) }
+        requires { IsRanged MOST_SIDE (header_with self []) }
         ensures value { result ≡ sample_count (header_with self []) }
         ensures small { result < 2 ^ 29 }
     {
@@ -137,7 +138,7 @@ impl HeaderNumbers {
 
     /// How many bytes a row of the file has.
     pub fn row_length(self) -> usize
-        requires { IsRanged 8192 (header_with self []) }
+        requires { IsRanged MOST_SIDE (header_with self []) }
         ensures value { result ≡ row_length (header_with self []) }
         ensures small { result < 2 ^ 17 }
     {

@@ -1,6 +1,7 @@
 //! The raster of a PAM file: rows from the top, each pixel from the left, a short sample with the more
 //! significant byte first.
 ghost use Rattle.std.specs.Prelude.{◌≡◌, ◌≤◌, ◌<◌, ◌+◌, ◌*◌, ℕ, pos, length, OnOk, IfErr, None, Some};
+ghost use Rattle.fx_base.specs.declared.limits.TheConstants.{MOST_SIDE};
 ghost use Rattle.fx_pixel.specs.Pixel.{greatest, components_of, IsOfDepth};
 ghost use Rattle.fx_pixel.specs.declared.Components.TheVariants.{Rgba as RgbaSamples};
 ghost use Rattle.fx_image.specs.Stored.{pixel_size, pixel_in};
@@ -16,9 +17,9 @@ use fx_pixel::Pixel;
 
 /// The first fault of a raster: bytes that are wanting, or a sample above the greatest.
 pub fn check_raster(numbers: HeaderNumbers, bytes: &[u8]) -> Result<(), PamFault>
-    requires { IsRanged 8192 (header_with numbers bytes.now) }
+    requires { IsRanged MOST_SIDE (header_with numbers bytes.now) }
     ensures ok { OnOk result (raster_fault (header_with numbers bytes.now) ≡ None) }
-    ensures whole { OnOk result (IsWhole 8192 (header_with numbers bytes.now)) }
+    ensures whole { OnOk result (IsWhole MOST_SIDE (header_with numbers bytes.now)) }
     ensures fault { IfErr result (λ e. raster_fault (header_with numbers bytes.now) ≡ Some e) }
 {
     let wanted = numbers.sample_count() * numbers.sample_depth().size() as usize;
@@ -35,7 +36,7 @@ pub fn check_raster(numbers: HeaderNumbers, bytes: &[u8]) -> Result<(), PamFault
 
 // A sample above the greatest is a fault.
 fn check_samples(numbers: HeaderNumbers, bytes: &[u8]) -> Result<(), PamFault>
-    requires ranged { IsRanged 8192 (header_with numbers bytes.now) }
+    requires ranged { IsRanged MOST_SIDE (header_with numbers bytes.now) }
     requires long { raster_length (header_with numbers bytes.now) ≤ length bytes.now }
     ensures ok { let h = header_with numbers bytes.now in OnOk result (first_above h 0 (sample_count h) ≡ None) }
     ensures fault { let h = header_with numbers bytes.now in
@@ -53,7 +54,7 @@ fn check_samples(numbers: HeaderNumbers, bytes: &[u8]) -> Result<(), PamFault>
 
 /// Fills an image with the rows of a raster, the last one at the bottom.
 pub fn fill(numbers: HeaderNumbers, bytes: &[u8], out: &mut Part<'_>)
-    requires whole { IsWhole 8192 (header_with numbers bytes.now) }
+    requires whole { IsWhole MOST_SIDE (header_with numbers bytes.now) }
     requires part { IsPart out.old }
     requires rect { out.old.rect ≡ record { x1 = pos 0; y1 = pos 0; x2 = pos numbers.width; y2 = pos numbers.height } }
     requires depth { out.old.image.now.depth ≡ depth_of (header_with numbers bytes.now) }
@@ -69,7 +70,7 @@ pub fn fill(numbers: HeaderNumbers, bytes: &[u8], out: &mut Part<'_>)
 
 // Row r of the file, from the top.
 fn file_row(numbers: HeaderNumbers, bytes: &[u8], r: usize) -> &[u8]
-    requires whole { IsWhole 8192 (header_with numbers bytes.now) }
+    requires whole { IsWhole MOST_SIDE (header_with numbers bytes.now) }
     requires row { r < numbers.height }
     ensures value { result.now ≡ (row_at (header_with numbers bytes.now) r).behind }
     ensures len { length result.now ≡ row_length (header_with numbers bytes.now) }
@@ -81,7 +82,7 @@ fn file_row(numbers: HeaderNumbers, bytes: &[u8], r: usize) -> &[u8]
 
 // Fills the row of an image with one of the file.
 fn fill_row(numbers: HeaderNumbers, source: &[u8], row: &mut [u8])
-    requires whole { IsWhole 8192 (header_with (record numbers { height = 1 }) source.now) }
+    requires whole { IsWhole MOST_SIDE (header_with (record numbers { height = 1 }) source.now) }
     requires source { length source.now ≡ row_length (header_with numbers source.now) }
     requires row { length row.old ≡ numbers.width * pixel_size (depth_of (header_with numbers source.now)) RgbaSamples }
     ensures { let h = header_with numbers source.now in
@@ -95,7 +96,7 @@ fn fill_row(numbers: HeaderNumbers, source: &[u8], row: &mut [u8])
 }
 
 fn fill_pixels(numbers: HeaderNumbers, source: &[u8], row: &mut [u8])
-    requires whole { IsWhole 8192 (header_with (record numbers { height = 1 }) source.now) }
+    requires whole { IsWhole MOST_SIDE (header_with (record numbers { height = 1 }) source.now) }
     requires row { length row.old ≡ numbers.width * pixel_size (depth_of (header_with numbers source.now)) RgbaSamples }
     ensures { let h = header_with numbers source.now in
         (c : ℕ) → c < numbers.width → pixel_in (depth_of h) RgbaSamples row.new c ≡ pixel_of h 0 c }
@@ -108,7 +109,7 @@ fn fill_pixels(numbers: HeaderNumbers, source: &[u8], row: &mut [u8])
 
 // Pixel c of a row of the file.
 fn pixel_of(numbers: HeaderNumbers, source: &[u8], c: usize) -> Pixel
-    requires whole { IsWhole 8192 (header_with (record numbers { height = 1 }) source.now) }
+    requires whole { IsWhole MOST_SIDE (header_with (record numbers { height = 1 }) source.now) }
     requires column { c < numbers.width }
     ensures value { result ≡ pixel_of (header_with numbers source.now) 0 c }
     ensures depth { IsOfDepth (depth_of (header_with numbers source.now)) result }
@@ -150,7 +151,7 @@ fn pixel_of(numbers: HeaderNumbers, source: &[u8], c: usize) -> Pixel
 
 // Sample i of a row of the file as one of the image: to the nearest, halves up.
 fn scaled(numbers: HeaderNumbers, source: &[u8], i: usize) -> u16
-    requires whole { IsWhole 8192 (header_with (record numbers { height = 1 }) source.now) }
+    requires whole { IsWhole MOST_SIDE (header_with (record numbers { height = 1 }) source.now) }
     requires there { i < sample_count (header_with (record numbers { height = 1 }) source.now) }
     ensures value { result ≡ scaled (header_with numbers source.now) (sample_at (header_with numbers source.now) i) }
     ensures bound { result ≤ greatest (depth_of (header_with numbers source.now)) }

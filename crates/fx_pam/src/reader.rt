@@ -1,5 +1,6 @@
 //! From the bytes of a file to its image.
 ghost use Rattle.std.specs.Prelude.{◌≡◌, ◌≢◌, ◌≤◌, ◌<◌, ◌*◌, pos, IfOk, IfErr, None, Some};
+ghost use Rattle.fx_base.specs.declared.limits.TheConstants.{MOST_SIDE};
 ghost use Rattle.fx_pixel.specs.declared.Components.TheVariants.{Rgba as RgbaSamples};
 ghost use Rattle.fx_image.specs.Stored.{SameFrame, image_of};
 ghost use Rattle.fx_image.specs.Runs.{row_size};
@@ -23,7 +24,7 @@ use std::alloc::Global;
 /// range, a raster that is cut off, a sample above MAXVAL; nothing of the raster's size is taken from
 /// memory before all of them are ruled out. The image's rows are no wider than their pixels.
 pub fn read(alloc: Global, bytes: &[u8], most_side: u32) -> Result<Image, PamFault>
-    requires { most_side ≤ 8192 }
+    requires { most_side ≤ MOST_SIDE }
     ensures image { IfOk result (λ image. IsPam bytes.now most_side (image_of image)) }
     ensures narrow { IfOk result (λ image. image.raster.pitch ≡ row_size image image.rect) }
     ensures fault { IfErr result (λ e. e ≢ OutOfMemory → pam_fault bytes.now most_side ≡ Some e) }
@@ -35,9 +36,9 @@ pub fn read(alloc: Global, bytes: &[u8], most_side: u32) -> Result<Image, PamFau
 
 // The numbers of the header, in their ranges, and the bytes behind it.
 fn read_numbers(bytes: &[u8], most_side: u32) -> Result<(HeaderNumbers, &[u8]), PamFault>
-    requires { most_side ≤ 8192 }
+    requires { most_side ≤ MOST_SIDE }
     ensures reads { IfOk result (λ header. header_in bytes.now ≡ Reads header.0 header.1.now) }
-    ensures ranged { IfOk result (λ header. IsRanged 8192 (header_with header.0 header.1.now)) }
+    ensures ranged { IfOk result (λ header. IsRanged MOST_SIDE (header_with header.0 header.1.now)) }
     // The fault that is left is the raster's.
     ensures left { let fault = pam_fault bytes.now most_side in
         IfOk result (λ header. fault ≡ raster_fault (header_with header.0 header.1.now)) }
@@ -57,7 +58,7 @@ fn read_numbers(bytes: &[u8], most_side: u32) -> Result<(HeaderNumbers, &[u8]), 
 
 // The image of a raster.
 fn image_of(alloc: Global, numbers: HeaderNumbers, raster: &[u8]) -> Result<Image, PamFault>
-    requires { IsWhole 8192 (header_with numbers raster.now) }
+    requires { IsWhole MOST_SIDE (header_with numbers raster.now) }
     ensures image { IfOk result (λ image. IsImageOf (header_with numbers raster.now) (image_of image)) }
     ensures narrow { IfOk result (λ image. image.raster.pitch ≡ row_size image image.rect) }
     ensures memory { IfErr result (λ e. e ≡ OutOfMemory) }
@@ -71,7 +72,7 @@ fn image_of(alloc: Global, numbers: HeaderNumbers, raster: &[u8]) -> Result<Imag
 }
 
 fn fill_image(numbers: HeaderNumbers, raster: &[u8], image: &mut Image)
-    requires whole { IsWhole 8192 (header_with numbers raster.now) }
+    requires whole { IsWhole MOST_SIDE (header_with numbers raster.now) }
     requires rect { image.old.rect
         ≡ record { x1 = pos 0; y1 = pos 0; x2 = pos numbers.width; y2 = pos numbers.height } }
     requires depth { image.old.depth ≡ depth_of (header_with numbers raster.now) }

@@ -1,9 +1,13 @@
-//! Tests that cross crates: runs of the top call over objects in memory, with the bytes of their files
-//! worked by hand.
+//! Tests that cross crates: every effect of the catalogue through all its actions, lives of plug-ins, and
+//! runs of the top call over objects in memory, with the bytes of their files worked by hand.
 #![tactic(auto)]
 
 #[cfg(test)]
+mod asking;
+#[cfg(test)]
 mod chain;
+#[cfg(test)]
+mod effects;
 #[cfg(test)]
 mod first_frame;
 #[cfg(test)]
@@ -11,4 +15,8 @@ mod graph_text;
 #[cfg(test)]
 mod graphs;
 #[cfg(test)]
+mod lives;
+#[cfg(test)]
 mod outcome;
+#[cfg(test)]
+mod toy;

@@ -1,5 +1,6 @@
 -- Source frames, and which of them are held.
 use Rattle.std.specs.Prelude.{◌≡◌, ℕ, ℤ, pos, ◌≤ℤ◌, List, Option, Some, None, Contains}
+use Rattle.fx_base.specs.declared.limits.TheConstants.{MOST_SIDE}
 use Rattle.std.specs.declared.cmp.Ordering.{Ordering}
 use Rattle.std.specs.Ordering.{nat_cmp, int_cmp, ordering_then}
 use Rattle.std.specs.Map.{lookup}
@@ -40,7 +41,7 @@ image_size image = frame_size (columns image.rect) (rows image.rect) image.depth
 pub record IsSide (low high : ℤ) : Type 0 where
   pub from_zero : low ≡ pos 0
   pub some : pos 1 ≤ℤ high
-  pub most : high ≤ℤ pos 8192
+  pub most : high ≤ℤ pos MOST_SIDE
 
 -- a source's frame: RGBA from (0, 0) with such sides, its rows no wider than their pixels, and its pixels of its depth
 pub record IsSourceFrame (image : Stored) : Type 0 where

@@ -1,5 +1,6 @@
 //! One wanted frame: it is fetched and read, and its size is counted.
 ghost use Rattle.std.specs.Prelude.{◌≡◌, ◌≤◌, ◌<◌, ◌+◌, ◌^◌, ◌⊎◌, ℕ, List, Option, Some, IfOk, IfErr, OnOk};
+ghost use Rattle.fx_base.specs.declared.limits.TheConstants.{MOST_SIDE};
 ghost use Rattle.std.specs.Int.{int_gap};
 ghost use Rattle.fx_outside.specs.Outside.{SameFiles};
 ghost use Rattle.fx_image.specs.Stored.{image_of};
@@ -23,7 +24,7 @@ pub fn read_frame<L: Library>(
     wanted: &Wanted,
     most_side: u32,
 ) -> Result<Image, SeqFault>
-    requires { most_side ≤ 8192 }
+    requires { most_side ≤ MOST_SIDE }
     ensures picture { L.tells → IfOk result (λ image. IsPicture (L.file library.old) most_side wanted.now.name image) }
     ensures frame { IfOk result (λ image. IsSourceFrame image) }
     ensures quiet { OnOk result (L.faults library.new ≡ L.faults library.old) }
@@ -40,7 +41,7 @@ pub fn read_frame<L: Library>(
 
 // The image in the bytes of a wanted frame's file.
 fn image_in(alloc: Global, bytes: &[u8], wanted: &Wanted, most_side: u32) -> Result<Image, SeqFault>
-    requires { most_side ≤ 8192 }
+    requires { most_side ≤ MOST_SIDE }
     ensures image { IfOk result (λ image. IsPam bytes.now most_side (image_of image)) }
     ensures frame { IfOk result (λ image. IsSourceFrame image) }
     ensures fault { let fault = pam_fault bytes.now most_side in
@@ -115,7 +116,7 @@ fn size_of(image: &Image) -> u64
 fn side(low: i64, high: i64) -> u64
     requires { IsSide low high }
     ensures value { result ≡ int_gap low high }
-    ensures bound { result ≤ 8192 }
+    ensures bound { result ≤ MOST_SIDE }
 {
     (high - low) as u64
 }

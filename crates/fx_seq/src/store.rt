@@ -1,5 +1,6 @@
 //! The frames that are held.
 ghost use Rattle.fx_seq.specs.Frames.{AreSound, sound_once, frames_in};
+ghost use Rattle.fx_base.specs.declared.limits.TheConstants.{MOST_SIDE};
 
 use crate::frame::{read_frame, sum_with};
 use crate::{SeqFault, Wanted};
@@ -60,7 +61,7 @@ impl Store {
     ) -> Result<Store, SeqFault>
         requires apart { AllPairs IsApart wanted.now }
         requires limit { limit ≤ 2 ^ 62 }
-        requires side { most_side ≤ 8192 }
+        requires side { most_side ≤ MOST_SIDE }
         // Where it is filled no wanted frame is refused, each is held with the image of its file, no other
         // frame is held, and no fetch failed.
         ensures accepted { let told = first_refused (L.file library.old) most_side limit 0 wanted.now in

@@ -1,5 +1,6 @@
 -- What a graph's objects say, or the first fault.
-use Rattle.std.specs.Prelude.{ℕ, ◌+◌, min, if◌then◌else◌, Option, Some, None, List, [], ◌∷◌, codes, Result, Ok, Err}
+use Rattle.std.specs.Prelude.{◌-◌, ℕ, ◌+◌, min, if◌then◌else◌, Option, Some, None, List, [], ◌∷◌, codes, Result, Ok, Err}
+use Rattle.fx_base.specs.declared.limits.TheConstants.{LAST_FRAME, MOST_FRAMES}
 use Rattle.serde_json.specs.Data.{Data, Items}
 use Rattle.serde_json.specs.Find.{get}
 use Rattle.std.specs.Str.{bytes_eq}
@@ -39,8 +40,8 @@ range_keys = codes "first" ∷ codes "last" ∷ []
 abbrev pub range_of : List ℕ → Data → Result RawRange Fault
 range_of path d =
     after (check_object path range_keys d) (λ _.
-    after (whole_at path (codes "first") 0 999999 d) (λ first.
-    after (whole_at path (codes "last") first (min 999999 (first + 99999)) d) (λ last.
+    after (whole_at path (codes "first") 0 LAST_FRAME d) (λ first.
+    after (whole_at path (codes "last") first (min LAST_FRAME (first + (MOST_FRAMES - 1))) d) (λ last.
     Ok (record { first = first; last = last }))))
 
 abbrev pub output_keys : List (List ℕ)
@@ -67,8 +68,8 @@ source_of path project d =
     after (check_object path source_keys d) (λ _.
     after (short_at path (codes "name") d) (λ name.
     after (text_at path (codes "source") d) (λ pattern.
-    after (whole_at path (codes "first") 0 999999 d) (λ first.
-    after (whole_at path (codes "last") first 999999 d) (λ last.
+    after (whole_at path (codes "first") 0 LAST_FRAME d) (λ first.
+    after (whole_at path (codes "last") first LAST_FRAME d) (λ last.
     after (hold_at path (codes "outside") d) (λ hold.
     after (depth_or path (codes "depth") project.depth d) (λ depth.
     after (components_or path (codes "components") project.components d) (λ components.

@@ -1,6 +1,7 @@
 -- The JSON value of a raw graph: what a printer of graphs writes. Each member is given, in the byte order of
 -- keys, but for a context that the graph leaves open.
 use Rattle.std.specs.Prelude.{◌≡◌, ℕ, ◌≤◌, ◌<◌, ◌^◌, ℤ, pos, negsuc, Bool, true, false, List, [], ◌∷◌, length, codes}
+use Rattle.fx_base.specs.declared.limits.TheConstants.{MOST_NODES, MOST_SIDE}
 use Rattle.std.specs.Prelude.{Option, Some, None, Ok, All}
 use Rattle.serde_json.specs.Data.{Data, unsigned, boolean, number, string, array, object}
 use Rattle.serde_json.specs.Data.{Items, no_items, item, Members, no_members, member}
@@ -172,4 +173,4 @@ pub record IsGraph (g : Graph) : Type 0 where
 -- bytes that say the JSON value of a raw graph, however they are laid out, read as that graph
 abbrev pub PrintedReadsBack : Type 0
 PrintedReadsBack =
-    (g : Graph) (bytes : List ℕ) → IsGraph g → value_of bytes ≡ Some (graph_printed g) → read_graph bytes 1024 8192 ≡ Ok g
+    (g : Graph) (bytes : List ℕ) → IsGraph g → value_of bytes ≡ Some (graph_printed g) → read_graph bytes MOST_NODES MOST_SIDE ≡ Ok g

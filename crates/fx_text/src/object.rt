@@ -1,6 +1,7 @@
 //! Reads the objects of a graph file, each as its definition says it: first that it is an object and has no
 //! unknown member, then its members in the order of the format.
-ghost use Rattle.std.specs.Prelude.{◌≡◌, ◌≤◌, ◌+◌, IfOk, length};
+ghost use Rattle.std.specs.Prelude.{◌≡◌, ◌≤◌, ◌+◌, ◌-◌, IfOk, length};
+ghost use Rattle.fx_base.specs.declared.limits.TheConstants.{LAST_FRAME, MOST_FRAMES, MOST_NODES, MOST_SIDE};
 ghost use Rattle.serde_json.specs.View.{view, items_view};
 ghost use Rattle.fx_text.specs.Answers.{Answers, Refuses};
 ghost use Rattle.fx_text.specs.Json.{depth_of, components_of, format_of, depth_at, components_at, format_at};
@@ -21,6 +22,7 @@ use crate::raw::{
     RawWork,
 };
 use crate::value::{RawClip, RawParam};
+use fx_base::limits::{LAST_FRAME, MOST_FRAMES};
 use fx_pixel::{Components, Depth, Format};
 use serde_json::Value;
 use std::alloc::Global;
@@ -100,7 +102,7 @@ fn project_of(
     most_side: u32,
     value: &Value,
 ) -> Result<RawProject, GraphFault>
-    requires { most_side ≤ 8192 }
+    requires { most_side ≤ MOST_SIDE }
     ensures { Answers result (project_of path.now most_side (view value.now)) }
 {
     check_object(
@@ -124,18 +126,18 @@ fn project_of(
 // The range of frames.
 fn range_of(alloc: Global, path: &str, value: &Value) -> Result<RawRange, GraphFault>
     ensures order { IfOk result (λ r. r.first ≤ r.last) }
-    ensures few { IfOk result (λ r. r.last ≤ r.first + 99999) }
-    ensures end { IfOk result (λ r. r.last ≤ 999999) }
+    ensures few { IfOk result (λ r. r.last ≤ r.first + (MOST_FRAMES - 1)) }
+    ensures end { IfOk result (λ r. r.last ≤ LAST_FRAME) }
     ensures answer { Answers result (range_of path.now (view value.now)) }
 {
     check_object(alloc, path, &["first", "last"], value)?;
-    let first = whole_at(alloc, path, "first", 0, 999_999, value)?;
+    let first = whole_at(alloc, path, "first", 0, LAST_FRAME, value)?;
     let last = whole_at(
         alloc,
         path,
         "last",
         first,
-        999_999.min(first + 99_999),
+        LAST_FRAME.min(first + (MOST_FRAMES - 1)),
         value,
     )?;
     Ok(RawRange { first, last })
@@ -303,8 +305,8 @@ fn source_of(
     )?;
     let name = short_at(alloc, path, "name", value)?;
     let pattern = name_at(alloc, path, "source", value)?;
-    let first = whole_at(alloc, path, "first", 0, 999_999, value)?;
-    let last = whole_at(alloc, path, "last", first, 999_999, value)?;
+    let first = whole_at(alloc, path, "first", 0, LAST_FRAME, value)?;
+    let last = whole_at(alloc, path, "last", first, LAST_FRAME, value)?;
     let hold = hold_at(alloc, path, "outside", value)?;
     let depth = depth_or(alloc, path, "depth", project.depth, value)?;
     let components = components_or(alloc, path, "components", project.components, value)?;
@@ -361,8 +363,8 @@ fn graph_of(
     most_side: u32,
     value: &Value,
 ) -> Result<RawGraph, GraphFault>
-    requires nodes { most_nodes ≤ 1024 }
-    requires side { most_side ≤ 8192 }
+    requires nodes { most_nodes ≤ MOST_NODES }
+    requires side { most_side ≤ MOST_SIDE }
     ensures { Answers result (graph_of most_nodes most_side (view value.now)) }
 {
     check_object(
@@ -402,8 +404,8 @@ pub fn read_graph(
     most_nodes: u32,
     most_side: u32,
 ) -> Result<RawGraph, GraphFault>
-    requires nodes { most_nodes ≤ 1024 }
-    requires side { most_side ≤ 8192 }
+    requires nodes { most_nodes ≤ MOST_NODES }
+    requires side { most_side ≤ MOST_SIDE }
     ensures { Answers result (read_graph bytes.now most_nodes most_side) }
 {
     match value_of(alloc, bytes) {

@@ -1,6 +1,7 @@
 //! A graph as its file says it: texts for names, and numbers within the ranges of the format. Whether a
 //! name, a pattern or a parameter means anything is not known yet. Each type keeps its ranges.
 ghost use Rattle.std.specs.Prelude.{◌≡◌, ◌≤◌, ◌+◌, length};
+ghost use Rattle.fx_base.specs.declared.limits.TheConstants.{MOST_NODES};
 
 use crate::value::{RawClip, RawParam};
 use fx_base::Name;
@@ -187,7 +188,7 @@ impl Model for RawNodes {
 impl RawNodes {
     /// These nodes, in this order.
     pub fn of(items: Vec<RawNode>) -> RawNodes
-        requires { (1 ≤ length items.items) × (length items.items ≤ 1024) }
+        requires { (1 ≤ length items.items) × (length items.items ≤ MOST_NODES) }
         ensures { result ≡ items.items }
     {
         RawNodes { items }

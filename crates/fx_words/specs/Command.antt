@@ -1,5 +1,6 @@
 -- The command: two required words, five options with a whole number in a range, no help and no version flag.
 use Rattle.std.specs.Prelude.{ℤ, pos, true, Some, codes}
+use Rattle.fx_base.specs.declared.limits.TheConstants.{LAST_FRAME, MOST_TILE_SIDE}
 use Rattle.clap.specs.Walk.{Rule, Text}
 use Rattle.clap.specs.Simple.{App, on_top, new_app, new_rule, with_rule}
 use Rattle.clap.specs.declared.builder.value_parser.ValueParser.TheVariants as value
@@ -18,8 +19,8 @@ ofxr =
     with_rule (with_rule (with_rule (with_rule (with_rule (with_rule (with_rule bare
     (word_rule (codes "mode")))
     (word_rule (codes "graph")))
-    (number_rule (codes "first") (pos 0) (pos 999999)))
-    (number_rule (codes "last") (pos 0) (pos 999999)))
-    (number_rule (codes "tile") (pos 1) (pos 1024)))
+    (number_rule (codes "first") (pos 0) (pos LAST_FRAME)))
+    (number_rule (codes "last") (pos 0) (pos LAST_FRAME)))
+    (number_rule (codes "tile") (pos 1) (pos MOST_TILE_SIDE)))
     (number_rule (codes "cache") (pos 0) (pos 65536)))
     (number_rule (codes "workers") (pos 1) (pos 64))

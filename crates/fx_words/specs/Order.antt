@@ -1,6 +1,7 @@
 -- What the words order: clap's matches of the command, the numbers that its values write, and the bounds that
 -- two options have together.
 use Rattle.std.specs.Prelude.{ℕ, ◌*◌, ◌/◌, ◌^◌, ◌&&◌, min, nat_le, Bool, true, if◌then◌else◌, length, codes}
+use Rattle.fx_base.specs.declared.limits.TheConstants.{LAST_FRAME, MOST_TILE_SIDE}
 use Rattle.std.specs.Prelude.{List, [], ◌∷◌, Option, Some, None, option_and_then}
 use Rattle.std.specs.Char.{is_ascii_digit}
 use Rattle.std.specs.List.{list_all}
@@ -77,9 +78,9 @@ abbrev pub order_in : List Row → Option Ordered
 order_in rows =
     given (option_and_then mode_of (first_of (codes "mode") rows)) (λ mode.
     given (first_of (codes "graph") rows) (λ graph.
-    given (option_of (codes "first") 0 999999 0 rows) (λ first.
-    given (option_of (codes "last") 0 999999 999999 rows) (λ last.
-    given (option_of (codes "tile") 1 1024 64 rows) (λ tile.
+    given (option_of (codes "first") 0 LAST_FRAME 0 rows) (λ first.
+    given (option_of (codes "last") 0 LAST_FRAME LAST_FRAME rows) (λ last.
+    given (option_of (codes "tile") 1 MOST_TILE_SIDE 64 rows) (λ tile.
     given (option_of (codes "cache") 0 65536 (default_cache tile) rows) (λ cache.
     given (option_of (codes "workers") 1 64 4 rows) (λ workers.
     order_with mode graph first last tile cache workers)))))))

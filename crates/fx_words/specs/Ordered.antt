@@ -1,5 +1,6 @@
 -- An order, and the ranges of its numbers.
 use Rattle.std.specs.Prelude.{ℕ, ◌*◌, ◌≤◌, ◌^◌, List}
+use Rattle.fx_base.specs.declared.limits.TheConstants.{LAST_FRAME, MOST_TILE_SIDE}
 use Rattle.fx_words.specs.declared.order.Mode.{Mode}
 
 pub record Ordered : Type 0 where
@@ -13,10 +14,10 @@ pub record Ordered : Type 0 where
 
 -- frames up to 999,999, a side from 1 to 1,024, up to 65,536 tiles of 2^31 bytes together, 1 to 64 threads
 pub record AreInRange (first last tile cache workers : ℕ) : Type 0 where
-  pub first_end : first ≤ 999999
-  pub last_end : last ≤ 999999
+  pub first_end : first ≤ LAST_FRAME
+  pub last_end : last ≤ LAST_FRAME
   pub some_side : 1 ≤ tile
-  pub side_end : tile ≤ 1024
+  pub side_end : tile ≤ MOST_TILE_SIDE
   pub cache_end : cache ≤ 65536
   pub memory : cache * tile * tile * 8 ≤ 2 ^ 31
   pub some_workers : 1 ≤ workers

@@ -1,5 +1,6 @@
 //! Reads the words: first by `clap`, then the mode's word, the numbers, and what two options bound together.
 ghost use Rattle.std.specs.Prelude.{◌≡◌, ◌*◌, ◌≤◌, ◌^◌, codes, map, IfOk, IfErr, IfSome, IsErrOf, OnErr, IsTrue, MatchBool};
+ghost use Rattle.fx_base.specs.declared.limits.TheConstants.{MOST_TILE_SIDE};
 ghost use Rattle.std.specs.Prelude.{None, Some, option_and_then, string_bytes};
 ghost use Rattle.std.specs.Char.{is_ascii_digit};
 ghost use Rattle.std.specs.List.{list_all};
@@ -15,6 +16,7 @@ use crate::order::{Mode, Order};
 use clap::error::ErrorKind;
 use clap::{ArgMatches, Error};
 use fx_base::Name;
+use fx_base::limits::{LAST_FRAME, MOST_TILE_SIDE};
 use std::alloc::{AllocError, Global};
 
 /// Why there is no order.
@@ -69,7 +71,7 @@ fn is_graph_for(mode: Mode, word: &str) -> bool
 
 fn fits_memory(cache: u32, tile: u32) -> bool
     requires tiles { cache ≤ 65536 }
-    requires side { tile ≤ 1024 }
+    requires side { tile ≤ MOST_TILE_SIDE }
     ensures value { result ≡ fits_memory cache tile }
     ensures fits { IsTrue result → cache * tile * tile * 8 ≤ 2 ^ 31 }
 {
@@ -78,7 +80,7 @@ fn fits_memory(cache: u32, tile: u32) -> bool
 
 fn default_cache(tile: u32) -> u32
     requires some { 1 ≤ tile }
-    requires few { tile ≤ 1024 }
+    requires few { tile ≤ MOST_TILE_SIDE }
     ensures { result ≡ default_cache tile }
 {
     4096.min((1 << 28) / (tile * tile))
@@ -160,9 +162,9 @@ fn order_in(alloc: Global, matches: &ArgMatches<'_>) -> Result<Order, WordFault>
 {
     let mode = mode_in(matches)?;
     let graph = word_in(matches, "graph")?;
-    let first = option_of(matches, "first", 0, 999_999, 0)?;
-    let last = option_of(matches, "last", 0, 999_999, 999_999)?;
-    let tile = option_of(matches, "tile", 1, 1024, 64)?;
+    let first = option_of(matches, "first", 0, LAST_FRAME, 0)?;
+    let last = option_of(matches, "last", 0, LAST_FRAME, LAST_FRAME)?;
+    let tile = option_of(matches, "tile", 1, MOST_TILE_SIDE, 64)?;
     let cache = option_of(matches, "cache", 0, 65536, default_cache(tile))?;
     let workers = option_of(matches, "workers", 1, 64, 4)?;
     if !is_graph_for(mode, graph) || !fits_memory(cache, tile) {

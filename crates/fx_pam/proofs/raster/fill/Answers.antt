@@ -1,4 +1,5 @@
 use Rattle.std.proofs.Common.{◌≡◌, ◌<◌, ◌-◌, ◌*◌, ℤ, pos, length, w64, to_z, refl, sym, ap, subst, ◌∙◌, arith}
+use Rattle.fx_base.specs.declared.limits.TheConstants.{MOST_SIDE}
 use Rattle.std.specs.Int.{int_gap}
 use Rattle.std.proofs.lemmas.Int.{ints, to_z_pos}
 use Rattle.fx_base.specs.Bounds.{Bounds}
@@ -17,7 +18,7 @@ use Rattle.fx_pam.proofs.raster.fill.Goals as goal
 pub fill_row-requires-clause-whole : goal.fill_row-requires-clause-whole
 fill_row-requires-clause-whole c =
     let h = header_with c.args.numbers c.args.bytes.now in
-    rw c.file_row-source.ensures.value (row-whole 8192 h (c.args.numbers.height - 1 - c.loop-y.y) (omega arith) c.requires.whole (omega (arith, c.loop-y-test.true)))
+    rw c.file_row-source.ensures.value (row-whole MOST_SIDE h (c.args.numbers.height - 1 - c.loop-y.y) (omega arith) c.requires.whole (omega (arith, c.loop-y-test.true)))
 
 pub loop-y-preserved : goal.loop-y-preserved
 loop-y-preserved c =

@@ -1,0 +1,284 @@
+//! The instances of one effect in a run: created together, each in its sequence of renders, and destroyed
+//! together (OpenFX 1.4, "The Actions").
+ghost use Rattle.std.specs.Prelude.{◌≡◌, ◌≢◌, ◌<◌, ◌≤◌, ◌+◌, [], length, true, IfOk, OnOk, OnErr};
+ghost use Rattle.std.specs.List.{Contains, range_with_len};
+ghost use Rattle.std.specs.Vec.{vec_capacity};
+ghost use Rattle.fx_base.specs.Bounds.{none};
+ghost use Rattle.fx_base.specs.Rect.{IsFrame};
+ghost use Rattle.fx_image.specs.Part.{IsPart, SamePart, IsWritten};
+ghost use Rattle.fx_effect.specs.Shape.{IsLawful};
+ghost use Rattle.fx_effect.specs.Meaning.{rendered};
+ghost use Rattle.fx_effect.specs.Asked.{MayRender};
+ghost use Rattle.fx_life.specs.Plugin.{described};
+ghost use Rattle.fx_life.specs.Running.{members, AreLive};
+
+use crate::{Described, InSequence, Instance, Loaded};
+use fx_base::Memory;
+use fx_core::Ticket;
+use fx_effect::{Catalogue, Context, Inputs, Values};
+use fx_gate::Hold;
+use fx_image::Part;
+use std::alloc::Global;
+use std::marker::Model;
+
+/// A plug-in with an instance for each of some nodes, each in its sequence. Contracts see the plug-in. It
+/// has to be finished.
+pub struct Running<E: Catalogue> {
+    plugin: Described<E>,
+    // the room for the instances, so that the end takes no memory
+    idle: Vec<Instance>,
+    // the sequence of the node that was created last is the first
+    in_sequence: Vec<InSequence>,
+}
+
+impl<E: Catalogue> Model for Running<E> {
+    ghost use Rattle.std.specs.Prelude.{◌≡◌, ◌≤◌, [], length};
+    ghost use Rattle.std.specs.Vec.{vec_capacity};
+    ghost use Rattle.fx_life.specs.Plugin.{Plugin};
+    ghost use Rattle.fx_life.specs.Running.{members, AreLive};
+
+    ghost Value = { Plugin E };
+
+    ghost view = { λ r. r.plugin };
+
+    // no instance is idle, and each has room to be so
+    ghost invariant = { λ r. (r.idle.items ≡ []) × (length r.in_sequence.items ≤ vec_capacity r.idle)
+        × AreLive (E.number_of r.plugin.effect) r.plugin.live (members [] r.in_sequence.items) };
+}
+
+/// The nodes that instances stand for, which follow one another, and the frames of their sequences.
+#[derive(Clone, Copy, Debug)]
+pub struct Span {
+    pub first_node: u32,
+    pub count: u32,
+    pub first: u32,
+    pub last: u32,
+}
+
+impl<E: Catalogue + Drop> Running<E> {
+    /// Loads and describes the effect, describes it in the context, creates an instance for each node, and
+    /// then begins their sequences. At want of memory all that was begun is ended, destroyed and unloaded.
+    pub fn start(
+        alloc: Global,
+        effect: E,
+        context: Context,
+        span: Span,
+    ) -> Result<Running<E>, Memory>
+        requires supported { Contains (E.meaning effect).shape.contexts context }
+        requires nodes { span.first_node + span.count ≤ 65536 }
+        requires frames { (span.first ≤ 1073741824) × (span.last ≤ 1073741824) }
+        ensures effect { IfOk result (λ r. r.effect ≡ effect) }
+        ensures nodes { IfOk result (λ r. r.live ≡ range_with_len span.first_node span.count) }
+    {
+        let mut plugin = described(alloc, effect)?;
+        let mut idle = Vec::new(alloc);
+        let mut in_sequence = Vec::new(alloc);
+        match begin(
+            alloc,
+            &mut plugin,
+            &mut idle,
+            &mut in_sequence,
+            context,
+            span,
+        ) {
+            Ok(()) => Ok(Running {
+                plugin,
+                idle,
+                in_sequence,
+            }),
+            Err(memory) => {
+                finish(plugin, idle, in_sequence);
+                Err(memory)
+            }
+        }
+    }
+
+    /// Renders the part's rectangle by the instance of the node at a place among those that were created, as
+    /// `Described::render` does.
+    pub fn render(
+        &self,
+        alloc: Global,
+        place: u32,
+        values: &Values,
+        inputs: &Inputs<'_>,
+        hold: &mut Hold,
+        ticket: &mut Ticket,
+        out: &mut Part<'_>,
+    ) -> Result<(), Memory>
+        requires place { place < length self.now.live }
+        requires part { IsPart out.old }
+        requires some_window { out.old.rect ≢ none }
+        requires lawful { IsLawful (E.meaning self.now.effect).shape values.now }
+        requires frame { IsFrame values.now.frame }
+        requires may { let image = out.old.image.now in
+            MayRender (E.meaning self.now.effect).shape values.now inputs.now image.depth image.components }
+        ensures same_part { SamePart out.old out.new }
+        ensures same_hold { hold.new.gate ≡ hold.old.gate }
+        ensures ok { let image = out.old.image.now in let meaning = E.meaning self.now.effect in
+            let pixels = rendered meaning values.now inputs.now image.depth image.components in
+            OnOk result (IsWritten out.old out.new pixels) }
+        ensures stamped { OnOk result (ticket.new ≡ record ticket.old { stamped = true }) }
+        ensures unstamped { OnErr result (ticket.new ≡ ticket.old) }
+    {
+        let window = out.rect();
+        let sequence = &self.in_sequence[self.in_sequence.len() - 1 - place as usize];
+        self.plugin
+            .render(alloc, sequence, values, window, inputs, hold, ticket, out)
+    }
+
+    /// Ends each sequence, then destroys each instance, and unloads the effect.
+    pub fn finish(self) -> E
+        ensures { result ≡ self.effect }
+    {
+        let Running {
+            plugin,
+            idle,
+            in_sequence,
+        } = self;
+        finish(plugin, idle, in_sequence)
+    }
+}
+
+// Describes the plug-in in the context, creates the instances, and begins their sequences.
+fn begin<E: Catalogue>(
+    alloc: Global,
+    plugin: &mut Described<E>,
+    idle: &mut Vec<Instance>,
+    in_sequence: &mut Vec<InSequence>,
+    context: Context,
+    span: Span,
+) -> Result<(), Memory>
+    requires supported { Contains (E.meaning plugin.old.effect).shape.contexts context }
+    requires fresh { plugin.old ≡ described plugin.old.effect }
+    requires none_yet { (idle.old.items ≡ []) × (in_sequence.old.items ≡ []) }
+    requires nodes { span.first_node + span.count ≤ 65536 }
+    requires frames { (span.first ≤ 1073741824) × (span.last ≤ 1073741824) }
+    ensures effect { plugin.new.effect ≡ plugin.old.effect }
+    ensures live { let all = members idle.new.items in_sequence.new.items in
+        AreLive (E.number_of plugin.new.effect) plugin.new.live all }
+    ensures room { length idle.new.items + length in_sequence.new.items ≤ vec_capacity idle.new }
+    ensures nodes { OnOk result (plugin.new.live ≡ range_with_len span.first_node span.count) }
+    ensures begun { OnOk result (idle.new.items ≡ []) }
+{
+    plugin.describe_in_context(alloc, context)?;
+    create_each(alloc, plugin, idle, context, span)?;
+    in_sequence.reserve(idle.len())?;
+    begin_each(alloc, plugin, idle, in_sequence, span)
+}
+
+// Ends the sequences, destroys the instances, and unloads the plug-in.
+fn finish<E: Catalogue>(
+    plugin: Described<E>,
+    idle: Vec<Instance>,
+    in_sequence: Vec<InSequence>,
+) -> E
+    requires live { AreLive (E.number_of plugin.effect) plugin.live (members idle.items in_sequence.items) }
+    requires room { length idle.items + length in_sequence.items ≤ vec_capacity idle }
+    ensures { result ≡ plugin.effect }
+{
+    let mut plugin = plugin;
+    let mut idle = idle;
+    let mut in_sequence = in_sequence;
+    end_each(&plugin, &mut idle, &mut in_sequence);
+    destroy_each(&mut plugin, &mut idle);
+    in_sequence.destroy_empty();
+    idle.destroy_empty();
+    plugin.unload()
+}
+
+// The effect, loaded and described. At want of memory it is unloaded.
+fn described<E: Catalogue + Drop>(alloc: Global, effect: E) -> Result<Described<E>, Memory>
+    ensures { IfOk result (λ plugin. plugin ≡ described effect) }
+{
+    let loaded = match Loaded::load(alloc, effect) {
+        Ok(loaded) => loaded,
+        Err((_, memory)) => return Err(memory),
+    };
+    match loaded.describe(alloc) {
+        Ok(plugin) => Ok(plugin),
+        Err((loaded, memory)) => {
+            loaded.unload();
+            Err(memory)
+        }
+    }
+}
+
+// Creates the instance of each node.
+fn create_each<E: Catalogue>(
+    alloc: Global,
+    plugin: &mut Described<E>,
+    idle: &mut Vec<Instance>,
+    context: Context,
+    span: Span,
+) -> Result<(), Memory>
+    requires described { Contains plugin.old.contexts context }
+    requires none_yet { (plugin.old.live ≡ []) × (idle.old.items ≡ []) }
+    requires nodes { span.first_node + span.count ≤ 65536 }
+    ensures effect { plugin.new.effect ≡ plugin.old.effect }
+    ensures live { AreLive (E.number_of plugin.new.effect) plugin.new.live idle.new.items }
+    ensures room { length idle.new.items ≤ vec_capacity idle.new }
+    ensures nodes { OnOk result (plugin.new.live ≡ range_with_len span.first_node span.count) }
+{
+    for node in span.first_node..span.first_node + span.count {
+        idle.reserve(1)?;
+        idle.push_reserved(plugin.create_instance(alloc, node, context)?);
+    }
+    Ok(())
+}
+
+// Begins the sequence of each idle instance, the last one first. At want of memory the others stay idle.
+fn begin_each<E: Catalogue>(
+    alloc: Global,
+    plugin: &Described<E>,
+    idle: &mut Vec<Instance>,
+    in_sequence: &mut Vec<InSequence>,
+    span: Span,
+) -> Result<(), Memory>
+    requires live { let all = members idle.old.items in_sequence.old.items in
+        AreLive (E.number_of plugin.now.effect) plugin.now.live all }
+    requires room { length idle.old.items + length in_sequence.old.items ≤ vec_capacity idle.old }
+    requires sequence_room { length idle.old.items + length in_sequence.old.items ≤ vec_capacity in_sequence.old }
+    requires frames { (span.first ≤ 1073741824) × (span.last ≤ 1073741824) }
+    ensures same { members idle.new.items in_sequence.new.items ≡ members idle.old.items in_sequence.old.items }
+    ensures room { length idle.new.items + length in_sequence.new.items ≤ vec_capacity idle.new }
+    ensures all { OnOk result (idle.new.items ≡ []) }
+{
+    while let Some(instance) = idle.pop() {
+        match plugin.begin(alloc, instance, span.first, span.last) {
+            Ok(sequence) => in_sequence.push_reserved(sequence),
+            Err((instance, memory)) => {
+                idle.push_reserved(instance);
+                return Err(memory);
+            }
+        }
+    }
+    Ok(())
+}
+
+// Ends each sequence, the one that began last first.
+fn end_each<E: Catalogue>(
+    plugin: &Described<E>,
+    idle: &mut Vec<Instance>,
+    in_sequence: &mut Vec<InSequence>,
+)
+    requires live { let all = members idle.old.items in_sequence.old.items in
+        AreLive (E.number_of plugin.now.effect) plugin.now.live all }
+    requires room { length idle.old.items + length in_sequence.old.items ≤ vec_capacity idle.old }
+    ensures same { idle.new.items ≡ members idle.old.items in_sequence.old.items }
+    ensures all { in_sequence.new.items ≡ [] }
+{
+    while let Some(sequence) = in_sequence.pop() {
+        idle.push_reserved(plugin.end(sequence));
+    }
+}
+
+// Destroys each instance.
+fn destroy_each<E: Catalogue>(plugin: &mut Described<E>, idle: &mut Vec<Instance>)
+    requires live { AreLive (E.number_of plugin.old.effect) plugin.old.live idle.old.items }
+    ensures effect { plugin.new.effect ≡ plugin.old.effect }
+    ensures all { (plugin.new.live ≡ []) × (idle.new.items ≡ []) }
+{
+    while let Some(instance) = idle.pop() {
+        plugin.destroy_instance(instance);
+    }
+}

@@ -1,0 +1,359 @@
+//! Each effect of the catalogue through all its actions: what it describes, what it answers for a window,
+//! and the pixels that it renders at both depths, all worked by hand.
+ghost use Rattle.std.specs.Prelude.{◌≤◌, length};
+
+use crate::asking::{
+    Clip, Frame, Parameter, Row, byte_row, flags_of, no_clips, one_clip, short_row, three_clips,
+    two_clips, values_of,
+};
+use fx_base::{Fix, Rect};
+use fx_effect::{Context, Identity, descriptor, sequence_args, window_args};
+use fx_params::ParamKind;
+use fx_pixel::Components;
+use fx_shipped::Shipped;
+use std::test::Fail;
+
+const BOTH_DEPTHS: [&str; 2] = ["OfxBitDepthByte", "OfxBitDepthShort"];
+
+const BYTES: [&str; 1] = ["OfxBitDepthByte"];
+
+const RGBA: [&str; 1] = ["OfxImageComponentRGBA"];
+
+const ALPHA: [&str; 1] = ["OfxImageComponentAlpha"];
+
+const BOTH_COMPONENTS: [&str; 2] = ["OfxImageComponentRGBA", "OfxImageComponentAlpha"];
+
+const GENERATOR: [&str; 2] = [
+    "OfxImageEffectContextGenerator",
+    "OfxImageEffectContextGeneral",
+];
+
+const FILTER: [&str; 2] = [
+    "OfxImageEffectContextFilter",
+    "OfxImageEffectContextGeneral",
+];
+
+const TRANSITION: [&str; 1] = ["OfxImageEffectContextTransition"];
+
+const GENERAL: [&str; 1] = ["OfxImageEffectContextGeneral"];
+
+const FULLY_SAFE: &str = "OfxImageEffectRenderFullySafe";
+
+const INSTANCE_SAFE: &str = "OfxImageEffectRenderInstanceSafe";
+
+const UNSAFE: &str = "OfxImageEffectRenderUnsafe";
+
+const AXES: [&str; 2] = ["x", "y"];
+
+const SAMPLES: [&str; 5] = ["r", "g", "b", "a", "zero"];
+
+const OPERATIONS: [&str; 7] = ["over", "plus", "multiply", "screen", "min", "max", "minus"];
+
+// A project of three pixels.
+const PROJECT: Rect = Rect {
+    x1: 0,
+    y1: 0,
+    x2: 3,
+    y2: 1,
+};
+
+// A window across the right edge of the project.
+const WINDOW: Rect = Rect {
+    x1: 1,
+    y1: 0,
+    x2: 5,
+    y2: 1,
+};
+
+// Where the sources have pixels.
+const SOURCE: Rect = Rect {
+    x1: 0,
+    y1: 0,
+    x2: 4,
+    y2: 1,
+};
+
+const FIRST: [[u16; 4]; 4] = [
+    [1, 1, 1, 1],
+    [10, 200, 30, 128],
+    [0, 255, 254, 255],
+    [3, 2, 1, 0],
+];
+
+const SECOND: [[u16; 4]; 4] = [
+    [2, 2, 2, 2],
+    [20, 0, 0, 255],
+    [0, 0, 0, 0],
+    [255, 255, 255, 255],
+];
+
+const MASK: [[u16; 4]; 4] = [[0, 0, 0, 0], [0, 0, 0, 128], [0, 0, 0, 0], [0, 0, 0, 255]];
+
+const SOURCE_CLIP: [Clip; 1] = [Clip {
+    name: "Source",
+    optional: 0,
+    components: &BOTH_COMPONENTS,
+}];
+
+const KEYED_CLIPS: [Clip; 3] = [
+    Clip {
+        name: "A",
+        optional: 0,
+        components: &BOTH_COMPONENTS,
+    },
+    Clip {
+        name: "B",
+        optional: 0,
+        components: &BOTH_COMPONENTS,
+    },
+    Clip {
+        name: "Mask",
+        optional: 1,
+        components: &ALPHA,
+    },
+];
+
+// A generator over the project, asked for a window beyond it.
+const GENERATED: Row<'static> = Row {
+    label: "",
+    contexts: &GENERATOR,
+    depths: &BOTH_DEPTHS,
+    temporal: 0,
+    safety: FULLY_SAFE,
+    clips: &[],
+    params: &[],
+    window: WINDOW,
+    region: PROJECT,
+    interest: &[],
+    frames: &[],
+    identity: Identity::No,
+    sources: &[],
+    bytes: &[],
+    shorts: &[],
+};
+
+// A filter for RGBA at frame 7, whose answers are the defaults.
+const FILTERED: Row<'static> = Row {
+    label: "",
+    contexts: &FILTER,
+    depths: &BOTH_DEPTHS,
+    temporal: 0,
+    safety: FULLY_SAFE,
+    clips: &[Clip {
+        name: "Source",
+        optional: 0,
+        components: &RGBA,
+    }],
+    params: &[],
+    window: WINDOW,
+    region: SOURCE,
+    interest: &[(1, 0, 5, 1)],
+    frames: &[&[(7, 7)]],
+    identity: Identity::No,
+    sources: &[],
+    bytes: &[],
+    shorts: &[],
+};
+
+const MIXED: Row<'static> = Row {
+    label: "",
+    contexts: &TRANSITION,
+    depths: &BOTH_DEPTHS,
+    temporal: 0,
+    safety: FULLY_SAFE,
+    clips: &[
+        Clip {
+            name: "SourceFrom",
+            optional: 0,
+            components: &BOTH_COMPONENTS,
+        },
+        Clip {
+            name: "SourceTo",
+            optional: 0,
+            components: &BOTH_COMPONENTS,
+        },
+    ],
+    params: &[],
+    window: WINDOW,
+    region: SOURCE,
+    interest: &[(1, 0, 5, 1), (1, 0, 5, 1)],
+    frames: &[&[(7, 7)], &[(7, 7)]],
+    identity: Identity::No,
+    sources: &[],
+    bytes: &[],
+    shorts: &[],
+};
+
+const MERGED: Row<'static> = Row {
+    label: "",
+    contexts: &GENERAL,
+    depths: &BOTH_DEPTHS,
+    temporal: 0,
+    safety: FULLY_SAFE,
+    clips: &[
+        Clip {
+            name: "A",
+            optional: 0,
+            components: &BOTH_COMPONENTS,
+        },
+        Clip {
+            name: "B",
+            optional: 0,
+            components: &BOTH_COMPONENTS,
+        },
+    ],
+    params: &[],
+    window: WINDOW,
+    region: SOURCE,
+    interest: &[(1, 0, 5, 1), (1, 0, 5, 1)],
+    frames: &[&[(7, 7)], &[(7, 7)]],
+    identity: Identity::No,
+    sources: &[],
+    bytes: &[],
+    shorts: &[],
+};
+
+// A fixed-point parameter, in units of 1/65536.
+fn fix(name: &'static str, least: i64, greatest: i64, start: i64) -> Parameter {
+    Parameter {
+        name,
+        kind: ParamKind::Fix,
+        least,
+        greatest,
+        start,
+        choices: &[],
+    }
+}
+
+fn int(name: &'static str, least: i64, greatest: i64, start: i64) -> Parameter {
+    Parameter {
+        name,
+        kind: ParamKind::Int,
+        least,
+        greatest,
+        start,
+        choices: &[],
+    }
+}
+
+fn choice(name: &'static str, choices: &'static [&'static str], start: i64) -> Parameter
+    requires { length choices.now ≤ 64 }
+{
+    Parameter {
+        name,
+        kind: ParamKind::Choice,
+        least: 0,
+        greatest: choices.len() as i64 - 1,
+        start,
+        choices,
+    }
+}
+
+#[test]
+fn solid(rt: HostRuntime) -> Result<(), Fail> {
+    let alloc = rt.alloc();
+    let (effect, context) = (Shipped::Solid, Context::Generator);
+    let names = no_clips(alloc)?;
+    let optional = flags_of(alloc, &[])?;
+    let values = values_of(alloc, 7, &[65536, 32768, 0, 32767], &[], PROJECT)?;
+    let params = [
+        fix("r", 0, 65536, 0),
+        fix("g", 0, 65536, 0),
+        fix("b", 0, 65536, 0),
+        fix("a", 0, 65536, 65536),
+    ];
+    let wanted = Row {
+        label: "solid",
+        params: &params,
+        bytes: &[[255, 128, 0, 127], [255, 128, 0, 127]],
+        shorts: &[[65535, 32768, 0, 32767], [65535, 32768, 0, 32767]],
+        ..GENERATED
+    };
+    byte_row(
+        &rt,
+        alloc,
+        effect,
+        context,
+        &names,
+        &optional,
+        &[],
+        &values,
+        &[],
+        &wanted,
+    )?;
+    short_row(&rt, alloc, effect, context, &[], &values, &wanted)
+}
+
+#[test]
+fn invert(rt: HostRuntime) -> Result<(), Fail> {
+    let alloc = rt.alloc();
+    let (effect, context) = (Shipped::Invert, Context::Filter);
+    let names = one_clip(alloc, "Source")?;
+    let optional = flags_of(alloc, &[false])?;
+    let values = values_of(alloc, 7, &[], &[true], PROJECT)?;
+    let wanted = Row {
+        label: "invert",
+        sources: &[Frame {
+            clip: 0,
+            frame: 7,
+            pixels: &FIRST,
+        }],
+        bytes: &[[118, 0, 98, 128], [255, 0, 1, 255]],
+        shorts: &[[118, 0, 98, 128], [255, 0, 1, 255]],
+        ..FILTERED
+    };
+    byte_row(
+        &rt,
+        alloc,
+        effect,
+        context,
+        &names,
+        &optional,
+        &[Components::Rgba],
+        &values,
+        &[SOURCE],
+        &wanted,
+    )?;
+    short_row(
+        &rt,
+        alloc,
+        effect,
+        context,
+        &[Components::Rgba],
+        &values,
+        &wanted,
+    )
+}
+
+#[test]
+fn arguments_have_their_names(rt: HostRuntime) -> Result<(), Fail> {
+    let alloc = rt.alloc();
+    let window = window_args(alloc, -3, Rect::of(-2, 1, 30, 4))?;
+    assert_eq!(rt; window.get_fix("OfxPropTime", 0)?, Fix { raw: -196608 });
+    for (index, bound) in [(0, -2), (1, 1), (2, 30), (3, 4)] {
+        assert_eq!(rt;
+            window.get_int("OfxImageEffectPropRenderWindow", index)?,
+            bound
+        );
+    }
+    let sequence = sequence_args(alloc, 3, 9)?;
+    for (name, index, raw) in [
+        ("OfxImageEffectPropFrameRange", 0, 196608),
+        ("OfxImageEffectPropFrameRange", 1, 589824),
+        ("OfxImageEffectPropFrameStep", 0, 65536),
+    ] {
+        assert_eq!(rt; sequence.get_fix(name, index)?, Fix { raw });
+    }
+    let described = descriptor(alloc)?;
+    for name in [
+        "OfxPropLabel",
+        "OfxImageEffectPropSupportedContexts",
+        "OfxImageEffectPropSupportedPixelDepths",
+        "OfxImageEffectPropTemporalClipAccess",
+        "OfxImageEffectPropSupportsTiles",
+        "OfxImageEffectPluginRenderThreadSafety",
+    ] {
+        assert_eq!(rt; described.dimension(name)?, 0);
+    }
+    Ok(())
+}

@@ -1,0 +1,141 @@
+//! The order in which actions come to an effect, and the gates of its instances.
+ghost use Rattle.std.specs.Prelude.{◌<◌, ◌^◌};
+
+use crate::toy::Toy;
+use fx_base::{Memory, Rect};
+use fx_core::Ticket;
+use fx_effect::{Catalogue, Context, Flags, Inputs, Numbers, Values};
+use fx_gate::Gates;
+use fx_image::Image;
+use fx_life::{Loaded, Running, Span};
+use fx_pixel::{Components, Depth, Pixel};
+use std::alloc::Global;
+use std::sync::atomic::{AtomicU64, Ordering};
+use std::test::Fail;
+
+const GREY: Pixel = Pixel::Rgba {
+    r: 9,
+    g: 9,
+    b: 9,
+    a: 9,
+};
+
+const CLEAR: Pixel = Pixel::Rgba {
+    r: 0,
+    g: 0,
+    b: 0,
+    a: 0,
+};
+
+// Of a picture of 3 by 2 pixels that has two grey ones, an instance renders the two right columns.
+fn one_renders(alloc: Global, effect: Toy<'_>) -> Result<(Image, bool), Memory> {
+    let (byte, rgba) = (Depth::Byte, Components::Rgba);
+    let mut image = Image::new(alloc, Rect::of(0, 0, 3, 2), byte, rgba, 12)?;
+    image.put(0, 1, GREY);
+    image.put(2, 0, GREY);
+    let values = Values {
+        frame: 4,
+        numbers: Numbers::of(Vec::new(alloc)),
+        connected: Flags::of(Vec::new(alloc)),
+        project: Rect::of(0, 0, 3, 2),
+    };
+    let inputs = Inputs::new(alloc, byte, Vec::new(alloc))?;
+    let span = Span {
+        first_node: 8,
+        count: 1,
+        first: 4,
+        last: 9,
+    };
+    let running = Running::start(alloc, effect, Context::Generator, span)?;
+    let mut hold = Gates::free(alloc);
+    let mut ticket = Ticket {
+        scene: 1,
+        number: 2,
+        stamped: false,
+    };
+    let mut part = image.part(Rect::of(1, 0, 3, 2));
+    let outcome = running.render(
+        alloc,
+        0,
+        &values,
+        &inputs,
+        &mut hold,
+        &mut ticket,
+        &mut part,
+    );
+    let Ticket {
+        scene,
+        number,
+        stamped,
+    } = ticket;
+    running.finish();
+    outcome?;
+    Ok((image, stamped & (scene == 1) & (number == 2)))
+}
+
+#[test]
+fn actions_come_in_order(rt: HostRuntime) -> Result<(), Fail> {
+    let notes = AtomicU64::new(0);
+    let effect = Toy {
+        notes: Some(&notes),
+    };
+    let (image, stamped) = one_renders(rt.alloc(), effect)?;
+    // loaded, described, and in its context; created; begun from 4 to 9; rendered; ended; destroyed; unloaded
+    assert_eq!(rt; notes.load(Ordering::SeqCst), 1234549674989);
+    assert!(rt; stamped);
+    // Column 0 is left of the window, and column 2 in it.
+    assert_eq!(rt; image.at(0, 1), GREY);
+    assert_eq!(rt; image.at(2, 0), CLEAR);
+    Ok(())
+}
+
+#[test]
+fn instances_stand_before_sequences_begin(rt: HostRuntime) -> Result<(), Fail> {
+    let notes = AtomicU64::new(0);
+    let effect = Toy {
+        notes: Some(&notes),
+    };
+    let span = Span {
+        first_node: 8,
+        count: 2,
+        first: 4,
+        last: 9,
+    };
+    Running::start(rt.alloc(), effect, Context::Generator, span)?.finish();
+    // Both are created, both begin; both end, both are destroyed.
+    assert_eq!(rt; notes.load(Ordering::SeqCst), 12344549549749749889);
+    Ok(())
+}
+
+// The gate of a node, of the effect that the catalogue has by this name.
+fn gate_of<E: Catalogue + Drop>(alloc: Global, name: &str, node: u32) -> Result<Option<u32>, Memory>
+    requires { node < 2 ^ 31 }
+{
+    let Some(effect) = E::named(name) else {
+        return Ok(None);
+    };
+    let loaded = match Loaded::load(alloc, effect) {
+        Ok(loaded) => loaded,
+        Err((_, memory)) => return Err(memory),
+    };
+    match loaded.describe(alloc) {
+        Ok(plugin) => {
+            let gate = plugin.gate_of(node);
+            plugin.unload();
+            Ok(gate)
+        }
+        Err((loaded, memory)) => {
+            loaded.unload();
+            Err(memory)
+        }
+    }
+}
+
+#[test]
+fn gates_are_the_plugins_or_the_instances(rt: HostRuntime) -> Result<(), Fail> {
+    let alloc = rt.alloc();
+    assert_eq!(rt; gate_of::<Toy<'_>>(alloc, "toy", 0)?, Some(3));
+    assert_eq!(rt; gate_of::<Toy<'_>>(alloc, "toy", 9)?, Some(3));
+    assert_eq!(rt; gate_of::<Toy<'_>>(alloc, "nobody", 9)?, None);
+    Ok(())
+}
