@@ -1,0 +1,17 @@
+use Rattle.std.proofs.Common.{w64, FitsSigned, subst, rules}
+use Rattle.std.proofs.lemmas.Int.{to_z-of_z}
+use Rattle.fx_pixel.specs.Pixel.{greatest}
+use Rattle.fx_image.specs.Part.{IsWritten}
+use Rattle.fx_effect.specs.Given.{row_pixel}
+use Rattle.fx_merge.specs.declared.operation.Operation.{Operation}
+use Rattle.fx_merge.specs.Merge.{merged}
+use Rattle.fx_merge.proofs.merge.MergeImageEffect.render.Goals as goal
+
+pub returns-clause-ok : goal.returns-clause-ok
+returns-clause-ok c =
+    let old = c.args.out.now in
+    let v = c.args.values.now in
+    let of = row_pixel c.args.inputs.now in
+    let frame : FitsSigned w64 v.frame = search rules in
+    let written = simp to_z-of_z at c.in_ok-merge_by.ensures.written in
+    subst (λ (o : Operation). IsWritten old c.merge_by.new.out (λ x y. merged o (greatest old.image.now.depth) (of 0 v.frame x y) (of 1 v.frame x y))) c.operation.ensures written
