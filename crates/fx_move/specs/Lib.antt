@@ -1,0 +1,5 @@
+pub mod SourceLaws
+pub mod Crop
+pub mod CropLaws
+pub mod Mirror
+pub mod MirrorLaws
