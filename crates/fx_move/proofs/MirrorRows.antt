@@ -26,7 +26,7 @@ row_wide r y (inl is) above below =
     absurd (omega (arith, ints))
 row_wide r y (inr proper) above below = proper.0
 
-rect_of-proper : (x1 y1 x2 y2 : ℤ) → x1 <ℤ x2 → y1 <ℤ y2 → rect_of x1 y1 x2 y2 ≡ record { x1 = x1; y1 = y1; x2 = x2; y2 = y2 }
+pub rect_of-proper : (x1 y1 x2 y2 : ℤ) → x1 <ℤ x2 → y1 <ℤ y2 → rect_of x1 y1 x2 y2 ≡ record { x1 = x1; y1 = y1; x2 = x2; y2 = y2 }
 rect_of-proper x1 y1 x2 y2 wide high = grind (arith, ints)
 
 pub columns_turned : (v : Values) (r : Bounds) → turns_columns v ≡ true → r.x1 <ℤ r.x2 → r.y1 <ℤ r.y2

@@ -1,11 +1,12 @@
 -- Places in a row.
-use Rattle.std.proofs.Common.{◌≡◌, ◌≤◌, ◌<◌, ◌∙◌, ℕ, ◌+◌, ◌*◌, ℤ, pos, negsuc, ◌+ℤ◌, ◌≤ℤ◌, arith, w64, to_z, of_z, FitsSigned}
+use Rattle.std.proofs.Common.{◌≡◌, ◌≤◌, ◌<◌, ◌∙◌, ℕ, ◌+◌, ◌*◌, ◌/◌, ℤ, pos, negsuc, ◌+ℤ◌, ◌≤ℤ◌, arith, w64, to_z, of_z, FitsSigned}
 use Rattle.std.specs.Int.{int_gap}
 use Rattle.std.proofs.lemmas.Int.{ints}
 use Rattle.fx_pixel.specs.declared.Depth.{Depth}
 use Rattle.fx_pixel.specs.declared.Depth.TheVariants.{Byte, Short}
 use Rattle.fx_pixel.specs.declared.Components.{Components}
 use Rattle.fx_pixel.specs.declared.Components.TheVariants as components
+use Rattle.fx_pixel.specs.Pixel.{size}
 use Rattle.fx_image.specs.Stored.{pixel_size}
 use Rattle.fx_image.proofs.ImageLaws.{fits_near}
 use Rattle.fx_image.proofs.RowsLaws.{rows_apart}
@@ -28,3 +29,8 @@ size_some Byte components.Rgba = omega arith
 size_some Short components.Rgba = omega arith
 size_some Byte components.Alpha = omega arith
 size_some Short components.Alpha = omega arith
+
+-- a sample that has room is one of the row
+pub sample_below : (d : Depth) (s long m n : ℕ) → n ≡ size d → s * size d + size d ≤ long → long / n ≤ m → s < m
+sample_below Byte s long m n is room few = let h = (rw is at few) in omega (arith, h, room)
+sample_below Short s long m n is room few = let h = (rw is at few) in omega (arith, h, room)

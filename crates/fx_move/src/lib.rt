@@ -4,6 +4,8 @@
 
 mod crop;
 mod mirror;
+mod translate;
 
 pub use crop::Crop;
 pub use mirror::Mirror;
+pub use translate::Translate;
