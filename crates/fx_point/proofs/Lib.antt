@@ -1,1 +1,4 @@
-pub mod AskedLaws
+pub mod Byte
+pub mod Choices
+pub mod Quotients
+pub mod Tables

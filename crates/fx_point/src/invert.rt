@@ -3,11 +3,11 @@ ghost use Rattle.std.specs.Prelude.{◌≡◌};
 ghost use Rattle.fx_point.specs.Invert.{invert, inverted};
 ghost use Rattle.fx_point.specs.InvertLaws.{invert_laws};
 
+use crate::filter::describe;
 use fx_base::{Memory, Rect};
 use fx_core::Ticket;
 use fx_effect::{
-    Context, Description, Identity, ImageEffect, Inputs, PointKernel, Reply, Safety, Values,
-    clip_set, fill_points,
+    Context, Identity, ImageEffect, Inputs, PointKernel, Reply, Values, clip_set, fill_points,
 };
 use fx_gate::Hold;
 use fx_image::Part;
@@ -30,16 +30,7 @@ impl ImageEffect for Invert {
     ghost laws = { λ _. invert_laws };
 
     fn describe(&self, alloc: Global, descriptor: &mut PropSet) -> Result<Reply, Memory> {
-        let description = Description {
-            label: "invert",
-            contexts: &[Context::Filter, Context::General],
-            depths: &[Depth::Byte, Depth::Short],
-            temporal: false,
-            tiles: true,
-            safety: Safety::FullySafe,
-        };
-        description.write(alloc, descriptor)?;
-        Ok(Reply::Ok)
+        describe(alloc, "invert", &[Depth::Byte, Depth::Short], descriptor)
     }
 
     fn describe_in_context(

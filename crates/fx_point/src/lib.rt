@@ -1,8 +1,21 @@
 //! Point effects: a pixel is made of the pixel at its own place (OpenFX 1.4, "Filter Context").
 #![tactic(auto)]
 
+mod filter;
+mod gain;
 mod invert;
+mod posterise;
+mod premult;
+mod saturation;
+mod shuffle;
 #[cfg(test)]
 mod tests;
+mod unpremult;
 
+pub use gain::Gain;
 pub use invert::Invert;
+pub use posterise::Posterise;
+pub use premult::Premult;
+pub use saturation::Saturation;
+pub use shuffle::Shuffle;
+pub use unpremult::Unpremult;
