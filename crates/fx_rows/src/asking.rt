@@ -36,47 +36,47 @@ pub type Bounds = (i64, i64, i64, i64);
 #[derive(Clone, Copy)]
 pub struct Row<'a> {
     pub label: &'static str,
-    pub contexts: &'static [&'static str],
-    pub depths: &'static [&'static str],
+    pub contexts: &'a [&'static str],
+    pub depths: &'a [&'static str],
     pub temporal: i64,
     pub safety: &'static str,
-    pub clips: &'static [Clip],
-    pub params: &'a [Parameter],
+    pub clips: &'a [Clip<'a>],
+    pub params: &'a [Parameter<'a>],
     pub window: Rect,
     pub region: Rect,
-    pub interest: &'static [Bounds],
-    pub frames: &'static [&'static [(i64, i64)]],
+    pub interest: &'a [Bounds],
+    pub frames: &'a [&'a [(i64, i64)]],
     pub identity: Identity,
-    pub sources: &'static [Frame],
-    pub bytes: &'static [[u16; 4]],
-    pub shorts: &'static [[u16; 4]],
+    pub sources: &'a [Frame<'a>],
+    pub bytes: &'a [[u16; 4]],
+    pub shorts: &'a [[u16; 4]],
 }
 
 /// An input clip: its name, whether it may be left unconnected, and its components.
 #[derive(Clone, Copy)]
-pub struct Clip {
+pub struct Clip<'a> {
     pub name: &'static str,
     pub optional: i64,
-    pub components: &'static [&'static str],
+    pub components: &'a [&'static str],
 }
 
 /// A parameter: its name, kind, least and greatest number, the one that it starts with, and its choices.
 #[derive(Clone, Copy)]
-pub struct Parameter {
+pub struct Parameter<'a> {
     pub name: &'static str,
     pub kind: ParamKind,
     pub least: i64,
     pub greatest: i64,
     pub start: i64,
-    pub choices: &'static [&'static str],
+    pub choices: &'a [&'static str],
 }
 
 /// A frame of an input clip: the pixels of columns 0 to 3 of row 0, as r, g, b and a.
 #[derive(Clone, Copy)]
-pub struct Frame {
+pub struct Frame<'a> {
     pub clip: u32,
     pub frame: i64,
-    pub pixels: &'static [[u16; 4]; 4],
+    pub pixels: &'a [[u16; 4]; 4],
 }
 
 /// Takes an effect through all its actions, and renders bytes.
@@ -207,7 +207,7 @@ fn describes_in(
     Ok(())
 }
 
-fn same_parameter(rt: &impl Abort, def: &ParamDef, wanted: &Parameter) -> Result<(), Fail> {
+fn same_parameter(rt: &impl Abort, def: &ParamDef, wanted: &Parameter<'_>) -> Result<(), Fail> {
     assert_eq!(rt; def.name.text(), wanted.name);
     assert_eq!(rt; def.kind, wanted.kind, "{}", wanted.name);
     let numbers = (def.least, def.greatest, def.start);
@@ -362,7 +362,7 @@ fn rendered(
     requires supported { IsTrue (supports (meaning_of effect).shape depth Rgba) }
     requires window { IsSmallWindow row.now.window }
 {
-    let inputs = inputs_of(alloc, depth, shown.to_vec(alloc)?, row.sources)?;
+    let inputs = inputs_of(alloc, depth, shown, row.sources)?;
     let mut image = Image::new(alloc, row.window, depth, Components::Rgba, 1024)?;
     let span = Span {
         first_node: 3,
@@ -393,26 +393,41 @@ fn rendered(
 fn inputs_of(
     alloc: Global,
     depth: Depth,
-    shown: Vec<Components>,
-    frames: &[Frame],
+    shown: &[Components],
+    frames: &[Frame<'_>],
 ) -> Result<Inputs<'static>, Memory>
     ensures depth { IfOk result (λ inputs. inputs.depth ≡ depth) }
-    ensures shown { IfOk result (λ inputs. inputs.components ≡ shown.items) }
+    ensures shown { IfOk result (λ inputs. inputs.components ≡ shown.now) }
 {
-    let clips = shown.clone()?;
-    let mut inputs = Inputs::new(alloc, depth, shown)?;
+    let mut inputs = Inputs::new(alloc, depth, shown.to_vec(alloc)?)?;
     for frame in frames {
-        if let Some(components) = clips.get(frame.clip as usize) {
-            let image = image_of(alloc, depth, *components, frame.pixels)?;
-            image.pixels_fit();
-            let piece = Piece::Tile {
-                image: Arc::new(alloc, image)?,
-                through: Steps::of(Vec::new(alloc)),
-            };
-            inputs.push(alloc, frame.clip, frame.frame, piece)?;
-        }
+        push_frame(alloc, depth, shown, frame, &mut inputs)?;
     }
     Ok(inputs)
+}
+
+fn push_frame(
+    alloc: Global,
+    depth: Depth,
+    shown: &[Components],
+    frame: &Frame<'_>,
+    inputs: &mut Inputs<'static>,
+) -> Result<(), Memory>
+    requires { inputs.old.components ≡ shown.now }
+    ensures depth { inputs.new.depth ≡ inputs.old.depth }
+    ensures shown { inputs.new.components ≡ inputs.old.components }
+{
+    let clip = frame.clip as usize;
+    if clip < shown.len() {
+        let image = image_of(alloc, depth, shown[clip], frame.pixels)?;
+        image.pixels_fit();
+        let piece = Piece::Tile {
+            image: Arc::new(alloc, image)?,
+            through: Steps::of(Vec::new(alloc)),
+        };
+        inputs.push(alloc, frame.clip, frame.frame, piece)?;
+    }
+    Ok(())
 }
 
 // An image of one row with these pixels.

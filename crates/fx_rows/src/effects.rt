@@ -89,13 +89,13 @@ const SECOND: [[u16; 4]; 4] = [
 
 const MASK: [[u16; 4]; 4] = [[0, 0, 0, 0], [0, 0, 0, 128], [0, 0, 0, 0], [0, 0, 0, 255]];
 
-const SOURCE_CLIP: [Clip; 1] = [Clip {
+const SOURCE_CLIP: [Clip<'static>; 1] = [Clip {
     name: "Source",
     optional: 0,
     components: &BOTH_COMPONENTS,
 }];
 
-const KEYED_CLIPS: [Clip; 3] = [
+const KEYED_CLIPS: [Clip<'static>; 3] = [
     Clip {
         name: "A",
         optional: 0,
@@ -214,7 +214,7 @@ const MERGED: Row<'static> = Row {
 };
 
 // A fixed-point parameter, in units of 1/65536.
-fn fix(name: &'static str, least: i64, greatest: i64, start: i64) -> Parameter {
+fn fix(name: &'static str, least: i64, greatest: i64, start: i64) -> Parameter<'static> {
     Parameter {
         name,
         kind: ParamKind::Fix,
@@ -225,7 +225,7 @@ fn fix(name: &'static str, least: i64, greatest: i64, start: i64) -> Parameter {
     }
 }
 
-fn int(name: &'static str, least: i64, greatest: i64, start: i64) -> Parameter {
+fn int(name: &'static str, least: i64, greatest: i64, start: i64) -> Parameter<'static> {
     Parameter {
         name,
         kind: ParamKind::Int,
@@ -236,7 +236,7 @@ fn int(name: &'static str, least: i64, greatest: i64, start: i64) -> Parameter {
     }
 }
 
-fn choice(name: &'static str, choices: &'static [&'static str], start: i64) -> Parameter
+fn choice<'a>(name: &'static str, choices: &'a [&'static str], start: i64) -> Parameter<'a>
     requires { length choices.now ≤ 64 }
 {
     Parameter {
@@ -320,6 +320,634 @@ fn invert(rt: HostRuntime) -> Result<(), Fail> {
         effect,
         context,
         &[Components::Rgba],
+        &values,
+        &wanted,
+    )
+}
+
+#[test]
+fn gain(rt: HostRuntime) -> Result<(), Fail> {
+    let alloc = rt.alloc();
+    let (effect, context) = (Shipped::Gain, Context::Filter);
+    let names = one_clip(alloc, "Source")?;
+    let optional = flags_of(alloc, &[false])?;
+    let values = values_of(alloc, 7, &[98304], &[true], PROJECT)?;
+    let params = [fix("gain", 0, 1048576, 65536)];
+    let wanted = Row {
+        label: "gain",
+        clips: &SOURCE_CLIP,
+        params: &params,
+        sources: &[Frame {
+            clip: 0,
+            frame: 7,
+            pixels: &FIRST,
+        }],
+        bytes: &[[15, 255, 45, 128], [0, 255, 255, 255], [5, 3, 2, 0]],
+        shorts: &[[15, 300, 45, 128], [0, 383, 381, 255], [5, 3, 2, 0]],
+        ..FILTERED
+    };
+    byte_row(
+        &rt,
+        alloc,
+        effect,
+        context,
+        &names,
+        &optional,
+        &[Components::Rgba],
+        &values,
+        &[SOURCE],
+        &wanted,
+    )?;
+    short_row(
+        &rt,
+        alloc,
+        effect,
+        context,
+        &[Components::Rgba],
+        &values,
+        &wanted,
+    )
+}
+
+#[test]
+fn premult(rt: HostRuntime) -> Result<(), Fail> {
+    let alloc = rt.alloc();
+    let (effect, context) = (Shipped::Premult, Context::Filter);
+    let names = one_clip(alloc, "Source")?;
+    let optional = flags_of(alloc, &[false])?;
+    let values = values_of(alloc, 7, &[], &[true], PROJECT)?;
+    let wanted = Row {
+        label: "premult",
+        sources: &[Frame {
+            clip: 0,
+            frame: 7,
+            pixels: &FIRST,
+        }],
+        bytes: &[[5, 100, 15, 128], [0, 255, 254, 255]],
+        shorts: &[[0, 0, 0, 128], [0, 1, 1, 255]],
+        ..FILTERED
+    };
+    byte_row(
+        &rt,
+        alloc,
+        effect,
+        context,
+        &names,
+        &optional,
+        &[Components::Rgba],
+        &values,
+        &[SOURCE],
+        &wanted,
+    )?;
+    short_row(
+        &rt,
+        alloc,
+        effect,
+        context,
+        &[Components::Rgba],
+        &values,
+        &wanted,
+    )
+}
+
+#[test]
+fn unpremult(rt: HostRuntime) -> Result<(), Fail> {
+    let alloc = rt.alloc();
+    let (effect, context) = (Shipped::Unpremult, Context::Filter);
+    let names = one_clip(alloc, "Source")?;
+    let optional = flags_of(alloc, &[false])?;
+    let values = values_of(alloc, 7, &[], &[true], PROJECT)?;
+    let wanted = Row {
+        label: "unpremult",
+        sources: &[Frame {
+            clip: 0,
+            frame: 7,
+            pixels: &FIRST,
+        }],
+        bytes: &[[20, 255, 60, 128], [0, 255, 254, 255]],
+        shorts: &[[5120, 65535, 15360, 128], [0, 65535, 65278, 255]],
+        ..FILTERED
+    };
+    byte_row(
+        &rt,
+        alloc,
+        effect,
+        context,
+        &names,
+        &optional,
+        &[Components::Rgba],
+        &values,
+        &[SOURCE],
+        &wanted,
+    )?;
+    short_row(
+        &rt,
+        alloc,
+        effect,
+        context,
+        &[Components::Rgba],
+        &values,
+        &wanted,
+    )
+}
+
+#[test]
+fn shuffle(rt: HostRuntime) -> Result<(), Fail> {
+    let alloc = rt.alloc();
+    let (effect, context) = (Shipped::Shuffle, Context::Filter);
+    let names = one_clip(alloc, "Source")?;
+    let optional = flags_of(alloc, &[false])?;
+    let values = values_of(alloc, 7, &[3, 4, 0, 1], &[true], PROJECT)?;
+    let params = [
+        choice("r", &SAMPLES, 0),
+        choice("g", &SAMPLES, 1),
+        choice("b", &SAMPLES, 2),
+        choice("a", &SAMPLES, 3),
+    ];
+    let wanted = Row {
+        label: "shuffle",
+        params: &params,
+        sources: &[Frame {
+            clip: 0,
+            frame: 7,
+            pixels: &FIRST,
+        }],
+        bytes: &[[128, 0, 10, 200], [255, 0, 0, 255], [0, 0, 3, 2]],
+        shorts: &[[128, 0, 10, 200], [255, 0, 0, 255], [0, 0, 3, 2]],
+        ..FILTERED
+    };
+    byte_row(
+        &rt,
+        alloc,
+        effect,
+        context,
+        &names,
+        &optional,
+        &[Components::Rgba],
+        &values,
+        &[SOURCE],
+        &wanted,
+    )?;
+    short_row(
+        &rt,
+        alloc,
+        effect,
+        context,
+        &[Components::Rgba],
+        &values,
+        &wanted,
+    )
+}
+
+#[test]
+fn saturation(rt: HostRuntime) -> Result<(), Fail> {
+    let alloc = rt.alloc();
+    let (effect, context) = (Shipped::Saturation, Context::Filter);
+    let names = one_clip(alloc, "Source")?;
+    let optional = flags_of(alloc, &[false])?;
+    let values = values_of(alloc, 7, &[98304], &[true], PROJECT)?;
+    let params = [fix("amount", 0, 262144, 65536)];
+    let wanted = Row {
+        label: "saturation",
+        params: &params,
+        sources: &[Frame {
+            clip: 0,
+            frame: 7,
+            pixels: &FIRST,
+        }],
+        bytes: &[[0, 226, 0, 128], [0, 255, 255, 255], [3, 2, 0, 0]],
+        shorts: &[[0, 226, 0, 128], [0, 282, 280, 255], [3, 2, 0, 0]],
+        ..FILTERED
+    };
+    byte_row(
+        &rt,
+        alloc,
+        effect,
+        context,
+        &names,
+        &optional,
+        &[Components::Rgba],
+        &values,
+        &[SOURCE],
+        &wanted,
+    )?;
+    short_row(
+        &rt,
+        alloc,
+        effect,
+        context,
+        &[Components::Rgba],
+        &values,
+        &wanted,
+    )
+}
+
+#[test]
+fn posterise(rt: HostRuntime) -> Result<(), Fail> {
+    let alloc = rt.alloc();
+    let (effect, context) = (Shipped::Posterise, Context::Filter);
+    let names = one_clip(alloc, "Source")?;
+    let optional = flags_of(alloc, &[false])?;
+    let values = values_of(alloc, 7, &[3], &[true], PROJECT)?;
+    let params = [int("levels", 2, 256, 256)];
+    let wanted = Row {
+        label: "posterise",
+        depths: &BYTES,
+        params: &params,
+        sources: &[Frame {
+            clip: 0,
+            frame: 7,
+            pixels: &FIRST,
+        }],
+        bytes: &[[0, 255, 0, 128], [0, 255, 255, 255]],
+        ..FILTERED
+    };
+    byte_row(
+        &rt,
+        alloc,
+        effect,
+        context,
+        &names,
+        &optional,
+        &[Components::Rgba],
+        &values,
+        &[SOURCE],
+        &wanted,
+    )
+}
+
+#[test]
+fn crop(rt: HostRuntime) -> Result<(), Fail> {
+    let alloc = rt.alloc();
+    let (effect, context) = (Shipped::Crop, Context::Filter);
+    let names = one_clip(alloc, "Source")?;
+    let optional = flags_of(alloc, &[false])?;
+    let values = values_of(alloc, 7, &[2, 0, 1, 5], &[true], PROJECT)?;
+    let params = [
+        int("x", -16384, 16384, 0),
+        int("y", -16384, 16384, 0),
+        int("width", 0, 16384, 16384),
+        int("height", 0, 16384, 16384),
+    ];
+    let wanted = Row {
+        label: "crop",
+        clips: &SOURCE_CLIP,
+        params: &params,
+        region: Rect {
+            x1: 2,
+            y1: 0,
+            x2: 3,
+            y2: 1,
+        },
+        interest: &[(2, 0, 3, 1)],
+        sources: &[Frame {
+            clip: 0,
+            frame: 7,
+            pixels: &FIRST,
+        }],
+        bytes: &[[0, 0, 0, 0], [0, 255, 254, 255]],
+        shorts: &[[0, 0, 0, 0], [0, 255, 254, 255]],
+        ..FILTERED
+    };
+    byte_row(
+        &rt,
+        alloc,
+        effect,
+        context,
+        &names,
+        &optional,
+        &[Components::Rgba],
+        &values,
+        &[SOURCE],
+        &wanted,
+    )?;
+    short_row(
+        &rt,
+        alloc,
+        effect,
+        context,
+        &[Components::Rgba],
+        &values,
+        &wanted,
+    )
+}
+
+#[test]
+fn translate(rt: HostRuntime) -> Result<(), Fail> {
+    let alloc = rt.alloc();
+    let (effect, context) = (Shipped::Translate, Context::Filter);
+    let names = one_clip(alloc, "Source")?;
+    let optional = flags_of(alloc, &[false])?;
+    let values = values_of(alloc, 7, &[98304, 0], &[true], PROJECT)?;
+    let params = [
+        fix("dx", -1073741824, 1073741824, 0),
+        fix("dy", -1073741824, 1073741824, 0),
+    ];
+    let wanted = Row {
+        label: "translate",
+        clips: &SOURCE_CLIP,
+        params: &params,
+        region: Rect {
+            x1: 1,
+            y1: 0,
+            x2: 6,
+            y2: 1,
+        },
+        interest: &[(-1, 0, 4, 1)],
+        sources: &[Frame {
+            clip: 0,
+            frame: 7,
+            pixels: &FIRST,
+        }],
+        bytes: &[
+            [1, 1, 1, 1],
+            [6, 101, 16, 65],
+            [5, 228, 142, 192],
+            [2, 129, 128, 128],
+        ],
+        shorts: &[
+            [1, 1, 1, 1],
+            [6, 101, 16, 65],
+            [5, 228, 142, 192],
+            [2, 129, 128, 128],
+        ],
+        ..FILTERED
+    };
+    byte_row(
+        &rt,
+        alloc,
+        effect,
+        context,
+        &names,
+        &optional,
+        &[Components::Rgba],
+        &values,
+        &[SOURCE],
+        &wanted,
+    )?;
+    short_row(
+        &rt,
+        alloc,
+        effect,
+        context,
+        &[Components::Rgba],
+        &values,
+        &wanted,
+    )
+}
+
+#[test]
+fn mirror(rt: HostRuntime) -> Result<(), Fail> {
+    let alloc = rt.alloc();
+    let (effect, context) = (Shipped::Mirror, Context::Filter);
+    let names = one_clip(alloc, "Source")?;
+    let optional = flags_of(alloc, &[false])?;
+    let values = values_of(alloc, 7, &[0], &[true], PROJECT)?;
+    let params = [choice("axis", &AXES, 0)];
+    let wanted = Row {
+        label: "mirror",
+        clips: &SOURCE_CLIP,
+        params: &params,
+        region: Rect {
+            x1: -1,
+            y1: 0,
+            x2: 3,
+            y2: 1,
+        },
+        interest: &[(-2, 0, 2, 1)],
+        sources: &[Frame {
+            clip: 0,
+            frame: 7,
+            pixels: &FIRST,
+        }],
+        bytes: &[[10, 200, 30, 128], [1, 1, 1, 1]],
+        shorts: &[[10, 200, 30, 128], [1, 1, 1, 1]],
+        ..FILTERED
+    };
+    byte_row(
+        &rt,
+        alloc,
+        effect,
+        context,
+        &names,
+        &optional,
+        &[Components::Rgba],
+        &values,
+        &[SOURCE],
+        &wanted,
+    )?;
+    short_row(
+        &rt,
+        alloc,
+        effect,
+        context,
+        &[Components::Rgba],
+        &values,
+        &wanted,
+    )
+}
+
+#[test]
+fn dissolve(rt: HostRuntime) -> Result<(), Fail> {
+    let alloc = rt.alloc();
+    let (effect, context) = (Shipped::Dissolve, Context::Transition);
+    let names = two_clips(alloc, "SourceFrom", "SourceTo")?;
+    let optional = flags_of(alloc, &[false, false])?;
+    let values = values_of(alloc, 7, &[32768], &[true, true], PROJECT)?;
+    let params = [fix("Transition", 0, 65536, 0)];
+    let wanted = Row {
+        label: "dissolve",
+        params: &params,
+        sources: &[
+            Frame {
+                clip: 0,
+                frame: 7,
+                pixels: &FIRST,
+            },
+            Frame {
+                clip: 1,
+                frame: 7,
+                pixels: &SECOND,
+            },
+        ],
+        bytes: &[[15, 100, 15, 192], [0, 128, 127, 128], [129, 129, 128, 128]],
+        shorts: &[[15, 100, 15, 192], [0, 128, 127, 128], [129, 129, 128, 128]],
+        ..MIXED
+    };
+    byte_row(
+        &rt,
+        alloc,
+        effect,
+        context,
+        &names,
+        &optional,
+        &[Components::Rgba, Components::Rgba],
+        &values,
+        &[SOURCE, SOURCE],
+        &wanted,
+    )?;
+    short_row(
+        &rt,
+        alloc,
+        effect,
+        context,
+        &[Components::Rgba, Components::Rgba],
+        &values,
+        &wanted,
+    )
+}
+
+#[test]
+fn wipe(rt: HostRuntime) -> Result<(), Fail> {
+    let alloc = rt.alloc();
+    let (effect, context) = (Shipped::Wipe, Context::Transition);
+    let names = two_clips(alloc, "SourceFrom", "SourceTo")?;
+    let optional = flags_of(alloc, &[false, false])?;
+    let values = values_of(alloc, 7, &[43691], &[true, true], PROJECT)?;
+    let params = [fix("Transition", 0, 65536, 0)];
+    let wanted = Row {
+        label: "wipe",
+        params: &params,
+        sources: &[
+            Frame {
+                clip: 0,
+                frame: 7,
+                pixels: &FIRST,
+            },
+            Frame {
+                clip: 1,
+                frame: 7,
+                pixels: &SECOND,
+            },
+        ],
+        bytes: &[[20, 0, 0, 255], [0, 255, 254, 255], [3, 2, 1, 0]],
+        shorts: &[[20, 0, 0, 255], [0, 255, 254, 255], [3, 2, 1, 0]],
+        ..MIXED
+    };
+    byte_row(
+        &rt,
+        alloc,
+        effect,
+        context,
+        &names,
+        &optional,
+        &[Components::Rgba, Components::Rgba],
+        &values,
+        &[SOURCE, SOURCE],
+        &wanted,
+    )?;
+    short_row(
+        &rt,
+        alloc,
+        effect,
+        context,
+        &[Components::Rgba, Components::Rgba],
+        &values,
+        &wanted,
+    )
+}
+
+#[test]
+fn merge(rt: HostRuntime) -> Result<(), Fail> {
+    let alloc = rt.alloc();
+    let (effect, context) = (Shipped::Merge, Context::General);
+    let names = two_clips(alloc, "A", "B")?;
+    let optional = flags_of(alloc, &[false, false])?;
+    let values = values_of(alloc, 7, &[0], &[true, true], PROJECT)?;
+    let params = [choice("operation", &OPERATIONS, 0)];
+    let wanted = Row {
+        label: "merge",
+        params: &params,
+        sources: &[
+            Frame {
+                clip: 0,
+                frame: 7,
+                pixels: &FIRST,
+            },
+            Frame {
+                clip: 1,
+                frame: 7,
+                pixels: &SECOND,
+            },
+        ],
+        bytes: &[[20, 200, 30, 255], [0, 255, 254, 255], [255, 255, 255, 255]],
+        shorts: &[[30, 200, 30, 383], [0, 255, 254, 255], [258, 257, 256, 255]],
+        ..MERGED
+    };
+    byte_row(
+        &rt,
+        alloc,
+        effect,
+        context,
+        &names,
+        &optional,
+        &[Components::Rgba, Components::Rgba],
+        &values,
+        &[SOURCE, SOURCE],
+        &wanted,
+    )?;
+    short_row(
+        &rt,
+        alloc,
+        effect,
+        context,
+        &[Components::Rgba, Components::Rgba],
+        &values,
+        &wanted,
+    )
+}
+
+#[test]
+fn keymix(rt: HostRuntime) -> Result<(), Fail> {
+    let alloc = rt.alloc();
+    let (effect, context) = (Shipped::Keymix, Context::General);
+    let names = three_clips(alloc, "A", "B", "Mask")?;
+    let optional = flags_of(alloc, &[false, false, true])?;
+    let values = values_of(alloc, 7, &[], &[true, true, true], PROJECT)?;
+    let wanted = Row {
+        label: "keymix",
+        clips: &KEYED_CLIPS,
+        interest: &[(1, 0, 5, 1), (1, 0, 5, 1), (1, 0, 5, 1)],
+        frames: &[&[(7, 7)], &[(7, 7)], &[(7, 7)]],
+        sources: &[
+            Frame {
+                clip: 0,
+                frame: 7,
+                pixels: &FIRST,
+            },
+            Frame {
+                clip: 1,
+                frame: 7,
+                pixels: &SECOND,
+            },
+            Frame {
+                clip: 2,
+                frame: 7,
+                pixels: &MASK,
+            },
+        ],
+        bytes: &[[15, 100, 15, 191], [0, 0, 0, 0], [3, 2, 1, 0]],
+        shorts: &[[20, 0, 0, 255], [0, 0, 0, 0], [254, 254, 254, 254]],
+        ..MERGED
+    };
+    byte_row(
+        &rt,
+        alloc,
+        effect,
+        context,
+        &names,
+        &optional,
+        &[Components::Rgba, Components::Rgba, Components::Alpha],
+        &values,
+        &[SOURCE, SOURCE, SOURCE],
+        &wanted,
+    )?;
+    short_row(
+        &rt,
+        alloc,
+        effect,
+        context,
+        &[Components::Rgba, Components::Rgba, Components::Alpha],
         &values,
         &wanted,
     )

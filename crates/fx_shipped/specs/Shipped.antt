@@ -4,25 +4,90 @@ use Rattle.std.specs.Str.{bytes_eq}
 use Rattle.fx_effect.specs.Meaning.{Meaning}
 use Rattle.fx_gen.specs.Solid.{solid}
 use Rattle.fx_point.specs.Invert.{invert}
+use Rattle.fx_point.specs.Gain.{gain}
+use Rattle.fx_point.specs.Premult.{premult}
+use Rattle.fx_point.specs.Unpremult.{unpremult}
+use Rattle.fx_point.specs.Shuffle.{shuffle}
+use Rattle.fx_point.specs.Saturation.{saturation}
+use Rattle.fx_point.specs.Posterise.{posterise}
+use Rattle.fx_move.specs.Crop.{crop}
+use Rattle.fx_move.specs.Translate.{translate}
+use Rattle.fx_move.specs.Mirror.{mirror}
+use Rattle.fx_trans.specs.Dissolve.{dissolve}
+use Rattle.fx_trans.specs.Wipe.{wipe}
+use Rattle.fx_merge.specs.Merge.{merge}
+use Rattle.fx_merge.specs.Keymix.{keymix}
 use Rattle.fx_shipped.specs.declared.shipped.Shipped.{Shipped}
 use Rattle.fx_shipped.specs.declared.shipped.Shipped.TheVariants as shipped
 
 abbrev pub meaning_of : Shipped → Meaning
 meaning_of shipped.Solid = solid
 meaning_of shipped.Invert = invert
+meaning_of shipped.Gain = gain
+meaning_of shipped.Premult = premult
+meaning_of shipped.Unpremult = unpremult
+meaning_of shipped.Shuffle = shuffle
+meaning_of shipped.Saturation = saturation
+meaning_of shipped.Posterise = posterise
+meaning_of shipped.Crop = crop
+meaning_of shipped.Translate = translate
+meaning_of shipped.Mirror = mirror
+meaning_of shipped.Dissolve = dissolve
+meaning_of shipped.Wipe = wipe
+meaning_of shipped.Merge = merge
+meaning_of shipped.Keymix = keymix
 
 abbrev pub name_of : Shipped → List ℕ
 name_of shipped.Solid = codes "solid"
 name_of shipped.Invert = codes "invert"
+name_of shipped.Gain = codes "gain"
+name_of shipped.Premult = codes "premult"
+name_of shipped.Unpremult = codes "unpremult"
+name_of shipped.Shuffle = codes "shuffle"
+name_of shipped.Saturation = codes "saturation"
+name_of shipped.Posterise = codes "posterise"
+name_of shipped.Crop = codes "crop"
+name_of shipped.Translate = codes "translate"
+name_of shipped.Mirror = codes "mirror"
+name_of shipped.Dissolve = codes "dissolve"
+name_of shipped.Wipe = codes "wipe"
+name_of shipped.Merge = codes "merge"
+name_of shipped.Keymix = codes "keymix"
 
 abbrev pub number_of : Shipped → ℕ
 number_of shipped.Solid = 0
 number_of shipped.Invert = 4
+number_of shipped.Gain = 5
+number_of shipped.Premult = 6
+number_of shipped.Unpremult = 7
+number_of shipped.Shuffle = 8
+number_of shipped.Saturation = 9
+number_of shipped.Posterise = 10
+number_of shipped.Crop = 15
+number_of shipped.Translate = 16
+number_of shipped.Mirror = 17
+number_of shipped.Dissolve = 22
+number_of shipped.Wipe = 23
+number_of shipped.Merge = 24
+number_of shipped.Keymix = 25
 
 abbrev pub all : List Shipped
 all =
     shipped.Solid
     ∷ shipped.Invert
+    ∷ shipped.Gain
+    ∷ shipped.Premult
+    ∷ shipped.Unpremult
+    ∷ shipped.Shuffle
+    ∷ shipped.Saturation
+    ∷ shipped.Posterise
+    ∷ shipped.Crop
+    ∷ shipped.Translate
+    ∷ shipped.Mirror
+    ∷ shipped.Dissolve
+    ∷ shipped.Wipe
+    ∷ shipped.Merge
+    ∷ shipped.Keymix
     ∷ []
 
 -- the first of them that has the name

@@ -14,6 +14,19 @@ impl Shipped {
         match self {
             Shipped::Solid => "solid",
             Shipped::Invert => "invert",
+            Shipped::Gain => "gain",
+            Shipped::Premult => "premult",
+            Shipped::Unpremult => "unpremult",
+            Shipped::Shuffle => "shuffle",
+            Shipped::Saturation => "saturation",
+            Shipped::Posterise => "posterise",
+            Shipped::Crop => "crop",
+            Shipped::Translate => "translate",
+            Shipped::Mirror => "mirror",
+            Shipped::Dissolve => "dissolve",
+            Shipped::Wipe => "wipe",
+            Shipped::Merge => "merge",
+            Shipped::Keymix => "keymix",
         }
     }
 }
@@ -35,6 +48,19 @@ impl Catalogue for Shipped {
         match name {
             "solid" => Some(Shipped::Solid),
             "invert" => Some(Shipped::Invert),
+            "gain" => Some(Shipped::Gain),
+            "premult" => Some(Shipped::Premult),
+            "unpremult" => Some(Shipped::Unpremult),
+            "shuffle" => Some(Shipped::Shuffle),
+            "saturation" => Some(Shipped::Saturation),
+            "posterise" => Some(Shipped::Posterise),
+            "crop" => Some(Shipped::Crop),
+            "translate" => Some(Shipped::Translate),
+            "mirror" => Some(Shipped::Mirror),
+            "dissolve" => Some(Shipped::Dissolve),
+            "wipe" => Some(Shipped::Wipe),
+            "merge" => Some(Shipped::Merge),
+            "keymix" => Some(Shipped::Keymix),
             _ => None,
         }
     }
@@ -43,6 +69,19 @@ impl Catalogue for Shipped {
         match self {
             Shipped::Solid => 0,
             Shipped::Invert => 4,
+            Shipped::Gain => 5,
+            Shipped::Premult => 6,
+            Shipped::Unpremult => 7,
+            Shipped::Shuffle => 8,
+            Shipped::Saturation => 9,
+            Shipped::Posterise => 10,
+            Shipped::Crop => 15,
+            Shipped::Translate => 16,
+            Shipped::Mirror => 17,
+            Shipped::Dissolve => 22,
+            Shipped::Wipe => 23,
+            Shipped::Merge => 24,
+            Shipped::Keymix => 25,
         }
     }
 

@@ -8,9 +8,12 @@ use fx_effect::{Context, Identity, ImageEffect, Inputs, Reply, Values};
 use fx_gate::Hold;
 use fx_gen::Solid;
 use fx_image::Part;
+use fx_merge::{Keymix, Merge};
+use fx_move::{Crop, Mirror, Translate};
 use fx_params::ParamDef;
-use fx_point::Invert;
+use fx_point::{Gain, Invert, Posterise, Premult, Saturation, Shuffle, Unpremult};
 use fx_props::PropSet;
+use fx_trans::{Dissolve, Wipe};
 use std::alloc::Global;
 
 /// An effect of the program. It is asked as the effect that it stands for.
@@ -18,6 +21,19 @@ use std::alloc::Global;
 pub enum Shipped {
     Solid,
     Invert,
+    Gain,
+    Premult,
+    Unpremult,
+    Shuffle,
+    Saturation,
+    Posterise,
+    Crop,
+    Translate,
+    Mirror,
+    Dissolve,
+    Wipe,
+    Merge,
+    Keymix,
 }
 
 impl ImageEffect for Shipped {
@@ -29,6 +45,19 @@ impl ImageEffect for Shipped {
         match self {
             Shipped::Solid => Solid.describe(alloc, descriptor),
             Shipped::Invert => Invert.describe(alloc, descriptor),
+            Shipped::Gain => Gain.describe(alloc, descriptor),
+            Shipped::Premult => Premult.describe(alloc, descriptor),
+            Shipped::Unpremult => Unpremult.describe(alloc, descriptor),
+            Shipped::Shuffle => Shuffle.describe(alloc, descriptor),
+            Shipped::Saturation => Saturation.describe(alloc, descriptor),
+            Shipped::Posterise => Posterise.describe(alloc, descriptor),
+            Shipped::Crop => Crop.describe(alloc, descriptor),
+            Shipped::Translate => Translate.describe(alloc, descriptor),
+            Shipped::Mirror => Mirror.describe(alloc, descriptor),
+            Shipped::Dissolve => Dissolve.describe(alloc, descriptor),
+            Shipped::Wipe => Wipe.describe(alloc, descriptor),
+            Shipped::Merge => Merge.describe(alloc, descriptor),
+            Shipped::Keymix => Keymix.describe(alloc, descriptor),
         }
     }
 
@@ -42,6 +71,19 @@ impl ImageEffect for Shipped {
         match self {
             Shipped::Solid => Solid.describe_in_context(alloc, context, clips, params),
             Shipped::Invert => Invert.describe_in_context(alloc, context, clips, params),
+            Shipped::Gain => Gain.describe_in_context(alloc, context, clips, params),
+            Shipped::Premult => Premult.describe_in_context(alloc, context, clips, params),
+            Shipped::Unpremult => Unpremult.describe_in_context(alloc, context, clips, params),
+            Shipped::Shuffle => Shuffle.describe_in_context(alloc, context, clips, params),
+            Shipped::Saturation => Saturation.describe_in_context(alloc, context, clips, params),
+            Shipped::Posterise => Posterise.describe_in_context(alloc, context, clips, params),
+            Shipped::Crop => Crop.describe_in_context(alloc, context, clips, params),
+            Shipped::Translate => Translate.describe_in_context(alloc, context, clips, params),
+            Shipped::Mirror => Mirror.describe_in_context(alloc, context, clips, params),
+            Shipped::Dissolve => Dissolve.describe_in_context(alloc, context, clips, params),
+            Shipped::Wipe => Wipe.describe_in_context(alloc, context, clips, params),
+            Shipped::Merge => Merge.describe_in_context(alloc, context, clips, params),
+            Shipped::Keymix => Keymix.describe_in_context(alloc, context, clips, params),
         }
     }
 
@@ -60,6 +102,45 @@ impl ImageEffect for Shipped {
             Shipped::Invert => Invert.get_region_of_definition(
                 alloc, values, regions, in_args, out_args,
             ),
+            Shipped::Gain => Gain.get_region_of_definition(
+                alloc, values, regions, in_args, out_args,
+            ),
+            Shipped::Premult => Premult.get_region_of_definition(
+                alloc, values, regions, in_args, out_args,
+            ),
+            Shipped::Unpremult => Unpremult.get_region_of_definition(
+                alloc, values, regions, in_args, out_args,
+            ),
+            Shipped::Shuffle => Shuffle.get_region_of_definition(
+                alloc, values, regions, in_args, out_args,
+            ),
+            Shipped::Saturation => Saturation.get_region_of_definition(
+                alloc, values, regions, in_args, out_args,
+            ),
+            Shipped::Posterise => Posterise.get_region_of_definition(
+                alloc, values, regions, in_args, out_args,
+            ),
+            Shipped::Crop => Crop.get_region_of_definition(
+                alloc, values, regions, in_args, out_args,
+            ),
+            Shipped::Translate => Translate.get_region_of_definition(
+                alloc, values, regions, in_args, out_args,
+            ),
+            Shipped::Mirror => Mirror.get_region_of_definition(
+                alloc, values, regions, in_args, out_args,
+            ),
+            Shipped::Dissolve => Dissolve.get_region_of_definition(
+                alloc, values, regions, in_args, out_args,
+            ),
+            Shipped::Wipe => Wipe.get_region_of_definition(
+                alloc, values, regions, in_args, out_args,
+            ),
+            Shipped::Merge => Merge.get_region_of_definition(
+                alloc, values, regions, in_args, out_args,
+            ),
+            Shipped::Keymix => Keymix.get_region_of_definition(
+                alloc, values, regions, in_args, out_args,
+            ),
         }
     }
 
@@ -73,6 +154,27 @@ impl ImageEffect for Shipped {
         match self {
             Shipped::Solid => Solid.get_regions_of_interest(alloc, values, in_args, out_args),
             Shipped::Invert => Invert.get_regions_of_interest(alloc, values, in_args, out_args),
+            Shipped::Gain => Gain.get_regions_of_interest(alloc, values, in_args, out_args),
+            Shipped::Premult => Premult.get_regions_of_interest(alloc, values, in_args, out_args),
+            Shipped::Unpremult => Unpremult.get_regions_of_interest(
+                alloc, values, in_args, out_args,
+            ),
+            Shipped::Shuffle => Shuffle.get_regions_of_interest(alloc, values, in_args, out_args),
+            Shipped::Saturation => Saturation.get_regions_of_interest(
+                alloc, values, in_args, out_args,
+            ),
+            Shipped::Posterise => Posterise.get_regions_of_interest(
+                alloc, values, in_args, out_args,
+            ),
+            Shipped::Crop => Crop.get_regions_of_interest(alloc, values, in_args, out_args),
+            Shipped::Translate => Translate.get_regions_of_interest(
+                alloc, values, in_args, out_args,
+            ),
+            Shipped::Mirror => Mirror.get_regions_of_interest(alloc, values, in_args, out_args),
+            Shipped::Dissolve => Dissolve.get_regions_of_interest(alloc, values, in_args, out_args),
+            Shipped::Wipe => Wipe.get_regions_of_interest(alloc, values, in_args, out_args),
+            Shipped::Merge => Merge.get_regions_of_interest(alloc, values, in_args, out_args),
+            Shipped::Keymix => Keymix.get_regions_of_interest(alloc, values, in_args, out_args),
         }
     }
 
@@ -86,6 +188,19 @@ impl ImageEffect for Shipped {
         match self {
             Shipped::Solid => Solid.get_frames_needed(alloc, values, in_args, out_args),
             Shipped::Invert => Invert.get_frames_needed(alloc, values, in_args, out_args),
+            Shipped::Gain => Gain.get_frames_needed(alloc, values, in_args, out_args),
+            Shipped::Premult => Premult.get_frames_needed(alloc, values, in_args, out_args),
+            Shipped::Unpremult => Unpremult.get_frames_needed(alloc, values, in_args, out_args),
+            Shipped::Shuffle => Shuffle.get_frames_needed(alloc, values, in_args, out_args),
+            Shipped::Saturation => Saturation.get_frames_needed(alloc, values, in_args, out_args),
+            Shipped::Posterise => Posterise.get_frames_needed(alloc, values, in_args, out_args),
+            Shipped::Crop => Crop.get_frames_needed(alloc, values, in_args, out_args),
+            Shipped::Translate => Translate.get_frames_needed(alloc, values, in_args, out_args),
+            Shipped::Mirror => Mirror.get_frames_needed(alloc, values, in_args, out_args),
+            Shipped::Dissolve => Dissolve.get_frames_needed(alloc, values, in_args, out_args),
+            Shipped::Wipe => Wipe.get_frames_needed(alloc, values, in_args, out_args),
+            Shipped::Merge => Merge.get_frames_needed(alloc, values, in_args, out_args),
+            Shipped::Keymix => Keymix.get_frames_needed(alloc, values, in_args, out_args),
         }
     }
 
@@ -93,6 +208,19 @@ impl ImageEffect for Shipped {
         match self {
             Shipped::Solid => Solid.is_identity(values, in_args),
             Shipped::Invert => Invert.is_identity(values, in_args),
+            Shipped::Gain => Gain.is_identity(values, in_args),
+            Shipped::Premult => Premult.is_identity(values, in_args),
+            Shipped::Unpremult => Unpremult.is_identity(values, in_args),
+            Shipped::Shuffle => Shuffle.is_identity(values, in_args),
+            Shipped::Saturation => Saturation.is_identity(values, in_args),
+            Shipped::Posterise => Posterise.is_identity(values, in_args),
+            Shipped::Crop => Crop.is_identity(values, in_args),
+            Shipped::Translate => Translate.is_identity(values, in_args),
+            Shipped::Mirror => Mirror.is_identity(values, in_args),
+            Shipped::Dissolve => Dissolve.is_identity(values, in_args),
+            Shipped::Wipe => Wipe.is_identity(values, in_args),
+            Shipped::Merge => Merge.is_identity(values, in_args),
+            Shipped::Keymix => Keymix.is_identity(values, in_args),
         }
     }
 
@@ -109,6 +237,27 @@ impl ImageEffect for Shipped {
         match self {
             Shipped::Solid => Solid.render(alloc, values, in_args, inputs, hold, ticket, out),
             Shipped::Invert => Invert.render(alloc, values, in_args, inputs, hold, ticket, out),
+            Shipped::Gain => Gain.render(alloc, values, in_args, inputs, hold, ticket, out),
+            Shipped::Premult => Premult.render(alloc, values, in_args, inputs, hold, ticket, out),
+            Shipped::Unpremult => Unpremult.render(
+                alloc, values, in_args, inputs, hold, ticket, out,
+            ),
+            Shipped::Shuffle => Shuffle.render(alloc, values, in_args, inputs, hold, ticket, out),
+            Shipped::Saturation => Saturation.render(
+                alloc, values, in_args, inputs, hold, ticket, out,
+            ),
+            Shipped::Posterise => Posterise.render(
+                alloc, values, in_args, inputs, hold, ticket, out,
+            ),
+            Shipped::Crop => Crop.render(alloc, values, in_args, inputs, hold, ticket, out),
+            Shipped::Translate => Translate.render(
+                alloc, values, in_args, inputs, hold, ticket, out,
+            ),
+            Shipped::Mirror => Mirror.render(alloc, values, in_args, inputs, hold, ticket, out),
+            Shipped::Dissolve => Dissolve.render(alloc, values, in_args, inputs, hold, ticket, out),
+            Shipped::Wipe => Wipe.render(alloc, values, in_args, inputs, hold, ticket, out),
+            Shipped::Merge => Merge.render(alloc, values, in_args, inputs, hold, ticket, out),
+            Shipped::Keymix => Keymix.render(alloc, values, in_args, inputs, hold, ticket, out),
         }
     }
 }

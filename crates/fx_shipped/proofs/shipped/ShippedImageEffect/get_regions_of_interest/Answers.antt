@@ -5,3 +5,42 @@ returns-in-Solid c = rw c.in-Solid.is c.get_regions_of_interest.ensures
 
 pub returns-in-Invert : goal.returns-in-Invert
 returns-in-Invert c = rw c.in-Invert.is c.get_regions_of_interest-in-Invert.ensures
+
+pub returns-in-Gain : goal.returns-in-Gain
+returns-in-Gain c = rw c.in-Gain.is c.get_regions_of_interest-in-Gain.ensures
+
+pub returns-in-Premult : goal.returns-in-Premult
+returns-in-Premult c = rw c.in-Premult.is c.get_regions_of_interest-in-Premult.ensures
+
+pub returns-in-Unpremult : goal.returns-in-Unpremult
+returns-in-Unpremult c = rw c.in-Unpremult.is c.get_regions_of_interest-in-Unpremult.ensures
+
+pub returns-in-Shuffle : goal.returns-in-Shuffle
+returns-in-Shuffle c = rw c.in-Shuffle.is c.get_regions_of_interest-in-Shuffle.ensures
+
+pub returns-in-Saturation : goal.returns-in-Saturation
+returns-in-Saturation c = rw c.in-Saturation.is c.get_regions_of_interest-in-Saturation.ensures
+
+pub returns-in-Posterise : goal.returns-in-Posterise
+returns-in-Posterise c = rw c.in-Posterise.is c.get_regions_of_interest-in-Posterise.ensures
+
+pub returns-in-Crop : goal.returns-in-Crop
+returns-in-Crop c = rw c.in-Crop.is c.get_regions_of_interest-in-Crop.ensures
+
+pub returns-in-Translate : goal.returns-in-Translate
+returns-in-Translate c = rw c.in-Translate.is c.get_regions_of_interest-in-Translate.ensures
+
+pub returns-in-Mirror : goal.returns-in-Mirror
+returns-in-Mirror c = rw c.in-Mirror.is c.get_regions_of_interest-in-Mirror.ensures
+
+pub returns-in-Dissolve : goal.returns-in-Dissolve
+returns-in-Dissolve c = rw c.in-Dissolve.is c.get_regions_of_interest-in-Dissolve.ensures
+
+pub returns-in-Wipe : goal.returns-in-Wipe
+returns-in-Wipe c = rw c.in-Wipe.is c.get_regions_of_interest-in-Wipe.ensures
+
+pub returns-in-Merge : goal.returns-in-Merge
+returns-in-Merge c = rw c.in-Merge.is c.get_regions_of_interest-in-Merge.ensures
+
+pub returns-in-Keymix : goal.returns-in-Keymix
+returns-in-Keymix c = rw c.in-Keymix.is c.get_regions_of_interest-in-Keymix.ensures
