@@ -1,0 +1,4 @@
+mod LineLaws
+mod BlendLaws
+mod EchoRowLaws
+mod WeightLaws

@@ -1,0 +1,11 @@
+pub mod Times
+pub mod TimesLaws
+pub mod Timeoffset
+pub mod TimeoffsetLaws
+pub mod Framediff
+pub mod FramediffLaws
+pub mod Echo
+pub mod EchoLaws
+pub mod Frameblend
+pub mod FrameblendLaws
+pub mod BlendRows

@@ -1,0 +1,72 @@
+-- What holds of filters that read other frames.
+use Rattle.std.specs.Prelude.{◌≡◌, ◌≤◌, ◌<◌, ◌==◌, ℕ, ◌+◌, ℤ, pos, negsuc, ◌≤ℤ◌, ◌+ℤ◌, ◌-ℤ◌, Bool, true, false, List, [], ◌∷◌, map, length, All, Some, slice_get, if◌then◌else◌, refl}
+use Rattle.std.specs.List.{AllZip, Contains}
+use Rattle.std.proofs.Common.{zero, suc, ap, sym, subst, arith, ◌∙◌}
+use Rattle.std.proofs.lemmas.Int.{ints}
+use Rattle.std.proofs.lemmas.Bool.Decides.{nat_tests}
+use Rattle.fx_base.specs.Bounds.{Bounds}
+use Rattle.fx_base.specs.Rect.{Holds}
+use Rattle.fx_props.specs.Entries.{region_of}
+use Rattle.fx_effect.specs.Shape.{MayBe}
+use Rattle.fx_effect.specs.Source.{source_clips}
+use Rattle.fx_effect.specs.DefaultLaws.{flag_for_each}
+use Rattle.fx_effect.specs.Laws.{IsNearSpan, InSpan}
+use Rattle.fx_effect.specs.Local.{Read, IsRead}
+use Rattle.fx_effect.specs.declared.action.Identity.{Identity}
+use Rattle.fx_effect.specs.declared.action.Identity.TheVariants.{Same, No}
+use Rattle.fx_time.specs.Times.{natural, source_at, alone}
+
+-- ---- Source
+
+pub source_there : (connected : List Bool) → AllZip MayBe source_clips connected → 0 < length connected
+source_there connected may = let one = flag_for_each source_clips connected may in omega (arith, one)
+
+pub source_connected : (connected : List Bool) → AllZip MayBe source_clips connected → slice_get connected 0 ≡ Some true
+source_connected [] may = elim may [ ]
+source_connected (b ∷ connected) may = ap Some (may.0 refl)
+
+-- what is read is Source
+pub is_source : (frames : List ℤ) (r : Read) → Contains (map source_at frames) r → r.0 ≡ 0
+is_source [] r (k, low, is) = absurd (omega arith)
+is_source (t ∷ frames) r (zero, low, is) = ap (λ (a : Read). a.0) (sym is)
+is_source (t ∷ frames) r (suc k, low, is) = is_source frames r (k, omega (arith, low), is)
+
+-- the region of Source has what it has
+pub source_holds : (frames : List ℤ) (regions : List Bounds) (r : Read) (x y : ℤ) → Contains (map source_at frames) r
+    → Holds (region_of regions r.0) x y → Holds (region_of regions 0) x y
+source_holds frames regions r x y there held =
+    subst (λ k. Holds (region_of regions k) x y) (is_source frames r there) held
+
+-- Source at a frame that is a span of its own
+pub read_alone : (clips : ℕ) (spans : ℕ → List (ℤ × ℤ)) (t : ℤ) → 0 < clips → Contains (spans 0) (alone t)
+    → IsRead clips spans (source_at t)
+read_alone clips spans t some listed =
+    record { there = some; span = alone t; listed = listed; at_frame = (omega (arith, ints), omega (arith, ints)) }
+
+-- ---- frames
+
+pub near_alone : (t f : ℤ) → (t -ℤ pos 100000) ≤ℤ f → f ≤ℤ (t +ℤ pos 100000) → IsNearSpan t (alone f)
+near_alone t f low high = record { first_after = low; first_before = high; last_after = low; last_before = high }
+
+-- ---- numbers
+
+pub natural_up_to : (n : ℤ) (most : ℕ) → n ≤ℤ pos most → natural n ≤ most
+natural_up_to (pos n) most below = omega (arith, ints)
+natural_up_to (negsuc n) most below = omega arith
+
+pub natural_least : (n : ℤ) (least : ℕ) → pos least ≤ℤ n → least ≤ natural n
+natural_least (pos n) least above = omega (arith, ints)
+natural_least (negsuc n) least above = absurd (omega (arith, ints))
+
+-- ---- identities at 0
+
+same_number : (k n : ℕ) → (k == n) ≡ true → k ≡ n
+same_number k n h = grind (arith, nat_tests)
+
+pub same_at_zero : (k : ℕ) (t : ℤ) (clip : ℕ) (frame : ℤ) → (if k == 0 then Same 0 t else No) ≡ Same clip frame
+    → (k ≡ 0) × (clip ≡ 0) × (frame ≡ t)
+same_at_zero k t clip frame = go (k == 0) refl
+  where
+    go : (b : Bool) → (k == 0) ≡ b → (if b then Same 0 t else No) ≡ Same clip frame → (k ≡ 0) × (clip ≡ 0) × (frame ≡ t)
+    go true is e = (same_number k 0 is, cc, cc)
+    go false is e = absurd cc
