@@ -577,6 +577,68 @@ fn posterise(rt: HostRuntime) -> Result<(), Fail> {
 }
 
 #[test]
+fn boxblur(rt: HostRuntime) -> Result<(), Fail> {
+    let alloc = rt.alloc();
+    let (effect, context) = (Shipped::Boxblur, Context::Filter);
+    let names = one_clip(alloc, "Source")?;
+    let optional = flags_of(alloc, &[false])?;
+    let values = values_of(alloc, 7, &[1, 0], &[true], PROJECT)?;
+    let params = [int("rx", 0, 64, 1), int("ry", 0, 64, 1)];
+    let wanted = Row {
+        label: "boxblur",
+        safety: INSTANCE_SAFE,
+        clips: &SOURCE_CLIP,
+        params: &params,
+        region: Rect {
+            x1: -1,
+            y1: 0,
+            x2: 5,
+            y2: 1,
+        },
+        interest: &[(0, 0, 6, 1)],
+        sources: &[Frame {
+            clip: 0,
+            frame: 7,
+            pixels: &FIRST,
+        }],
+        bytes: &[
+            [4, 152, 95, 128],
+            [4, 152, 95, 128],
+            [1, 86, 85, 85],
+            [1, 1, 0, 0],
+        ],
+        shorts: &[
+            [4, 152, 95, 128],
+            [4, 152, 95, 128],
+            [1, 86, 85, 85],
+            [1, 1, 0, 0],
+        ],
+        ..FILTERED
+    };
+    byte_row(
+        &rt,
+        alloc,
+        effect,
+        context,
+        &names,
+        &optional,
+        &[Components::Rgba],
+        &values,
+        &[SOURCE],
+        &wanted,
+    )?;
+    short_row(
+        &rt,
+        alloc,
+        effect,
+        context,
+        &[Components::Rgba],
+        &values,
+        &wanted,
+    )
+}
+
+#[test]
 fn crop(rt: HostRuntime) -> Result<(), Fail> {
     let alloc = rt.alloc();
     let (effect, context) = (Shipped::Crop, Context::Filter);
@@ -722,6 +784,220 @@ fn mirror(rt: HostRuntime) -> Result<(), Fail> {
         }],
         bytes: &[[10, 200, 30, 128], [1, 1, 1, 1]],
         shorts: &[[10, 200, 30, 128], [1, 1, 1, 1]],
+        ..FILTERED
+    };
+    byte_row(
+        &rt,
+        alloc,
+        effect,
+        context,
+        &names,
+        &optional,
+        &[Components::Rgba],
+        &values,
+        &[SOURCE],
+        &wanted,
+    )?;
+    short_row(
+        &rt,
+        alloc,
+        effect,
+        context,
+        &[Components::Rgba],
+        &values,
+        &wanted,
+    )
+}
+
+#[test]
+fn timeoffset(rt: HostRuntime) -> Result<(), Fail> {
+    let alloc = rt.alloc();
+    let (effect, context) = (Shipped::Timeoffset, Context::Filter);
+    let names = one_clip(alloc, "Source")?;
+    let optional = flags_of(alloc, &[false])?;
+    let values = values_of(alloc, 7, &[-1], &[true], PROJECT)?;
+    let params = [int("offset", -100000, 100000, 0)];
+    let wanted = Row {
+        label: "timeoffset",
+        temporal: 1,
+        clips: &SOURCE_CLIP,
+        params: &params,
+        frames: &[&[(8, 8)]],
+        identity: Identity::Same { clip: 0, frame: 8 },
+        sources: &[
+            Frame {
+                clip: 0,
+                frame: 7,
+                pixels: &FIRST,
+            },
+            Frame {
+                clip: 0,
+                frame: 8,
+                pixels: &SECOND,
+            },
+        ],
+        bytes: &[[20, 0, 0, 255], [0, 0, 0, 0], [255, 255, 255, 255]],
+        shorts: &[[20, 0, 0, 255], [0, 0, 0, 0], [255, 255, 255, 255]],
+        ..FILTERED
+    };
+    byte_row(
+        &rt,
+        alloc,
+        effect,
+        context,
+        &names,
+        &optional,
+        &[Components::Rgba],
+        &values,
+        &[SOURCE],
+        &wanted,
+    )?;
+    short_row(
+        &rt,
+        alloc,
+        effect,
+        context,
+        &[Components::Rgba],
+        &values,
+        &wanted,
+    )
+}
+
+#[test]
+fn frameblend(rt: HostRuntime) -> Result<(), Fail> {
+    let alloc = rt.alloc();
+    let (effect, context) = (Shipped::Frameblend, Context::Filter);
+    let names = one_clip(alloc, "Source")?;
+    let optional = flags_of(alloc, &[false])?;
+    let values = values_of(alloc, 7, &[1], &[true], PROJECT)?;
+    let params = [int("radius", 0, 16, 1)];
+    let wanted = Row {
+        label: "frameblend",
+        temporal: 1,
+        safety: UNSAFE,
+        clips: &SOURCE_CLIP,
+        params: &params,
+        frames: &[&[(6, 8)]],
+        sources: &[
+            Frame {
+                clip: 0,
+                frame: 7,
+                pixels: &FIRST,
+            },
+            Frame {
+                clip: 0,
+                frame: 8,
+                pixels: &SECOND,
+            },
+        ],
+        bytes: &[[10, 67, 10, 128], [0, 85, 85, 85], [86, 86, 85, 85]],
+        shorts: &[[10, 67, 10, 128], [0, 85, 85, 85], [86, 86, 85, 85]],
+        ..FILTERED
+    };
+    byte_row(
+        &rt,
+        alloc,
+        effect,
+        context,
+        &names,
+        &optional,
+        &[Components::Rgba],
+        &values,
+        &[SOURCE],
+        &wanted,
+    )?;
+    short_row(
+        &rt,
+        alloc,
+        effect,
+        context,
+        &[Components::Rgba],
+        &values,
+        &wanted,
+    )
+}
+
+#[test]
+fn framediff(rt: HostRuntime) -> Result<(), Fail> {
+    let alloc = rt.alloc();
+    let (effect, context) = (Shipped::Framediff, Context::Filter);
+    let names = one_clip(alloc, "Source")?;
+    let optional = flags_of(alloc, &[false])?;
+    let values = values_of(alloc, 7, &[1], &[true], PROJECT)?;
+    let params = [int("gap", 1, 16, 1)];
+    let wanted = Row {
+        label: "framediff",
+        temporal: 1,
+        clips: &SOURCE_CLIP,
+        params: &params,
+        frames: &[&[(6, 6), (7, 7)]],
+        sources: &[
+            Frame {
+                clip: 0,
+                frame: 6,
+                pixels: &SECOND,
+            },
+            Frame {
+                clip: 0,
+                frame: 7,
+                pixels: &FIRST,
+            },
+        ],
+        bytes: &[[10, 200, 30, 255], [0, 255, 254, 255], [252, 253, 254, 255]],
+        shorts: &[[10, 200, 30, 255], [0, 255, 254, 255], [252, 253, 254, 255]],
+        ..FILTERED
+    };
+    byte_row(
+        &rt,
+        alloc,
+        effect,
+        context,
+        &names,
+        &optional,
+        &[Components::Rgba],
+        &values,
+        &[SOURCE],
+        &wanted,
+    )?;
+    short_row(
+        &rt,
+        alloc,
+        effect,
+        context,
+        &[Components::Rgba],
+        &values,
+        &wanted,
+    )
+}
+
+#[test]
+fn echo(rt: HostRuntime) -> Result<(), Fail> {
+    let alloc = rt.alloc();
+    let (effect, context) = (Shipped::Echo, Context::Filter);
+    let names = one_clip(alloc, "Source")?;
+    let optional = flags_of(alloc, &[false])?;
+    let values = values_of(alloc, 7, &[1, 1], &[true], PROJECT)?;
+    let params = [int("count", 0, 8, 2), int("gap", 1, 8, 1)];
+    let wanted = Row {
+        label: "echo",
+        temporal: 1,
+        clips: &SOURCE_CLIP,
+        params: &params,
+        frames: &[&[(6, 6), (7, 7)]],
+        sources: &[
+            Frame {
+                clip: 0,
+                frame: 6,
+                pixels: &SECOND,
+            },
+            Frame {
+                clip: 0,
+                frame: 7,
+                pixels: &FIRST,
+            },
+        ],
+        bytes: &[[10, 200, 30, 128], [0, 255, 254, 255], [127, 127, 127, 127]],
+        shorts: &[[10, 200, 30, 128], [0, 255, 254, 255], [127, 127, 127, 127]],
         ..FILTERED
     };
     byte_row(

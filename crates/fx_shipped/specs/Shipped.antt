@@ -10,9 +10,14 @@ use Rattle.fx_point.specs.Unpremult.{unpremult}
 use Rattle.fx_point.specs.Shuffle.{shuffle}
 use Rattle.fx_point.specs.Saturation.{saturation}
 use Rattle.fx_point.specs.Posterise.{posterise}
+use Rattle.fx_area.specs.Boxblur.{boxblur}
 use Rattle.fx_move.specs.Crop.{crop}
 use Rattle.fx_move.specs.Translate.{translate}
 use Rattle.fx_move.specs.Mirror.{mirror}
+use Rattle.fx_time.specs.Timeoffset.{timeoffset}
+use Rattle.fx_time.specs.Frameblend.{frameblend}
+use Rattle.fx_time.specs.Framediff.{framediff}
+use Rattle.fx_time.specs.Echo.{echo}
 use Rattle.fx_trans.specs.Dissolve.{dissolve}
 use Rattle.fx_trans.specs.Wipe.{wipe}
 use Rattle.fx_merge.specs.Merge.{merge}
@@ -29,9 +34,14 @@ meaning_of shipped.Unpremult = unpremult
 meaning_of shipped.Shuffle = shuffle
 meaning_of shipped.Saturation = saturation
 meaning_of shipped.Posterise = posterise
+meaning_of shipped.Boxblur = boxblur
 meaning_of shipped.Crop = crop
 meaning_of shipped.Translate = translate
 meaning_of shipped.Mirror = mirror
+meaning_of shipped.Timeoffset = timeoffset
+meaning_of shipped.Frameblend = frameblend
+meaning_of shipped.Framediff = framediff
+meaning_of shipped.Echo = echo
 meaning_of shipped.Dissolve = dissolve
 meaning_of shipped.Wipe = wipe
 meaning_of shipped.Merge = merge
@@ -46,9 +56,14 @@ name_of shipped.Unpremult = codes "unpremult"
 name_of shipped.Shuffle = codes "shuffle"
 name_of shipped.Saturation = codes "saturation"
 name_of shipped.Posterise = codes "posterise"
+name_of shipped.Boxblur = codes "boxblur"
 name_of shipped.Crop = codes "crop"
 name_of shipped.Translate = codes "translate"
 name_of shipped.Mirror = codes "mirror"
+name_of shipped.Timeoffset = codes "timeoffset"
+name_of shipped.Frameblend = codes "frameblend"
+name_of shipped.Framediff = codes "framediff"
+name_of shipped.Echo = codes "echo"
 name_of shipped.Dissolve = codes "dissolve"
 name_of shipped.Wipe = codes "wipe"
 name_of shipped.Merge = codes "merge"
@@ -63,9 +78,14 @@ number_of shipped.Unpremult = 7
 number_of shipped.Shuffle = 8
 number_of shipped.Saturation = 9
 number_of shipped.Posterise = 10
+number_of shipped.Boxblur = 11
 number_of shipped.Crop = 15
 number_of shipped.Translate = 16
 number_of shipped.Mirror = 17
+number_of shipped.Timeoffset = 18
+number_of shipped.Frameblend = 19
+number_of shipped.Framediff = 20
+number_of shipped.Echo = 21
 number_of shipped.Dissolve = 22
 number_of shipped.Wipe = 23
 number_of shipped.Merge = 24
@@ -81,9 +101,14 @@ all =
     ∷ shipped.Shuffle
     ∷ shipped.Saturation
     ∷ shipped.Posterise
+    ∷ shipped.Boxblur
     ∷ shipped.Crop
     ∷ shipped.Translate
     ∷ shipped.Mirror
+    ∷ shipped.Timeoffset
+    ∷ shipped.Frameblend
+    ∷ shipped.Framediff
+    ∷ shipped.Echo
     ∷ shipped.Dissolve
     ∷ shipped.Wipe
     ∷ shipped.Merge

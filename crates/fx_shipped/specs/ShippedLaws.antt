@@ -11,9 +11,14 @@ use Rattle.fx_point.specs.UnpremultLaws.{unpremult_laws}
 use Rattle.fx_point.specs.ShuffleLaws.{shuffle_laws}
 use Rattle.fx_point.specs.SaturationLaws.{saturation_laws}
 use Rattle.fx_point.specs.PosteriseLaws.{posterise_laws}
+use Rattle.fx_area.specs.BoxblurLaws.{boxblur_laws}
 use Rattle.fx_move.specs.CropLaws.{crop_laws}
 use Rattle.fx_move.specs.TranslateLaws.{translate_laws}
 use Rattle.fx_move.specs.MirrorLaws.{mirror_laws}
+use Rattle.fx_time.specs.TimeoffsetLaws.{timeoffset_laws}
+use Rattle.fx_time.specs.FrameblendLaws.{frameblend_laws}
+use Rattle.fx_time.specs.FramediffLaws.{framediff_laws}
+use Rattle.fx_time.specs.EchoLaws.{echo_laws}
 use Rattle.fx_trans.specs.DissolveLaws.{dissolve_laws}
 use Rattle.fx_trans.specs.WipeLaws.{wipe_laws}
 use Rattle.fx_merge.specs.MergeLaws.{merge_laws}
@@ -31,9 +36,14 @@ shipped_laws shipped.Unpremult = unpremult_laws
 shipped_laws shipped.Shuffle = shuffle_laws
 shipped_laws shipped.Saturation = saturation_laws
 shipped_laws shipped.Posterise = posterise_laws
+shipped_laws shipped.Boxblur = boxblur_laws
 shipped_laws shipped.Crop = crop_laws
 shipped_laws shipped.Translate = translate_laws
 shipped_laws shipped.Mirror = mirror_laws
+shipped_laws shipped.Timeoffset = timeoffset_laws
+shipped_laws shipped.Frameblend = frameblend_laws
+shipped_laws shipped.Framediff = framediff_laws
+shipped_laws shipped.Echo = echo_laws
 shipped_laws shipped.Dissolve = dissolve_laws
 shipped_laws shipped.Wipe = wipe_laws
 shipped_laws shipped.Merge = merge_laws
@@ -53,9 +63,14 @@ at_number shipped.Unpremult = refl
 at_number shipped.Shuffle = refl
 at_number shipped.Saturation = refl
 at_number shipped.Posterise = refl
+at_number shipped.Boxblur = refl
 at_number shipped.Crop = refl
 at_number shipped.Translate = refl
 at_number shipped.Mirror = refl
+at_number shipped.Timeoffset = refl
+at_number shipped.Frameblend = refl
+at_number shipped.Framediff = refl
+at_number shipped.Echo = refl
 at_number shipped.Dissolve = refl
 at_number shipped.Wipe = refl
 at_number shipped.Merge = refl
@@ -79,9 +94,14 @@ few_numbers shipped.Unpremult = omega arith
 few_numbers shipped.Shuffle = omega arith
 few_numbers shipped.Saturation = omega arith
 few_numbers shipped.Posterise = omega arith
+few_numbers shipped.Boxblur = omega arith
 few_numbers shipped.Crop = omega arith
 few_numbers shipped.Translate = omega arith
 few_numbers shipped.Mirror = omega arith
+few_numbers shipped.Timeoffset = omega arith
+few_numbers shipped.Frameblend = omega arith
+few_numbers shipped.Framediff = omega arith
+few_numbers shipped.Echo = omega arith
 few_numbers shipped.Dissolve = omega arith
 few_numbers shipped.Wipe = omega arith
 few_numbers shipped.Merge = omega arith

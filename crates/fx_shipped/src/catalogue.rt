@@ -20,9 +20,14 @@ impl Shipped {
             Shipped::Shuffle => "shuffle",
             Shipped::Saturation => "saturation",
             Shipped::Posterise => "posterise",
+            Shipped::Boxblur => "boxblur",
             Shipped::Crop => "crop",
             Shipped::Translate => "translate",
             Shipped::Mirror => "mirror",
+            Shipped::Timeoffset => "timeoffset",
+            Shipped::Frameblend => "frameblend",
+            Shipped::Framediff => "framediff",
+            Shipped::Echo => "echo",
             Shipped::Dissolve => "dissolve",
             Shipped::Wipe => "wipe",
             Shipped::Merge => "merge",
@@ -54,9 +59,14 @@ impl Catalogue for Shipped {
             "shuffle" => Some(Shipped::Shuffle),
             "saturation" => Some(Shipped::Saturation),
             "posterise" => Some(Shipped::Posterise),
+            "boxblur" => Some(Shipped::Boxblur),
             "crop" => Some(Shipped::Crop),
             "translate" => Some(Shipped::Translate),
             "mirror" => Some(Shipped::Mirror),
+            "timeoffset" => Some(Shipped::Timeoffset),
+            "frameblend" => Some(Shipped::Frameblend),
+            "framediff" => Some(Shipped::Framediff),
+            "echo" => Some(Shipped::Echo),
             "dissolve" => Some(Shipped::Dissolve),
             "wipe" => Some(Shipped::Wipe),
             "merge" => Some(Shipped::Merge),
@@ -75,9 +85,14 @@ impl Catalogue for Shipped {
             Shipped::Shuffle => 8,
             Shipped::Saturation => 9,
             Shipped::Posterise => 10,
+            Shipped::Boxblur => 11,
             Shipped::Crop => 15,
             Shipped::Translate => 16,
             Shipped::Mirror => 17,
+            Shipped::Timeoffset => 18,
+            Shipped::Frameblend => 19,
+            Shipped::Framediff => 20,
+            Shipped::Echo => 21,
             Shipped::Dissolve => 22,
             Shipped::Wipe => 23,
             Shipped::Merge => 24,
@@ -86,6 +101,10 @@ impl Catalogue for Shipped {
     }
 
     fn safety(&self) -> Safety {
-        Safety::FullySafe
+        match self {
+            Shipped::Frameblend => Safety::Unsafe,
+            Shipped::Boxblur => Safety::InstanceSafe,
+            _ => Safety::FullySafe,
+        }
     }
 }

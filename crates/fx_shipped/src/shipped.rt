@@ -2,6 +2,7 @@
 ghost use Rattle.fx_shipped.specs.Shipped.{meaning_of};
 ghost use Rattle.fx_shipped.specs.ShippedLaws.{shipped_laws};
 
+use fx_area::Boxblur;
 use fx_base::{Memory, Rect};
 use fx_core::Ticket;
 use fx_effect::{Context, Identity, ImageEffect, Inputs, Reply, Values};
@@ -13,6 +14,7 @@ use fx_move::{Crop, Mirror, Translate};
 use fx_params::ParamDef;
 use fx_point::{Gain, Invert, Posterise, Premult, Saturation, Shuffle, Unpremult};
 use fx_props::PropSet;
+use fx_time::{Echo, Frameblend, Framediff, Timeoffset};
 use fx_trans::{Dissolve, Wipe};
 use std::alloc::Global;
 
@@ -27,9 +29,14 @@ pub enum Shipped {
     Shuffle,
     Saturation,
     Posterise,
+    Boxblur,
     Crop,
     Translate,
     Mirror,
+    Timeoffset,
+    Frameblend,
+    Framediff,
+    Echo,
     Dissolve,
     Wipe,
     Merge,
@@ -51,9 +58,14 @@ impl ImageEffect for Shipped {
             Shipped::Shuffle => Shuffle.describe(alloc, descriptor),
             Shipped::Saturation => Saturation.describe(alloc, descriptor),
             Shipped::Posterise => Posterise.describe(alloc, descriptor),
+            Shipped::Boxblur => Boxblur.describe(alloc, descriptor),
             Shipped::Crop => Crop.describe(alloc, descriptor),
             Shipped::Translate => Translate.describe(alloc, descriptor),
             Shipped::Mirror => Mirror.describe(alloc, descriptor),
+            Shipped::Timeoffset => Timeoffset.describe(alloc, descriptor),
+            Shipped::Frameblend => Frameblend.describe(alloc, descriptor),
+            Shipped::Framediff => Framediff.describe(alloc, descriptor),
+            Shipped::Echo => Echo.describe(alloc, descriptor),
             Shipped::Dissolve => Dissolve.describe(alloc, descriptor),
             Shipped::Wipe => Wipe.describe(alloc, descriptor),
             Shipped::Merge => Merge.describe(alloc, descriptor),
@@ -77,9 +89,14 @@ impl ImageEffect for Shipped {
             Shipped::Shuffle => Shuffle.describe_in_context(alloc, context, clips, params),
             Shipped::Saturation => Saturation.describe_in_context(alloc, context, clips, params),
             Shipped::Posterise => Posterise.describe_in_context(alloc, context, clips, params),
+            Shipped::Boxblur => Boxblur.describe_in_context(alloc, context, clips, params),
             Shipped::Crop => Crop.describe_in_context(alloc, context, clips, params),
             Shipped::Translate => Translate.describe_in_context(alloc, context, clips, params),
             Shipped::Mirror => Mirror.describe_in_context(alloc, context, clips, params),
+            Shipped::Timeoffset => Timeoffset.describe_in_context(alloc, context, clips, params),
+            Shipped::Frameblend => Frameblend.describe_in_context(alloc, context, clips, params),
+            Shipped::Framediff => Framediff.describe_in_context(alloc, context, clips, params),
+            Shipped::Echo => Echo.describe_in_context(alloc, context, clips, params),
             Shipped::Dissolve => Dissolve.describe_in_context(alloc, context, clips, params),
             Shipped::Wipe => Wipe.describe_in_context(alloc, context, clips, params),
             Shipped::Merge => Merge.describe_in_context(alloc, context, clips, params),
@@ -120,6 +137,9 @@ impl ImageEffect for Shipped {
             Shipped::Posterise => Posterise.get_region_of_definition(
                 alloc, values, regions, in_args, out_args,
             ),
+            Shipped::Boxblur => Boxblur.get_region_of_definition(
+                alloc, values, regions, in_args, out_args,
+            ),
             Shipped::Crop => Crop.get_region_of_definition(
                 alloc, values, regions, in_args, out_args,
             ),
@@ -127,6 +147,18 @@ impl ImageEffect for Shipped {
                 alloc, values, regions, in_args, out_args,
             ),
             Shipped::Mirror => Mirror.get_region_of_definition(
+                alloc, values, regions, in_args, out_args,
+            ),
+            Shipped::Timeoffset => Timeoffset.get_region_of_definition(
+                alloc, values, regions, in_args, out_args,
+            ),
+            Shipped::Frameblend => Frameblend.get_region_of_definition(
+                alloc, values, regions, in_args, out_args,
+            ),
+            Shipped::Framediff => Framediff.get_region_of_definition(
+                alloc, values, regions, in_args, out_args,
+            ),
+            Shipped::Echo => Echo.get_region_of_definition(
                 alloc, values, regions, in_args, out_args,
             ),
             Shipped::Dissolve => Dissolve.get_region_of_definition(
@@ -166,11 +198,22 @@ impl ImageEffect for Shipped {
             Shipped::Posterise => Posterise.get_regions_of_interest(
                 alloc, values, in_args, out_args,
             ),
+            Shipped::Boxblur => Boxblur.get_regions_of_interest(alloc, values, in_args, out_args),
             Shipped::Crop => Crop.get_regions_of_interest(alloc, values, in_args, out_args),
             Shipped::Translate => Translate.get_regions_of_interest(
                 alloc, values, in_args, out_args,
             ),
             Shipped::Mirror => Mirror.get_regions_of_interest(alloc, values, in_args, out_args),
+            Shipped::Timeoffset => Timeoffset.get_regions_of_interest(
+                alloc, values, in_args, out_args,
+            ),
+            Shipped::Frameblend => Frameblend.get_regions_of_interest(
+                alloc, values, in_args, out_args,
+            ),
+            Shipped::Framediff => Framediff.get_regions_of_interest(
+                alloc, values, in_args, out_args,
+            ),
+            Shipped::Echo => Echo.get_regions_of_interest(alloc, values, in_args, out_args),
             Shipped::Dissolve => Dissolve.get_regions_of_interest(alloc, values, in_args, out_args),
             Shipped::Wipe => Wipe.get_regions_of_interest(alloc, values, in_args, out_args),
             Shipped::Merge => Merge.get_regions_of_interest(alloc, values, in_args, out_args),
@@ -194,9 +237,14 @@ impl ImageEffect for Shipped {
             Shipped::Shuffle => Shuffle.get_frames_needed(alloc, values, in_args, out_args),
             Shipped::Saturation => Saturation.get_frames_needed(alloc, values, in_args, out_args),
             Shipped::Posterise => Posterise.get_frames_needed(alloc, values, in_args, out_args),
+            Shipped::Boxblur => Boxblur.get_frames_needed(alloc, values, in_args, out_args),
             Shipped::Crop => Crop.get_frames_needed(alloc, values, in_args, out_args),
             Shipped::Translate => Translate.get_frames_needed(alloc, values, in_args, out_args),
             Shipped::Mirror => Mirror.get_frames_needed(alloc, values, in_args, out_args),
+            Shipped::Timeoffset => Timeoffset.get_frames_needed(alloc, values, in_args, out_args),
+            Shipped::Frameblend => Frameblend.get_frames_needed(alloc, values, in_args, out_args),
+            Shipped::Framediff => Framediff.get_frames_needed(alloc, values, in_args, out_args),
+            Shipped::Echo => Echo.get_frames_needed(alloc, values, in_args, out_args),
             Shipped::Dissolve => Dissolve.get_frames_needed(alloc, values, in_args, out_args),
             Shipped::Wipe => Wipe.get_frames_needed(alloc, values, in_args, out_args),
             Shipped::Merge => Merge.get_frames_needed(alloc, values, in_args, out_args),
@@ -214,9 +262,14 @@ impl ImageEffect for Shipped {
             Shipped::Shuffle => Shuffle.is_identity(values, in_args),
             Shipped::Saturation => Saturation.is_identity(values, in_args),
             Shipped::Posterise => Posterise.is_identity(values, in_args),
+            Shipped::Boxblur => Boxblur.is_identity(values, in_args),
             Shipped::Crop => Crop.is_identity(values, in_args),
             Shipped::Translate => Translate.is_identity(values, in_args),
             Shipped::Mirror => Mirror.is_identity(values, in_args),
+            Shipped::Timeoffset => Timeoffset.is_identity(values, in_args),
+            Shipped::Frameblend => Frameblend.is_identity(values, in_args),
+            Shipped::Framediff => Framediff.is_identity(values, in_args),
+            Shipped::Echo => Echo.is_identity(values, in_args),
             Shipped::Dissolve => Dissolve.is_identity(values, in_args),
             Shipped::Wipe => Wipe.is_identity(values, in_args),
             Shipped::Merge => Merge.is_identity(values, in_args),
@@ -249,11 +302,22 @@ impl ImageEffect for Shipped {
             Shipped::Posterise => Posterise.render(
                 alloc, values, in_args, inputs, hold, ticket, out,
             ),
+            Shipped::Boxblur => Boxblur.render(alloc, values, in_args, inputs, hold, ticket, out),
             Shipped::Crop => Crop.render(alloc, values, in_args, inputs, hold, ticket, out),
             Shipped::Translate => Translate.render(
                 alloc, values, in_args, inputs, hold, ticket, out,
             ),
             Shipped::Mirror => Mirror.render(alloc, values, in_args, inputs, hold, ticket, out),
+            Shipped::Timeoffset => Timeoffset.render(
+                alloc, values, in_args, inputs, hold, ticket, out,
+            ),
+            Shipped::Frameblend => Frameblend.render(
+                alloc, values, in_args, inputs, hold, ticket, out,
+            ),
+            Shipped::Framediff => Framediff.render(
+                alloc, values, in_args, inputs, hold, ticket, out,
+            ),
+            Shipped::Echo => Echo.render(alloc, values, in_args, inputs, hold, ticket, out),
             Shipped::Dissolve => Dissolve.render(alloc, values, in_args, inputs, hold, ticket, out),
             Shipped::Wipe => Wipe.render(alloc, values, in_args, inputs, hold, ticket, out),
             Shipped::Merge => Merge.render(alloc, values, in_args, inputs, hold, ticket, out),

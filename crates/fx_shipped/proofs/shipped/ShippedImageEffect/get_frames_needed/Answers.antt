@@ -24,6 +24,9 @@ returns-in-Saturation c = rw c.in-Saturation.is c.get_frames_needed-in-Saturatio
 pub returns-in-Posterise : goal.returns-in-Posterise
 returns-in-Posterise c = rw c.in-Posterise.is c.get_frames_needed-in-Posterise.ensures
 
+pub returns-in-Boxblur : goal.returns-in-Boxblur
+returns-in-Boxblur c = rw c.in-Boxblur.is c.get_frames_needed-in-Boxblur.ensures
+
 pub returns-in-Crop : goal.returns-in-Crop
 returns-in-Crop c = rw c.in-Crop.is c.get_frames_needed-in-Crop.ensures
 
@@ -32,6 +35,18 @@ returns-in-Translate c = rw c.in-Translate.is c.get_frames_needed-in-Translate.e
 
 pub returns-in-Mirror : goal.returns-in-Mirror
 returns-in-Mirror c = rw c.in-Mirror.is c.get_frames_needed-in-Mirror.ensures
+
+pub returns-in-Timeoffset : goal.returns-in-Timeoffset
+returns-in-Timeoffset c = rw c.in-Timeoffset.is c.get_frames_needed-in-Timeoffset.ensures
+
+pub returns-in-Frameblend : goal.returns-in-Frameblend
+returns-in-Frameblend c = rw c.in-Frameblend.is c.get_frames_needed-in-Frameblend.ensures
+
+pub returns-in-Framediff : goal.returns-in-Framediff
+returns-in-Framediff c = rw c.in-Framediff.is c.get_frames_needed-in-Framediff.ensures
+
+pub returns-in-Echo : goal.returns-in-Echo
+returns-in-Echo c = rw c.in-Echo.is c.get_frames_needed-in-Echo.ensures
 
 pub returns-in-Dissolve : goal.returns-in-Dissolve
 returns-in-Dissolve c = rw c.in-Dissolve.is c.get_frames_needed-in-Dissolve.ensures
