@@ -1,0 +1,8 @@
+mod Making
+mod Connecting
+mod Keeping
+mod Using
+mod Pushing
+mod Outputs
+mod Graphing
+mod DescribedLaws

@@ -1,0 +1,9 @@
+pub mod Refusal
+pub mod Shown
+pub mod Kept
+pub mod KeptLaws
+pub mod Uses
+pub mod Params
+pub mod Nodes
+pub mod Graphs
+pub mod Described
