@@ -1,1 +1,4 @@
-pub mod AskedLaws
+pub mod Quotients
+pub mod Remainders
+pub mod Shades
+pub mod Written

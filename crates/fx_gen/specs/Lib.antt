@@ -1,2 +1,11 @@
+pub mod Checker
+pub mod CheckerLaws
+pub mod Factor
+pub mod Grain
+pub mod GrainLaws
+pub mod Grey
+pub mod Here
+pub mod Ramp
+pub mod RampLaws
 pub mod Solid
 pub mod SolidLaws

@@ -1,8 +1,13 @@
 //! Generators: effects that read no clip (OpenFX 1.4, "Generator Context").
 #![tactic(auto)]
 
+mod checker;
+mod generator;
+mod grain;
+mod ramp;
 mod solid;
-#[cfg(test)]
-mod tests;
 
+pub use checker::Checker;
+pub use grain::Grain;
+pub use ramp::Ramp;
 pub use solid::Solid;

@@ -5,18 +5,15 @@ ghost use Rattle.fx_effect.specs.Shape.{IsLawful};
 ghost use Rattle.fx_gen.specs.Solid.{scale, colour, solid, solid_shape};
 ghost use Rattle.fx_gen.specs.SolidLaws.{solid_laws};
 
+use crate::generator::{describe, write_project};
 use fx_base::{Fix, Memory, Rect};
 use fx_core::Ticket;
-use fx_effect::{
-    Context, Description, Identity, ImageEffect, Inputs, PlaceKernel, Reply, Safety, Values,
-    fill_places,
-};
+use fx_effect::{Context, Identity, ImageEffect, Inputs, PlaceKernel, Reply, Values, fill_places};
 use fx_gate::Hold;
 use fx_image::Part;
 use fx_params::ParamDef;
 use fx_pixel::{Components, Depth, Pixel};
-use fx_props::names::REGION;
-use fx_props::{PropSet, write_region};
+use fx_props::PropSet;
 use std::alloc::Global;
 
 /// One colour over the project's extent, and zero outside it: a generator. Its parameters are r, g, b
@@ -25,9 +22,9 @@ use std::alloc::Global;
 pub struct Solid;
 
 // The levels 0 and 1.
-const NONE: Fix = Fix { raw: 0 };
+pub(crate) const NONE: Fix = Fix { raw: 0 };
 
-const FULL: Fix = Fix { raw: 65536 };
+pub(crate) const FULL: Fix = Fix { raw: 65536 };
 
 impl ImageEffect for Solid {
     ghost meaning = { λ _. solid };
@@ -35,16 +32,7 @@ impl ImageEffect for Solid {
     ghost laws = { λ _. solid_laws };
 
     fn describe(&self, alloc: Global, descriptor: &mut PropSet) -> Result<Reply, Memory> {
-        let description = Description {
-            label: "solid",
-            contexts: &[Context::Generator, Context::General],
-            depths: &[Depth::Byte, Depth::Short],
-            temporal: false,
-            tiles: true,
-            safety: Safety::FullySafe,
-        };
-        description.write(alloc, descriptor)?;
-        Ok(Reply::Ok)
+        describe(alloc, "solid", descriptor)
     }
 
     fn describe_in_context(
@@ -69,8 +57,7 @@ impl ImageEffect for Solid {
         _in_args: &PropSet,
         out_args: &mut PropSet,
     ) -> Result<Reply, Memory> {
-        write_region(alloc, out_args, REGION, values.project)?;
-        Ok(Reply::Ok)
+        write_project(alloc, values.project, out_args)
     }
 
     fn get_regions_of_interest(
@@ -150,7 +137,7 @@ fn colour(depth: Depth, components: Components, values: &Values) -> Pixel
 }
 
 // A level as a sample: the greatest times the level, to the nearest and halves up.
-fn scale(depth: Depth, level: i64) -> u16
+pub(crate) fn scale(depth: Depth, level: i64) -> u16
     requires { (pos 0 ≤ℤ level) × (level ≤ℤ pos 65536) }
     ensures value { result ≡ scale (greatest depth) level }
     ensures bound { result ≤ greatest depth }
