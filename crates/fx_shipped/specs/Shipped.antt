@@ -3,6 +3,9 @@ use Rattle.std.specs.Prelude.{ℕ, List, [], ◌∷◌, Option, Some, None, code
 use Rattle.std.specs.Str.{bytes_eq}
 use Rattle.fx_effect.specs.Meaning.{Meaning}
 use Rattle.fx_gen.specs.Solid.{solid}
+use Rattle.fx_gen.specs.Checker.{checker}
+use Rattle.fx_gen.specs.Ramp.{ramp}
+use Rattle.fx_gen.specs.Grain.{grain}
 use Rattle.fx_point.specs.Invert.{invert}
 use Rattle.fx_point.specs.Gain.{gain}
 use Rattle.fx_point.specs.Premult.{premult}
@@ -27,6 +30,9 @@ use Rattle.fx_shipped.specs.declared.shipped.Shipped.TheVariants as shipped
 
 abbrev pub meaning_of : Shipped → Meaning
 meaning_of shipped.Solid = solid
+meaning_of shipped.Checker = checker
+meaning_of shipped.Ramp = ramp
+meaning_of shipped.Grain = grain
 meaning_of shipped.Invert = invert
 meaning_of shipped.Gain = gain
 meaning_of shipped.Premult = premult
@@ -49,6 +55,9 @@ meaning_of shipped.Keymix = keymix
 
 abbrev pub name_of : Shipped → List ℕ
 name_of shipped.Solid = codes "solid"
+name_of shipped.Checker = codes "checker"
+name_of shipped.Ramp = codes "ramp"
+name_of shipped.Grain = codes "grain"
 name_of shipped.Invert = codes "invert"
 name_of shipped.Gain = codes "gain"
 name_of shipped.Premult = codes "premult"
@@ -71,6 +80,9 @@ name_of shipped.Keymix = codes "keymix"
 
 abbrev pub number_of : Shipped → ℕ
 number_of shipped.Solid = 0
+number_of shipped.Checker = 1
+number_of shipped.Ramp = 2
+number_of shipped.Grain = 3
 number_of shipped.Invert = 4
 number_of shipped.Gain = 5
 number_of shipped.Premult = 6
@@ -94,6 +106,9 @@ number_of shipped.Keymix = 25
 abbrev pub all : List Shipped
 all =
     shipped.Solid
+    ∷ shipped.Checker
+    ∷ shipped.Ramp
+    ∷ shipped.Grain
     ∷ shipped.Invert
     ∷ shipped.Gain
     ∷ shipped.Premult

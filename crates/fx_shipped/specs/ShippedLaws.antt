@@ -4,6 +4,9 @@ use Rattle.std.proofs.Common.{ap, sym, arith, ◌∙◌}
 use Rattle.fx_effect.specs.Meaning.{Meaning}
 use Rattle.fx_effect.specs.Laws.{Laws}
 use Rattle.fx_gen.specs.SolidLaws.{solid_laws}
+use Rattle.fx_gen.specs.CheckerLaws.{checker_laws}
+use Rattle.fx_gen.specs.RampLaws.{ramp_laws}
+use Rattle.fx_gen.specs.GrainLaws.{grain_laws}
 use Rattle.fx_point.specs.InvertLaws.{invert_laws}
 use Rattle.fx_point.specs.GainLaws.{gain_laws}
 use Rattle.fx_point.specs.PremultLaws.{premult_laws}
@@ -29,6 +32,9 @@ use Rattle.fx_shipped.specs.Shipped.{meaning_of, name_of, number_of, all}
 
 pub shipped_laws : (e : Shipped) → Laws (meaning_of e)
 shipped_laws shipped.Solid = solid_laws
+shipped_laws shipped.Checker = checker_laws
+shipped_laws shipped.Ramp = ramp_laws
+shipped_laws shipped.Grain = grain_laws
 shipped_laws shipped.Invert = invert_laws
 shipped_laws shipped.Gain = gain_laws
 shipped_laws shipped.Premult = premult_laws
@@ -56,6 +62,9 @@ first_numbered (e ∷ effects) n = if number_of e == n then e else first_numbere
 
 at_number : (e : Shipped) → first_numbered all (number_of e) ≡ e
 at_number shipped.Solid = refl
+at_number shipped.Checker = refl
+at_number shipped.Ramp = refl
+at_number shipped.Grain = refl
 at_number shipped.Invert = refl
 at_number shipped.Gain = refl
 at_number shipped.Premult = refl
@@ -87,6 +96,9 @@ one_meaning_each a b same = ap meaning_of (one_each a b same)
 
 pub few_numbers : (e : Shipped) → number_of e < 64
 few_numbers shipped.Solid = omega arith
+few_numbers shipped.Checker = omega arith
+few_numbers shipped.Ramp = omega arith
+few_numbers shipped.Grain = omega arith
 few_numbers shipped.Invert = omega arith
 few_numbers shipped.Gain = omega arith
 few_numbers shipped.Premult = omega arith

@@ -13,6 +13,9 @@ impl Shipped {
     {
         match self {
             Shipped::Solid => "solid",
+            Shipped::Checker => "checker",
+            Shipped::Ramp => "ramp",
+            Shipped::Grain => "grain",
             Shipped::Invert => "invert",
             Shipped::Gain => "gain",
             Shipped::Premult => "premult",
@@ -52,6 +55,9 @@ impl Catalogue for Shipped {
     fn named(name: &str) -> Option<Shipped> {
         match name {
             "solid" => Some(Shipped::Solid),
+            "checker" => Some(Shipped::Checker),
+            "ramp" => Some(Shipped::Ramp),
+            "grain" => Some(Shipped::Grain),
             "invert" => Some(Shipped::Invert),
             "gain" => Some(Shipped::Gain),
             "premult" => Some(Shipped::Premult),
@@ -78,6 +84,9 @@ impl Catalogue for Shipped {
     fn number(&self) -> u32 {
         match self {
             Shipped::Solid => 0,
+            Shipped::Checker => 1,
+            Shipped::Ramp => 2,
+            Shipped::Grain => 3,
             Shipped::Invert => 4,
             Shipped::Gain => 5,
             Shipped::Premult => 6,

@@ -7,7 +7,7 @@ use fx_base::{Memory, Rect};
 use fx_core::Ticket;
 use fx_effect::{Context, Identity, ImageEffect, Inputs, Reply, Values};
 use fx_gate::Hold;
-use fx_gen::Solid;
+use fx_gen::{Checker, Grain, Ramp, Solid};
 use fx_image::Part;
 use fx_merge::{Keymix, Merge};
 use fx_move::{Crop, Mirror, Translate};
@@ -22,6 +22,9 @@ use std::alloc::Global;
 #[derive(Clone, Copy, Debug, PartialEq, Eq)]
 pub enum Shipped {
     Solid,
+    Checker,
+    Ramp,
+    Grain,
     Invert,
     Gain,
     Premult,
@@ -51,6 +54,9 @@ impl ImageEffect for Shipped {
     fn describe(&self, alloc: Global, descriptor: &mut PropSet) -> Result<Reply, Memory> {
         match self {
             Shipped::Solid => Solid.describe(alloc, descriptor),
+            Shipped::Checker => Checker.describe(alloc, descriptor),
+            Shipped::Ramp => Ramp.describe(alloc, descriptor),
+            Shipped::Grain => Grain.describe(alloc, descriptor),
             Shipped::Invert => Invert.describe(alloc, descriptor),
             Shipped::Gain => Gain.describe(alloc, descriptor),
             Shipped::Premult => Premult.describe(alloc, descriptor),
@@ -82,6 +88,9 @@ impl ImageEffect for Shipped {
     ) -> Result<Reply, Memory> {
         match self {
             Shipped::Solid => Solid.describe_in_context(alloc, context, clips, params),
+            Shipped::Checker => Checker.describe_in_context(alloc, context, clips, params),
+            Shipped::Ramp => Ramp.describe_in_context(alloc, context, clips, params),
+            Shipped::Grain => Grain.describe_in_context(alloc, context, clips, params),
             Shipped::Invert => Invert.describe_in_context(alloc, context, clips, params),
             Shipped::Gain => Gain.describe_in_context(alloc, context, clips, params),
             Shipped::Premult => Premult.describe_in_context(alloc, context, clips, params),
@@ -114,6 +123,15 @@ impl ImageEffect for Shipped {
     ) -> Result<Reply, Memory> {
         match self {
             Shipped::Solid => Solid.get_region_of_definition(
+                alloc, values, regions, in_args, out_args,
+            ),
+            Shipped::Checker => Checker.get_region_of_definition(
+                alloc, values, regions, in_args, out_args,
+            ),
+            Shipped::Ramp => Ramp.get_region_of_definition(
+                alloc, values, regions, in_args, out_args,
+            ),
+            Shipped::Grain => Grain.get_region_of_definition(
                 alloc, values, regions, in_args, out_args,
             ),
             Shipped::Invert => Invert.get_region_of_definition(
@@ -185,6 +203,9 @@ impl ImageEffect for Shipped {
     ) -> Result<Reply, Memory> {
         match self {
             Shipped::Solid => Solid.get_regions_of_interest(alloc, values, in_args, out_args),
+            Shipped::Checker => Checker.get_regions_of_interest(alloc, values, in_args, out_args),
+            Shipped::Ramp => Ramp.get_regions_of_interest(alloc, values, in_args, out_args),
+            Shipped::Grain => Grain.get_regions_of_interest(alloc, values, in_args, out_args),
             Shipped::Invert => Invert.get_regions_of_interest(alloc, values, in_args, out_args),
             Shipped::Gain => Gain.get_regions_of_interest(alloc, values, in_args, out_args),
             Shipped::Premult => Premult.get_regions_of_interest(alloc, values, in_args, out_args),
@@ -230,6 +251,9 @@ impl ImageEffect for Shipped {
     ) -> Result<Reply, Memory> {
         match self {
             Shipped::Solid => Solid.get_frames_needed(alloc, values, in_args, out_args),
+            Shipped::Checker => Checker.get_frames_needed(alloc, values, in_args, out_args),
+            Shipped::Ramp => Ramp.get_frames_needed(alloc, values, in_args, out_args),
+            Shipped::Grain => Grain.get_frames_needed(alloc, values, in_args, out_args),
             Shipped::Invert => Invert.get_frames_needed(alloc, values, in_args, out_args),
             Shipped::Gain => Gain.get_frames_needed(alloc, values, in_args, out_args),
             Shipped::Premult => Premult.get_frames_needed(alloc, values, in_args, out_args),
@@ -255,6 +279,9 @@ impl ImageEffect for Shipped {
     fn is_identity(&self, values: &Values, in_args: &PropSet) -> Identity {
         match self {
             Shipped::Solid => Solid.is_identity(values, in_args),
+            Shipped::Checker => Checker.is_identity(values, in_args),
+            Shipped::Ramp => Ramp.is_identity(values, in_args),
+            Shipped::Grain => Grain.is_identity(values, in_args),
             Shipped::Invert => Invert.is_identity(values, in_args),
             Shipped::Gain => Gain.is_identity(values, in_args),
             Shipped::Premult => Premult.is_identity(values, in_args),
@@ -289,6 +316,9 @@ impl ImageEffect for Shipped {
     ) -> Result<(), Memory> {
         match self {
             Shipped::Solid => Solid.render(alloc, values, in_args, inputs, hold, ticket, out),
+            Shipped::Checker => Checker.render(alloc, values, in_args, inputs, hold, ticket, out),
+            Shipped::Ramp => Ramp.render(alloc, values, in_args, inputs, hold, ticket, out),
+            Shipped::Grain => Grain.render(alloc, values, in_args, inputs, hold, ticket, out),
             Shipped::Invert => Invert.render(alloc, values, in_args, inputs, hold, ticket, out),
             Shipped::Gain => Gain.render(alloc, values, in_args, inputs, hold, ticket, out),
             Shipped::Premult => Premult.render(alloc, values, in_args, inputs, hold, ticket, out),

@@ -3,6 +3,15 @@ use Rattle.fx_shipped.proofs.shipped.ShippedImageEffect.get_regions_of_interest.
 pub returns-in-Solid : goal.returns-in-Solid
 returns-in-Solid c = rw c.in-Solid.is c.get_regions_of_interest.ensures
 
+pub returns-in-Checker : goal.returns-in-Checker
+returns-in-Checker c = rw c.in-Checker.is c.get_regions_of_interest-in-Checker.ensures
+
+pub returns-in-Ramp : goal.returns-in-Ramp
+returns-in-Ramp c = rw c.in-Ramp.is c.get_regions_of_interest-in-Ramp.ensures
+
+pub returns-in-Grain : goal.returns-in-Grain
+returns-in-Grain c = rw c.in-Grain.is c.get_regions_of_interest-in-Grain.ensures
+
 pub returns-in-Invert : goal.returns-in-Invert
 returns-in-Invert c = rw c.in-Invert.is c.get_regions_of_interest-in-Invert.ensures
 
