@@ -36,47 +36,75 @@ pub type Bounds = (i64, i64, i64, i64);
 #[derive(Clone, Copy)]
 pub struct Row<'a> {
     pub label: &'static str,
-    pub contexts: &'a [&'static str],
-    pub depths: &'a [&'static str],
+    pub contexts: &'static [&'static str],
+    pub depths: &'static [&'static str],
     pub temporal: i64,
     pub safety: &'static str,
-    pub clips: &'a [Clip<'a>],
-    pub params: &'a [Parameter<'a>],
+    pub clips: &'static [Clip],
+    pub params: &'a [Parameter],
     pub window: Rect,
     pub region: Rect,
-    pub interest: &'a [Bounds],
-    pub frames: &'a [&'a [(i64, i64)]],
+    pub interest: &'static [Bounds],
+    pub frames: &'static [&'static [(i64, i64)]],
     pub identity: Identity,
-    pub sources: &'a [Frame<'a>],
-    pub bytes: &'a [[u16; 4]],
-    pub shorts: &'a [[u16; 4]],
+    pub sources: &'static [Frame],
+    pub bytes: &'static [[u16; 4]],
+    pub shorts: &'static [[u16; 4]],
 }
 
 /// An input clip: its name, whether it may be left unconnected, and its components.
 #[derive(Clone, Copy)]
-pub struct Clip<'a> {
+pub struct Clip {
     pub name: &'static str,
     pub optional: i64,
-    pub components: &'a [&'static str],
+    pub components: &'static [&'static str],
 }
 
 /// A parameter: its name, kind, least and greatest number, the one that it starts with, and its choices.
 #[derive(Clone, Copy)]
-pub struct Parameter<'a> {
+pub struct Parameter {
     pub name: &'static str,
     pub kind: ParamKind,
     pub least: i64,
     pub greatest: i64,
     pub start: i64,
-    pub choices: &'a [&'static str],
+    pub choices: &'static [&'static str],
 }
 
-/// A frame of an input clip: the pixels of columns 0 to 3 of row 0, as r, g, b and a.
+/// The pixels of columns 0 to 3 of row 0, as r, g, b and a.
 #[derive(Clone, Copy)]
-pub struct Frame<'a> {
+pub enum Picture {
+    First,
+    Second,
+    Mask,
+}
+
+impl Picture {
+    fn pixels(self) -> [[u16; 4]; 4] {
+        match self {
+            Picture::First => [
+                [1, 1, 1, 1],
+                [10, 200, 30, 128],
+                [0, 255, 254, 255],
+                [3, 2, 1, 0],
+            ],
+            Picture::Second => [
+                [2, 2, 2, 2],
+                [20, 0, 0, 255],
+                [0, 0, 0, 0],
+                [255, 255, 255, 255],
+            ],
+            Picture::Mask => [[0, 0, 0, 0], [0, 0, 0, 128], [0, 0, 0, 0], [0, 0, 0, 255]],
+        }
+    }
+}
+
+/// A frame of an input clip.
+#[derive(Clone, Copy)]
+pub struct Frame {
     pub clip: u32,
     pub frame: i64,
-    pub pixels: &'a [[u16; 4]; 4],
+    pub picture: Picture,
 }
 
 /// Takes an effect through all its actions, and renders bytes.
@@ -207,7 +235,7 @@ fn describes_in(
     Ok(())
 }
 
-fn same_parameter(rt: &impl Abort, def: &ParamDef, wanted: &Parameter<'_>) -> Result<(), Fail> {
+fn same_parameter(rt: &impl Abort, def: &ParamDef, wanted: &Parameter) -> Result<(), Fail> {
     assert_eq!(rt; def.name.text(), wanted.name);
     assert_eq!(rt; def.kind, wanted.kind, "{}", wanted.name);
     let numbers = (def.least, def.greatest, def.start);
@@ -394,7 +422,7 @@ fn inputs_of(
     alloc: Global,
     depth: Depth,
     shown: &[Components],
-    frames: &[Frame<'_>],
+    frames: &[Frame],
 ) -> Result<Inputs<'static>, Memory>
     ensures depth { IfOk result (λ inputs. inputs.depth ≡ depth) }
     ensures shown { IfOk result (λ inputs. inputs.components ≡ shown.now) }
@@ -410,7 +438,7 @@ fn push_frame(
     alloc: Global,
     depth: Depth,
     shown: &[Components],
-    frame: &Frame<'_>,
+    frame: &Frame,
     inputs: &mut Inputs<'static>,
 ) -> Result<(), Memory>
     requires { inputs.old.components ≡ shown.now }
@@ -419,7 +447,7 @@ fn push_frame(
 {
     let clip = frame.clip as usize;
     if clip < shown.len() {
-        let image = image_of(alloc, depth, shown[clip], frame.pixels)?;
+        let image = image_of(alloc, depth, shown[clip], &frame.picture.pixels())?;
         image.pixels_fit();
         let piece = Piece::Tile {
             image: Arc::new(alloc, image)?,

@@ -3,13 +3,15 @@
 #![tactic(auto)]
 
 #[cfg(test)]
+mod arguments;
+#[cfg(test)]
 mod asking;
 #[cfg(test)]
 mod chain;
 #[cfg(test)]
-mod effects;
-#[cfg(test)]
 mod first_frame;
+#[cfg(test)]
+mod generators;
 #[cfg(test)]
 mod graph_text;
 #[cfg(test)]
@@ -17,6 +19,16 @@ mod graphs;
 #[cfg(test)]
 mod lives;
 #[cfg(test)]
+mod mixes;
+#[cfg(test)]
+mod moves;
+#[cfg(test)]
 mod outcome;
+#[cfg(test)]
+mod points;
+#[cfg(test)]
+mod rows;
+#[cfg(test)]
+mod times;
 #[cfg(test)]
 mod toy;
