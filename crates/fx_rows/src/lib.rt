@@ -19,16 +19,10 @@ mod graphs;
 #[cfg(test)]
 mod lives;
 #[cfg(test)]
-mod mixes;
-#[cfg(test)]
-mod moves;
-#[cfg(test)]
 mod outcome;
 #[cfg(test)]
 mod points;
 #[cfg(test)]
 mod rows;
-#[cfg(test)]
-mod times;
 #[cfg(test)]
 mod toy;
