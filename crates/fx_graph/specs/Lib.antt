@@ -7,3 +7,4 @@ pub mod Params
 pub mod Nodes
 pub mod Graphs
 pub mod Described
+pub mod Toy
