@@ -1,3 +1,7 @@
 mod AnswerLaws
 mod BoxLaws
 mod LineLaws
+mod GatherLaws
+mod SquareLaws
+mod ConvolveLaws
+mod AreaLaws

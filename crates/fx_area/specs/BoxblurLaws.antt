@@ -62,7 +62,8 @@ boxblur_pixel v depth c value x y of_depth =
     mean_is_pixel depth c (box_count (rx v) (ry v)) (map value taps) (box_some (rx v) (ry v))
     (length-mapped value taps ∙ length-square (tap 0 v.frame) (rx v) (ry v) x y)
     (All-map (IsOfDepth depth) value taps
-    (All-square (λ t. IsOfDepth depth (value t)) (tap 0 v.frame) (rx v) (ry v) x y (λ i j l m b t. of_depth (tap 0 v.frame i j))))
+    (All-square (λ t. IsOfDepth depth (value t)) (tap 0 v.frame) (rx v) (ry v) x y
+    (λ i j l m b t. of_depth (tap 0 v.frame i j))))
 
 -- with radii of 0
 boxblur_here : (frame : ℤ) (h v : ℕ) (c : Components) (value : TapPixels) (x y : ℤ) → h ≡ 0 → v ≡ 0
@@ -72,7 +73,8 @@ boxblur_here : (frame : ℤ) (h v : ℕ) (c : Components) (value : TapPixels) (x
 boxblur_here frame h v c value x y none_wide none_high of =
     let t = tap 0 frame x y in
     let P : List Tap → Type 0 = λ taps. (mean_of c 1 (map value taps) ≡ value t) × Contains taps t in
-    let one : P (t ∷ []) = (subst (λ k. mean_of k 1 (value t ∷ []) ≡ value t) of (mean_one (value t)), (0, omega arith, refl)) in
+    let one : P (t ∷ []) =
+    (subst (λ k. mean_of k 1 (value t ∷ []) ≡ value t) of (mean_one (value t)), (0, omega arith, refl)) in
     rw (none_wide, none_high) (subst P (sym (square_one (tap 0 frame) x y)) one)
 
 both_zero : (a b : ℕ) → (a == 0 && b == 0) ≡ true → (a ≡ 0) × (b ≡ 0)
@@ -84,7 +86,8 @@ boxblur_same : (context : Context) (v : Values) (window : Bounds) (clip : ℕ) (
 boxblur_same context v window clip frame depth c value given same =
     let is = same_source (rx v == 0 && ry v == 0) v.frame clip frame same in
     let none = both_zero (rx v) (ry v) is.0 in
-    let here = λ (x y : ℤ). boxblur_here v.frame (rx v) (ry v) c value x y none.0 none.1 (given.components_are (tap 0 v.frame x y)) in
+    let here = λ (x y : ℤ). boxblur_here v.frame (rx v) (ry v) c value x y none.0 none.1
+    (given.components_are (tap 0 v.frame x y)) in
     rw (is.1, is.2)
     (record {
       connected = source_connected v.connected given.lawful.connected;
@@ -107,7 +110,8 @@ boxblur_laws =
           grown_near n (region_of regions 0) (rx v) (ry v) (rx_few context v lawful) (ry_few context v lawful)
           (region_up_to n v.project regions up_to);
       interest_near = λ context v r clip n lawful rect up_to.
-          grown_near n r (rx v) (ry v) (rx_few context v lawful) (ry_few context v lawful) (up_to 1 v.project (omega arith));
+          grown_near n r (rx v) (ry v) (rx_few context v lawful) (ry_few context v lawful)
+          (up_to 1 v.project (omega arith));
       region_is_rect = λ context v regions lawful are. grown_is_rect (region_of regions 0) (rx v) (ry v);
       interest_is_rect = λ context v r clip lawful rect. grown_is_rect r (rx v) (ry v);
       pixel = λ context v depth c value x y given. boxblur_pixel v depth c value x y given.depth_is;

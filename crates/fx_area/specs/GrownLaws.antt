@@ -28,7 +28,8 @@ grown_is_rect r h v = IsRect-grown r (pos h) (pos v) (omega (arith, ints)) (omeg
 pub grown_near : (n : ℕ) (r : Bounds) (h v : ℕ) → h ≤ 64 → v ≤ 64 → IsUpTo n r
     → IsUpTo (n + 32768) (grown r (pos h) (pos v))
 grown_near n r h v few low near =
-    IsUpTo-grown n 32768 (pos h) (pos v) r (omega (arith, ints)) (omega (arith, ints)) (omega (arith, ints)) (omega (arith, ints)) near
+    IsUpTo-grown n 32768 (pos h) (pos v) r (omega (arith, ints)) (omega (arith, ints)) (omega (arith, ints))
+    (omega (arith, ints)) near
 
 pub region_up_to : (n : ℕ) (p : Bounds) (regions : List Bounds) → All (IsUpTo n) (p ∷ regions)
     → IsUpTo n (region_of regions 0)
@@ -37,11 +38,14 @@ region_up_to n p (r ∷ regions) up_to = up_to 1 p (omega arith)
 
 -- the places of a square round a place of a region are covered by the grown region
 pub square_covered : (v : Values) (r : Bounds) (h k : ℕ) (x y : ℤ) → 0 < length v.connected → Holds r x y
-    → All (IsCovered (length v.connected) (default_spans v) (λ clip. grown r (pos h) (pos k))) (square (tap 0 v.frame) h k x y)
+    → All (IsCovered (length v.connected) (default_spans v) (λ clip. grown r (pos h) (pos k)))
+    (square (tap 0 v.frame) h k x y)
 square_covered v r h k x y flag inside =
-    All-square (IsCovered (length v.connected) (default_spans v) (λ clip. grown r (pos h) (pos k))) (tap 0 v.frame) h k x y
-    (λ i j a b c d. covered_here (length v.connected) 0 v (grown r (pos h) (pos k)) i j flag
-    (in_grown r h k i j x y inside (omega (arith, ints)) (omega (arith, ints)) (omega (arith, ints)) (omega (arith, ints))))
+    let g = grown r (pos h) (pos k) in
+    All-square (IsCovered (length v.connected) (default_spans v) (λ clip. g)) (tap 0 v.frame) h k x y
+    (λ i j a b c d. covered_here (length v.connected) 0 v g i j flag
+    (in_grown r h k i j x y inside (omega (arith, ints)) (omega (arith, ints)) (omega (arith, ints))
+    (omega (arith, ints))))
 
 -- a number from 0 to n as a natural one
 pub natural_few : (z : ℤ) (n : ℕ) → pos 0 ≤ℤ z → z ≤ℤ pos n → unsigned_abs z ≤ n

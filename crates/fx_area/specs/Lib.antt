@@ -4,3 +4,13 @@ pub mod Boxblur
 pub mod BoxblurLaws
 pub mod Rows
 pub mod BoxRows
+pub mod Extreme
+pub mod ExtremeLaws
+pub mod Erode
+pub mod ErodeLaws
+pub mod Dilate
+pub mod DilateLaws
+pub mod Gathered
+pub mod Convolve3
+pub mod Convolve3Laws
+pub mod ConvolveRows

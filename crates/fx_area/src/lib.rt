@@ -3,6 +3,13 @@
 #![tactic(auto)]
 
 mod boxblur;
+mod convolve3;
+mod dilate;
+mod erode;
+mod extreme;
 mod lines;
 
 pub use boxblur::Boxblur;
+pub use convolve3::Convolve3;
+pub use dilate::Dilate;
+pub use erode::Erode;

@@ -82,18 +82,31 @@ mirrored_near n v r project near = go (turns_columns v) refl
     go true is =
         rw is (rect_of-cases (IsUpTo (n + 32768)) (v.project.x2 -ℤ r.x2) r.y1 (v.project.x2 -ℤ r.x1) r.y2
         (IsUpTo-none (n + 32768))
-        (λ a b. record { left = wide r.x2 near.right; bottom = step_more n r.y1 near.bottom; right = wide r.x1 near.left; top = step_more n r.y2 near.top }))
+        (λ a b. record {
+          left = wide r.x2 near.right;
+          bottom = step_more n r.y1 near.bottom;
+          right = wide r.x1 near.left;
+          top = step_more n r.y2 near.top;
+        }))
     go false is =
         rw is (rect_of-cases (IsUpTo (n + 32768)) r.x1 (v.project.y2 -ℤ r.y2) r.x2 (v.project.y2 -ℤ r.y1)
         (IsUpTo-none (n + 32768))
-        (λ a b. record { left = step_more n r.x1 near.left; bottom = high r.y2 near.top; right = step_more n r.x2 near.right; top = high r.y1 near.bottom }))
+        (λ a b. record {
+          left = step_more n r.x1 near.left;
+          bottom = high r.y2 near.top;
+          right = step_more n r.x2 near.right;
+          top = high r.y1 near.bottom;
+        }))
 
-region_up_to : (n : ℕ) (p : Bounds) (regions : List Bounds) → All (IsUpTo n) (p ∷ regions) → IsUpTo n (region_of regions 0)
+region_up_to : (n : ℕ) (p : Bounds) (regions : List Bounds) → All (IsUpTo n) (p ∷ regions)
+    → IsUpTo n (region_of regions 0)
 region_up_to n p [] up_to = IsUpTo-none n
 region_up_to n p (r ∷ regions) up_to = up_to 1 p (omega arith)
 
-mirror_covers : (context : Context) (v : Values) (r : Bounds) (x y : ℤ) → IsLawfulIn mirror_shape context v → Holds r x y
-    → All (IsCovered (length v.connected) (default_spans v) (λ clip. mirrored v r)) (tap 0 v.frame (mirror_x v x) (mirror_y v y) ∷ [])
+mirror_covers : (context : Context) (v : Values) (r : Bounds) (x y : ℤ) → IsLawfulIn mirror_shape context v
+    → Holds r x y
+    → All (IsCovered (length v.connected) (default_spans v) (λ clip. mirrored v r))
+    (tap 0 v.frame (mirror_x v x) (mirror_y v y) ∷ [])
 mirror_covers context v r x y lawful inside =
     let P : Tap → Type 0 = IsCovered (length v.connected) (default_spans v) (λ clip. mirrored v r) in
     All-cons P (tap 0 v.frame (mirror_x v x) (mirror_y v y)) []

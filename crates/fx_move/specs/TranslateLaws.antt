@@ -64,11 +64,12 @@ small_share (negsuc n) low high = absurd (omega (arith, ints))
 pub along_is : (d : ℤ) → IsStep 1073741824 d → IsAlong (along d)
 along_is d step =
     let whole = IsFloor-div (neg_ℤ d) in
+    let rest = neg_ℤ d -ℤ (int_div_euclid (neg_ℤ d) (pos 65536) *ℤ pos 65536) in
     let low = step.0 in
     let high = step.1 in
     record {
       first = (omega (arith, ints), omega (arith, ints));
-      share = small_share (neg_ℤ d -ℤ (int_div_euclid (neg_ℤ d) (pos 65536) *ℤ pos 65536)) (omega (arith, ints)) (omega (arith, ints));
+      share = small_share rest (omega (arith, ints)) (omega (arith, ints));
     }
 
 pub extra_few : (a : Along) → extra a ≤ 1
@@ -104,7 +105,12 @@ stretched_near : (n : ℕ) (r : Bounds) (left bottom right top : ℤ) → IsStep
     → IsStep 16385 right → IsStep 16385 top → IsUpTo n r → IsUpTo (n + 32768) (stretched r left bottom right top)
 stretched_near n r left bottom right top l b m t near =
     stretched_cases (IsUpTo (n + 32768)) r left bottom right top (IsUpTo-none (n + 32768))
-    (λ proper. record { left = step_by n r.x1 left near.left l; bottom = step_by n r.y1 bottom near.bottom b; right = step_by n r.x2 right near.right m; top = step_by n r.y2 top near.top t })
+    (λ proper. record {
+      left = step_by n r.x1 left near.left l;
+      bottom = step_by n r.y1 bottom near.bottom b;
+      right = step_by n r.x2 right near.right m;
+      top = step_by n r.y2 top near.top t;
+    })
 
 -- a place that lies so far from one of a rectangle
 in_stretched : (r : Bounds) (left bottom right top x y i j : ℤ) → Holds r x y → (x +ℤ left) ≤ℤ i → i ≤ℤ (x +ℤ right)
@@ -115,7 +121,12 @@ in_stretched r left bottom right top x y i j inside a b c d =
     let proper : IsProper r = record { wide = omega (arith, ints); high = omega (arith, ints) } in
     rw (is_empty-proper r proper)
     (Holds-from_inside (record { x1 = r.x1 +ℤ left; y1 = r.y1 +ℤ bottom; x2 = r.x2 +ℤ right; y2 = r.y2 +ℤ top }) i j
-    (record { left = omega (arith, ints); right = omega (arith, ints); bottom = omega (arith, ints); top = omega (arith, ints) }))
+    (record {
+      left = omega (arith, ints);
+      right = omega (arith, ints);
+      bottom = omega (arith, ints);
+      top = omega (arith, ints);
+    }))
 
 -- ---- places that are read
 
@@ -149,7 +160,8 @@ module _ (v : Values) where
       let b = upward v in
       all_taps (IsCovered (length v.connected) (default_spans v) (λ clip. moved_from a b r)) x y
       (λ i j low high from to. covered_here (length v.connected) 0 v (moved_from a b r) i j flag
-      (in_stretched r a.first b.first (a.first +ℤ pos (extra a)) (b.first +ℤ pos (extra b)) x y i j inside low high from to))
+      (in_stretched r a.first b.first (a.first +ℤ pos (extra a)) (b.first +ℤ pos (extra b)) x y i j inside low high
+      from to))
 
   -- a place whose pixel is read lies in the region that it moves to
   reaches : (r : Bounds) (x y i j : ℤ) → Holds r i j → (x +ℤ (across v).first) ≤ℤ i
@@ -214,7 +226,8 @@ weighed_is_pixel depth c ws pixels whole all =
     let few = weighted_few ws (map (λ p. nth p k) pixels) (greatest depth)
     (All-map (λ s. s ≤ greatest depth) (λ p. nth p k) pixels
     (All-weaker (IsOfDepth depth) (λ p. nth p k ≤ greatest depth) (λ p is. nth_bound depth p k is) pixels all)) in
-    in_units-bound (weighted ws (map (λ p. nth p k) pixels)) (greatest depth) (omega (arith, few, ap (λ t. t * greatest depth) whole)))
+    in_units-bound (weighted ws (map (λ p. nth p k) pixels)) (greatest depth)
+    (omega (arith, few, ap (λ t. t * greatest depth) whole)))
 
 whole_unit : (s : ℕ) → in_units (65536 * s + 0) ≡ s
 whole_unit s = omega arith
@@ -246,11 +259,13 @@ still_at : (a b : Along) (t : ℤ) (c : Components) (value : TapPixels) (x y : �
 still_at a b t c value x y flat level of =
     let P : List Tap → Type 0 =
     λ ts. (weighed c (65536 ∷ []) (map value ts) ≡ value (tap 0 t x y)) × Contains ts (tap 0 t x y) in
-    let pixel = subst (λ k. weighed k (65536 ∷ []) (value (tap 0 t x y) ∷ []) ≡ value (tap 0 t x y)) of (weighed_one (value (tap 0 t x y))) in
+    let p = value (tap 0 t x y) in
+    let pixel = subst (λ k. weighed k (65536 ∷ []) (p ∷ []) ≡ p) of (weighed_one p) in
     let one : P (tap 0 t x y ∷ []) = (pixel, (0, omega arith, refl)) in
     rw (flat, level) one
 
-still_here : (a b : Along) (t : ℤ) (c : Components) (value : TapPixels) (x y : ℤ) → is_still a ≡ true → is_still b ≡ true
+still_here : (a b : Along) (t : ℤ) (c : Components) (value : TapPixels) (x y : ℤ)
+    → is_still a ≡ true → is_still b ≡ true
     → components_of (value (tap 0 t x y)) ≡ c → IsOne a b t c value x y (x +ℤ a.first) (y +ℤ b.first)
 still_here a b t c value x y flat level of =
     let p = still_tells a flat in
@@ -266,7 +281,8 @@ translate_same : (context : Context) (v : Values) (window : Bounds) (clip : ℕ)
 translate_same context v window clip frame depth c value given same =
     let is = same_source (is_still (across v) && is_still (upward v)) v.frame clip frame same in
     let still = and_parts (is_still (across v)) (is_still (upward v)) is.0 in
-    let here = λ (x y : ℤ). still_here (across v) (upward v) v.frame c value x y still.0 still.1 (given.components_are (tap 0 v.frame x y)) in
+    let here = λ (x y : ℤ). still_here (across v) (upward v) v.frame c value x y still.0 still.1
+    (given.components_are (tap 0 v.frame x y)) in
     rw (is.1, is.2)
     (record {
       connected = source_connected v.connected given.lawful.connected;
@@ -277,15 +293,22 @@ translate_same context v window clip frame depth c value given same =
 
 -- ---- its laws
 
-region_up_to : (n : ℕ) (p : Bounds) (regions : List Bounds) → All (IsUpTo n) (p ∷ regions) → IsUpTo n (region_of regions 0)
+region_up_to : (n : ℕ) (p : Bounds) (regions : List Bounds) → All (IsUpTo n) (p ∷ regions)
+    → IsUpTo n (region_of regions 0)
 region_up_to n p [] up_to = IsUpTo-none n
 region_up_to n p (r ∷ regions) up_to = up_to 1 p (omega arith)
 
 step_out : (a : Along) → IsAlong a → IsStep 16385 a.first × IsStep 16385 (a.first +ℤ pos (extra a))
     × IsStep 16385 (neg_ℤ a.first) × IsStep 16385 (neg_ℤ a.first -ℤ pos (extra a))
 step_out a is =
-    let few = extra_few a in let low = is.first.0 in let high = is.first.1 in
-    ((omega (arith, ints), omega (arith, ints)), (omega (arith, ints), omega (arith, ints)), (omega (arith, ints), omega (arith, ints)), (omega (arith, ints), omega (arith, ints)))
+    let few = extra_few a in
+    let low = is.first.0 in
+    let high = is.first.1 in (
+      (omega (arith, ints), omega (arith, ints)),
+      (omega (arith, ints), omega (arith, ints)),
+      (omega (arith, ints), omega (arith, ints)),
+      (omega (arith, ints), omega (arith, ints)),
+    )
 
 pub axes_are : (context : Context) (v : Values) → IsLawfulIn translate_shape context v
     → IsAlong (across v) × IsAlong (upward v)
@@ -299,7 +322,8 @@ to_near n a b r p q near =
     stretched_near n r (neg_ℤ a.first -ℤ pos (extra a)) (neg_ℤ b.first -ℤ pos (extra b)) (neg_ℤ a.first) (neg_ℤ b.first)
     x.3 y.3 x.2 y.2 near
 
-from_near : (n : ℕ) (a b : Along) (r : Bounds) → IsAlong a → IsAlong b → IsUpTo n r → IsUpTo (n + 32768) (moved_from a b r)
+from_near : (n : ℕ) (a b : Along) (r : Bounds) → IsAlong a → IsAlong b → IsUpTo n r
+    → IsUpTo (n + 32768) (moved_from a b r)
 from_near n a b r p q near =
     let x = step_out a p in
     let y = step_out b q in
@@ -307,18 +331,21 @@ from_near n a b r p q near =
 
 to_is_rect : (a b : Along) (r : Bounds) → IsRect (moved_to a b r)
 to_is_rect a b r =
-    stretched_is_rect r (neg_ℤ a.first -ℤ pos (extra a)) (neg_ℤ b.first -ℤ pos (extra b)) (neg_ℤ a.first) (neg_ℤ b.first)
+    stretched_is_rect r (neg_ℤ a.first -ℤ pos (extra a)) (neg_ℤ b.first -ℤ pos (extra b))
+    (neg_ℤ a.first) (neg_ℤ b.first)
     (omega (arith, ints)) (omega (arith, ints))
 
 from_is_rect : (a b : Along) (r : Bounds) → IsRect (moved_from a b r)
 from_is_rect a b r =
-    stretched_is_rect r a.first b.first (a.first +ℤ pos (extra a)) (b.first +ℤ pos (extra b)) (omega (arith, ints)) (omega (arith, ints))
+    stretched_is_rect r a.first b.first (a.first +ℤ pos (extra a)) (b.first +ℤ pos (extra b))
+    (omega (arith, ints)) (omega (arith, ints))
 
 pub translate_laws : Laws translate
 translate_laws =
     record {
       shape = shape_is translate_shape refl;
-      interest_holds_taps = λ context v r x y lawful inside. covers v r x y (source_flag v.connected lawful.connected) inside;
+      interest_holds_taps = λ context v r x y lawful inside.
+          covers v r x y (source_flag v.connected lawful.connected) inside;
       zero_outside_region = λ context v regions depth c value x y given are zeros outside.
           weighed_clear c (weights (across v) (upward v)) (map value (translate.taps v x y))
           (All-map (λ p. p ≡ clear c) value (translate.taps v x y)
@@ -340,6 +367,7 @@ translate_laws =
           weighed_is_pixel depth c (weights (across v) (upward v)) (map value (translate.taps v x y))
           (weights_are (across v) (upward v) axes.0.share axes.1.share)
           (All-map (IsOfDepth depth) value (translate.taps v x y)
-          (all_taps v (λ t. IsOfDepth depth (value t)) x y (λ i j low high from to. given.depth_is (tap 0 v.frame i j))));
+          (all_taps v (λ t. IsOfDepth depth (value t)) x y
+          (λ i j low high from to. given.depth_is (tap 0 v.frame i j))));
       whole_within_project = λ context v regions whole lawful are. absurd cc;
     }

@@ -1,0 +1,184 @@
+use Rattle.std.proofs.Common.{◌≡◌, ◌∙◌, ◌+◌, ◌*◌, length, drop, ap, sym, subst, arith, w64, to_z, of_z, FitsSigned, rules}
+use Rattle.std.proofs.lemmas.Int.{ints, to_z-of_z}
+use Rattle.fx_base.specs.Bounds.{Bounds}
+use Rattle.fx_base.specs.Rect.{columns, rows, grown}
+use Rattle.fx_pixel.specs.Pixel.{IsOfDepth}
+use Rattle.fx_image.specs.Stored.{pixel_size}
+use Rattle.fx_effect.specs.Given.{input_pixel}
+use Rattle.fx_area.specs.Erode.{radius}
+use Rattle.fx_area.specs.Gathered.{area_pixel, extreme_pixel}
+use Rattle.fx_area.proofs.AreaLaws.{sides_of, take_all, rows_fit}
+use Rattle.fx_area.proofs.SquareLaws.{round_of, shows_as, picked_as, area_as, part_pixel, written_as}
+use Rattle.fx_area.proofs.extreme.render_extreme.Goals as goal
+
+pub read_area-requires-clause-area : goal.read_area-requires-clause-area
+read_area-requires-clause-area c =
+    let v = c.args.values.now in
+    let rect = c.args.out.now.rect in
+    let round =
+    round_of rect c.grow-area.result c.radius-radius.result (radius v) c.requires.part.rect c.requires.some_window
+    c.row_bytes-near.ensures.near c.radius-radius.ensures.value c.radius-radius.ensures.few
+    (c.grow-area.ensures.bounds
+    ∙ ap (λ (r : Bounds). grown r (to_z w64 c.radius-radius.result) (to_z w64 c.radius-radius.result)) c.rect-rect.ensures) in
+    round.proper
+
+pub offset-width-requires : goal.offset-width-requires
+offset-width-requires c =
+    let v = c.args.values.now in
+    let rect = c.args.out.now.rect in
+    let round =
+    round_of rect c.grow-area.result c.radius-radius.result (radius v) c.requires.part.rect c.requires.some_window
+    c.row_bytes-near.ensures.near c.radius-radius.ensures.value c.radius-radius.ensures.few
+    (c.grow-area.ensures.bounds
+    ∙ ap (λ (r : Bounds). grown r (to_z w64 c.radius-radius.result) (to_z w64 c.radius-radius.result)) c.rect-rect.ensures) in
+    let near = round.proper.near in
+    let p = ap (λ (r : Bounds). r.x1) c.area.view_is in
+    let q = ap (λ (r : Bounds). r.x2) c.area.view_is in
+    omega (arith, ints, p, q, round.proper.wide, near.left.0, near.left.1, near.right.0, near.right.1)
+
+pub offset-height-requires : goal.offset-height-requires
+offset-height-requires c =
+    let v = c.args.values.now in
+    let rect = c.args.out.now.rect in
+    let round =
+    round_of rect c.grow-area.result c.radius-radius.result (radius v) c.requires.part.rect c.requires.some_window
+    c.row_bytes-near.ensures.near c.radius-radius.ensures.value c.radius-radius.ensures.few
+    (c.grow-area.ensures.bounds
+    ∙ ap (λ (r : Bounds). grown r (to_z w64 c.radius-radius.result) (to_z w64 c.radius-radius.result)) c.rect-rect.ensures) in
+    let near = round.proper.near in
+    let p = ap (λ (r : Bounds). r.y1) c.area.view_is in
+    let q = ap (λ (r : Bounds). r.y2) c.area.view_is in
+    omega (arith, ints, p, q, round.proper.high, near.bottom.0, near.bottom.1, near.top.0, near.top.1)
+
+pub pick_squares-requires-clause-wide : goal.pick_squares-requires-clause-wide
+pick_squares-requires-clause-wide c =
+    let v = c.args.values.now in
+    let rect = c.args.out.now.rect in
+    let round =
+    round_of rect c.grow-area.result c.radius-radius.result (radius v) c.requires.part.rect c.requires.some_window
+    c.row_bytes-near.ensures.near c.radius-radius.ensures.value c.radius-radius.ensures.few
+    (c.grow-area.ensures.bounds
+    ∙ ap (λ (r : Bounds). grown r (to_z w64 c.radius-radius.result) (to_z w64 c.radius-radius.result)) c.rect-rect.ensures) in
+    let a : FitsSigned w64 c.area.inside.x1 = search rules in
+    let b : FitsSigned w64 c.area.inside.x2 = search rules in
+    let ends = simp to_z-of_z at c.offset-width.ensures in
+    let w : c.offset-width.result ≡ columns c.grow-area.result = rw (← c.area.view_is) ends in
+    omega (arith, w, round.columns_are, round.some_columns, c.radius-radius.ensures.value)
+
+pub pick_squares-requires-clause-high : goal.pick_squares-requires-clause-high
+pick_squares-requires-clause-high c =
+    let v = c.args.values.now in
+    let rect = c.args.out.now.rect in
+    let round =
+    round_of rect c.grow-area.result c.radius-radius.result (radius v) c.requires.part.rect c.requires.some_window
+    c.row_bytes-near.ensures.near c.radius-radius.ensures.value c.radius-radius.ensures.few
+    (c.grow-area.ensures.bounds
+    ∙ ap (λ (r : Bounds). grown r (to_z w64 c.radius-radius.result) (to_z w64 c.radius-radius.result)) c.rect-rect.ensures) in
+    let a : FitsSigned w64 c.area.inside.y1 = search rules in
+    let b : FitsSigned w64 c.area.inside.y2 = search rules in
+    let ends = simp to_z-of_z at c.offset-height.ensures in
+    let h : c.offset-height.result ≡ rows c.grow-area.result = rw (← c.area.view_is) ends in
+    omega (arith, h, round.rows_are, round.some_rows, c.radius-radius.ensures.value)
+
+pub fill_with-requires-clause-makes : goal.fill_with-requires-clause-makes
+fill_with-requires-clause-makes c =
+    let v = c.args.values.now in
+    let rect = c.args.out.now.rect in
+    let round =
+    round_of rect c.grow-area.result c.radius-radius.result (radius v) c.requires.part.rect c.requires.some_window
+    c.row_bytes-near.ensures.near c.radius-radius.ensures.value c.radius-radius.ensures.few
+    (c.grow-area.ensures.bounds
+    ∙ ap (λ (r : Bounds). grown r (to_z w64 c.radius-radius.result) (to_z w64 c.radius-radius.result)) c.rect-rect.ensures) in
+    let a : FitsSigned w64 c.area.inside.x1 = search rules in
+    let b : FitsSigned w64 c.area.inside.x2 = search rules in
+    let ends = simp to_z-of_z at c.offset-width.ensures in
+    let w : c.offset-width.result ≡ columns c.grow-area.result = rw (← c.area.view_is) ends in
+    omega (arith, w, (sides_of c.grow-area.result round.proper).few_columns)
+
+pub fill_with-requires-clause-ready : goal.fill_with-requires-clause-ready
+fill_with-requires-clause-ready c =
+    let v = c.args.values.now in
+    let rect = c.args.out.now.rect in
+    let round =
+    round_of rect c.grow-area.result c.radius-radius.result (radius v) c.requires.part.rect c.requires.some_window
+    c.row_bytes-near.ensures.near c.radius-radius.ensures.value c.radius-radius.ensures.few
+    (c.grow-area.ensures.bounds
+    ∙ ap (λ (r : Bounds). grown r (to_z w64 c.radius-radius.result) (to_z w64 c.radius-radius.result)) c.rect-rect.ensures) in
+    let area = c.grow-area.result in
+    let image = c.args.out.now.image.now in
+    let size = pixel_size image.depth image.components in
+    let a : FitsSigned w64 c.area.inside.x1 = search rules in
+    let b : FitsSigned w64 c.area.inside.x2 = search rules in
+    let ends = simp to_z-of_z at c.offset-width.ensures in
+    let w : c.offset-width.result ≡ columns area = rw (← c.area.view_is) ends in
+    let left : FitsSigned w64 c.rect.inside.x1 = search rules in
+    let bottom : FitsSigned w64 c.rect.inside.y1 = search rules in
+    let new = c.pick_squares.new.bytes in
+    let bytes =
+    c.as_slice.ensures.value
+    ∙ take_all c.in_ok-bytes.bytes.len new (drop (length new) c.in_ok-bytes.bytes.items)
+    (c.pick_squares.auto.bytes ∙ c.as_mut_slice-squares.ensures.len) in
+    let long : length c.as_slice.result.now ≡ rows area * columns area * size =
+    ap length bytes ∙ c.pick_squares.auto.bytes ∙ c.as_mut_slice-squares.ensures.len ∙ c.in_ok-bytes.ensures.long
+    ∙ ap (λ d. rows area * columns area * pixel_size d c.components-components.result) c.depth-depth.ensures
+    ∙ ap (λ e. rows area * columns area * pixel_size image.depth e) c.components-components.ensures in
+    record {
+      left_is =
+          sym (to_z-of_z w64 c.rect.inside.x1 left ∙ ap (λ (r : Bounds). r.x1) (c.rect.view_is ∙ c.rect-rect.ensures));
+      bottom_is =
+          sym (to_z-of_z w64 c.rect.inside.y1 bottom ∙ ap (λ (r : Bounds). r.y1) (c.rect.view_is ∙ c.rect-rect.ensures));
+      wide = omega (arith, w, round.columns_are);
+      long = rw (long, w) (rows_fit (rows rect) (rows area) (columns area) size (omega (arith, round.rows_are)));
+    }
+
+pub returns-clause-ok : goal.returns-clause-ok
+returns-clause-ok c =
+    let v = c.args.values.now in
+    let rect = c.args.out.now.rect in
+    let round =
+    round_of rect c.grow-area.result c.radius-radius.result (radius v) c.requires.part.rect c.requires.some_window
+    c.row_bytes-near.ensures.near c.radius-radius.ensures.value c.radius-radius.ensures.few
+    (c.grow-area.ensures.bounds
+    ∙ ap (λ (r : Bounds). grown r (to_z w64 c.radius-radius.result) (to_z w64 c.radius-radius.result)) c.rect-rect.ensures) in
+    let area = c.grow-area.result in
+    let given = c.args.inputs.now in
+    let e = c.args.extreme in
+    let d = c.args.out.now.image.now.depth in
+    let s = c.args.out.now.image.now.components in
+    let a : FitsSigned w64 c.area.inside.x1 = search rules in
+    let b : FitsSigned w64 c.area.inside.x2 = search rules in
+    let m : FitsSigned w64 c.area.inside.y1 = search rules in
+    let n : FitsSigned w64 c.area.inside.y2 = search rules in
+    let wide = simp to_z-of_z at c.offset-width.ensures in
+    let high = simp to_z-of_z at c.offset-height.ensures in
+    let w : c.offset-width.result ≡ columns area = rw (← c.area.view_is) wide in
+    let h : c.offset-height.result ≡ rows area = rw (← c.area.view_is) high in
+    let left : FitsSigned w64 c.rect.inside.x1 = search rules in
+    let bottom : FitsSigned w64 c.rect.inside.y1 = search rules in
+    let frame : FitsSigned w64 v.frame = search rules in
+    let left_is = to_z-of_z w64 c.rect.inside.x1 left ∙ ap (λ (r : Bounds). r.x1) (c.rect.view_is ∙ c.rect-rect.ensures) in
+    let bottom_is = to_z-of_z w64 c.rect.inside.y1 bottom ∙ ap (λ (r : Bounds). r.y1) (c.rect.view_is ∙ c.rect-rect.ensures) in
+    let old = c.as_mut_slice-squares.result.now in
+    let new = c.pick_squares.new.bytes in
+    let bytes =
+    c.as_slice.ensures.value
+    ∙ take_all c.in_ok-bytes.bytes.len new (drop (length new) c.in_ok-bytes.bytes.items)
+    (c.pick_squares.auto.bytes ∙ c.as_mut_slice-squares.ensures.len) in
+    let shows =
+    shows_as given (to_z w64 (of_z w64 v.frame)) v.frame c.depth-depth.result d c.components-components.result s area
+    (rows area) c.in_ok-bytes.bytes.items old (to_z-of_z w64 v.frame frame) c.depth-depth.ensures
+    c.components-components.ensures (sym c.as_mut_slice-squares.ensures.value) c.in_ok-bytes.ensures.pixels in
+    let picked =
+    picked_as e c.depth-depth.result d c.components-components.result s c.offset-width.result (columns area)
+    c.offset-height.result (rows area) c.radius-radius.result (radius v) old new c.depth-depth.ensures
+    c.components-components.ensures w h c.radius-radius.ensures.value c.pick_squares.ensures in
+    written_as c.args.out.now c.fill_with.new.out
+    (area_pixel (to_z w64 (of_z w64 c.rect.inside.x1)) (to_z w64 (of_z w64 c.rect.inside.y1)) c.offset-width.result d s c.as_slice.result.now)
+    (extreme_pixel e v given d s)
+    (λ x y held.
+    area_as (to_z w64 (of_z w64 c.rect.inside.x1)) rect.x1 (to_z w64 (of_z w64 c.rect.inside.y1)) rect.y1
+    c.offset-width.result (columns area) d s c.as_slice.result.now new x y left_is bottom_is w bytes
+    ∙ part_pixel e v given d s rect area old new round.wide round.high round.area_is
+    (λ t. subst (λ k. IsOfDepth k (input_pixel given t)) c.requires.source.depth_is (c.pixels_fit.ensures.depth t)) shows
+    picked x y held)
+    c.fill_with.ensures.written

@@ -1,0 +1,401 @@
+//! The effect convolve3.
+ghost use Rattle.std.specs.Prelude.{◌≡◌, ◌≤◌, ◌<◌, ◌+◌, ◌*◌, ℕ, pos, ◌+ℤ◌, ◌-ℤ◌, ◌*ℤ◌, ◌<ℤ◌, length};
+ghost use Rattle.std.specs.Ordering.{int_eq};
+ghost use Rattle.fx_base.specs.Rect.{columns, IsNear, IsStep};
+ghost use Rattle.fx_pixel.specs.Pixel.{size, greatest, count as count_of};
+ghost use Rattle.fx_image.specs.Stored.{pixel_size, sample_in, pixel_in};
+ghost use Rattle.fx_effect.specs.Asked.{MayRender};
+ghost use Rattle.fx_effect.specs.Given.{row_pixel, ShowsClip};
+ghost use Rattle.fx_effect.specs.Meaning.{rendered};
+ghost use Rattle.fx_effect.specs.Numbers.{number};
+ghost use Rattle.fx_effect.specs.Shape.{IsLawful};
+ghost use Rattle.fx_area.specs.Convolve3.{convolve3, convolve_shape, divisor, keeps_source, rounded_z, clamped};
+ghost use Rattle.fx_area.specs.Convolve3Laws.{convolve3_laws};
+ghost use Rattle.fx_area.specs.ConvolveRows.{
+  triple_of,
+  factors_of,
+  IsTriple,
+  AreFactors,
+  IsDivisor,
+  triple_sum,
+  convolved_sample,
+  line_size,
+};
+
+use crate::lines::{Line, SOURCE, read_line};
+use fx_base::{Memory, Rect, offset};
+use fx_core::Ticket;
+use fx_effect::{
+    Context, Description, Identity, ImageEffect, Inputs, Reply, RowKernel, Safety, Values,
+    asked_region, clip_set, fill_with, region_of,
+};
+use fx_gate::Hold;
+use fx_image::Part;
+use fx_image::samples::{pixel_size, sample, set_sample};
+use fx_kernel::Mean;
+use fx_params::ParamDef;
+use fx_pixel::{Components, Depth};
+use fx_props::names::REGION;
+use fx_props::{PropSet, write_interest, write_region};
+use std::alloc::Global;
+
+/// The sum of the nine pixels at most one column and one row away, each times a number, divided by a
+/// divisor: a filter. The numbers are k1 to k9, by rows from the top, from -256 to 256; the parameter
+/// divisor goes from 1 to 65,536.
+#[derive(Clone, Copy, Debug, PartialEq, Eq)]
+pub struct Convolve3;
+
+impl ImageEffect for Convolve3 {
+    ghost meaning = { λ _. convolve3 };
+
+    ghost laws = { λ _. convolve3_laws };
+
+    fn describe(&self, alloc: Global, descriptor: &mut PropSet) -> Result<Reply, Memory> {
+        let description = Description {
+            label: "convolve3",
+            contexts: &[Context::Filter, Context::General],
+            depths: &[Depth::Byte, Depth::Short],
+            temporal: false,
+            tiles: true,
+            safety: Safety::FullySafe,
+        };
+        description.write(alloc, descriptor)?;
+        Ok(Reply::Ok)
+    }
+
+    fn describe_in_context(
+        &self,
+        alloc: Global,
+        _context: Context,
+        clips: &mut Vec<PropSet>,
+        params: &mut Vec<ParamDef>,
+    ) -> Result<Reply, Memory> {
+        let components = [Components::Rgba, Components::Alpha];
+        clips.push(clip_set(alloc, "Source", false, &components)?)?;
+        params.push(ParamDef::int(alloc, "k1", -256, 256, 0)?)?;
+        params.push(ParamDef::int(alloc, "k2", -256, 256, 0)?)?;
+        params.push(ParamDef::int(alloc, "k3", -256, 256, 0)?)?;
+        params.push(ParamDef::int(alloc, "k4", -256, 256, 0)?)?;
+        params.push(ParamDef::int(alloc, "k5", -256, 256, 1)?)?;
+        params.push(ParamDef::int(alloc, "k6", -256, 256, 0)?)?;
+        params.push(ParamDef::int(alloc, "k7", -256, 256, 0)?)?;
+        params.push(ParamDef::int(alloc, "k8", -256, 256, 0)?)?;
+        params.push(ParamDef::int(alloc, "k9", -256, 256, 0)?)?;
+        params.push(ParamDef::int(alloc, "divisor", 1, 65536, 1)?)?;
+        Ok(Reply::Ok)
+    }
+
+    fn get_region_of_definition(
+        &self,
+        alloc: Global,
+        _values: &Values,
+        regions: &[Rect],
+        _in_args: &PropSet,
+        out_args: &mut PropSet,
+    ) -> Result<Reply, Memory> {
+        let region = region_of(regions, 0).grow(1, 1);
+        write_region(alloc, out_args, REGION, region)?;
+        Ok(Reply::Ok)
+    }
+
+    fn get_regions_of_interest(
+        &self,
+        alloc: Global,
+        _values: &Values,
+        in_args: &PropSet,
+        out_args: &mut PropSet,
+    ) -> Result<Reply, Memory> {
+        let region = asked_region(in_args).grow(1, 1);
+        write_interest(alloc, out_args, &["Source"], &[region])?;
+        Ok(Reply::Ok)
+    }
+
+    fn get_frames_needed(
+        &self,
+        _alloc: Global,
+        _values: &Values,
+        _in_args: &PropSet,
+        _out_args: &mut PropSet,
+    ) -> Result<Reply, Memory> {
+        Ok(Reply::Default)
+    }
+
+    fn is_identity(&self, values: &Values, _in_args: &PropSet) -> Identity {
+        if keeps_source(values) {
+            Identity::Same {
+                clip: SOURCE,
+                frame: values.frame,
+            }
+        } else {
+            Identity::No
+        }
+    }
+
+    fn render(
+        &self,
+        alloc: Global,
+        values: &Values,
+        _in_args: &PropSet,
+        inputs: &Inputs<'_>,
+        _hold: &mut Hold,
+        ticket: &mut Ticket,
+        out: &mut Part<'_>,
+    ) -> Result<(), Memory> {
+        let mut bytes = Vec::new(alloc);
+        let line = out.row_bytes() + 2 * pixel_size(out.depth(), out.components());
+        bytes.resize(3 * line, 0)?;
+        let divisor = divisor(values);
+        let rows = ConvolvedRows {
+            values,
+            inputs,
+            factors: Factors::of(values),
+            divisor,
+            mean: Mean::of(divisor),
+        };
+        fill_with(&rows, &mut [], bytes.as_mut_slice(), out);
+        ticket.stamped = true;
+        Ok(())
+    }
+}
+
+// Whether the middle number is the divisor, and the others are 0.
+fn keeps_source(values: &Values) -> bool
+    ensures { result ≡ keeps_source values.now }
+{
+    let below = is_zero(values, 6) & (is_zero(values, 7) & is_zero(values, 8));
+    let beside = is_zero(values, 3) & (is_zero(values, 5) & below);
+    let above = is_zero(values, 0) & (is_zero(values, 1) & (is_zero(values, 2) & beside));
+    are_equal(values, 4, 9) & above
+}
+
+// Whether a parameter's number is 0.
+fn is_zero(values: &Values, place: usize) -> bool
+    ensures { result ≡ int_eq (number values.now place) (pos 0) }
+{
+    values.number(place) == 0
+}
+
+// Whether two parameters have one number.
+fn are_equal(values: &Values, one: usize, other: usize) -> bool
+    ensures { result ≡ int_eq (number values.now one) (number values.now other) }
+{
+    values.number(one) == values.number(other)
+}
+
+// What the sums are divided by.
+fn divisor(values: &Values) -> u64
+    requires { IsLawful convolve_shape values.now }
+    ensures value { result ≡ divisor values.now }
+    ensures some { 0 < result }
+    ensures few { result ≤ 65536 }
+{
+    values.number(9).unsigned_abs()
+}
+
+/// The numbers of three places of a row, from the left.
+#[derive(Clone, Copy, Debug)]
+pub(crate) struct Triple {
+    left: i64,
+    middle: i64,
+    right: i64,
+}
+
+impl Triple {
+    // The numbers of three parameters, from this one on.
+    fn of(values: &Values, first: usize) -> Triple
+        requires lawful { IsLawful convolve_shape values.now }
+        requires first { first ≤ 6 }
+        ensures value { result ≡ triple_of values.now first }
+        ensures few { IsTriple result }
+    {
+        Triple {
+            left: values.number(first),
+            middle: values.number(first + 1),
+            right: values.number(first + 2),
+        }
+    }
+
+    // The sum of sample s and those one and two pixels behind it, each times its number.
+    #[inline(always)]
+    fn sum(self, depth: Depth, step: usize, line: &[u8], s: usize) -> i64
+        requires few { IsTriple self }
+        requires step { step ≤ 4 }
+        requires room { size depth * (s + 2 * step) + size depth ≤ length line.now }
+        ensures value { result ≡ triple_sum self depth step line.now s }
+        ensures near { IsStep 50331648 result }
+    {
+        let left = product(self.left, sample(depth, line, s));
+        let middle = product(self.middle, sample(depth, line, s + step));
+        let right = product(self.right, sample(depth, line, s + 2 * step));
+        left + middle + right
+    }
+}
+
+// A sample times its number.
+#[inline(always)]
+fn product(number: i64, sample: u16) -> i64
+    requires { IsStep 256 number }
+    ensures value { result ≡ number *ℤ pos sample }
+    ensures near { IsStep 16776960 result }
+{
+    number * i64::from(sample)
+}
+
+/// The numbers of the nine places, by rows from the top.
+#[derive(Clone, Copy, Debug)]
+pub(crate) struct Factors {
+    top: Triple,
+    middle: Triple,
+    bottom: Triple,
+}
+
+impl Factors {
+    fn of(values: &Values) -> Factors
+        requires { IsLawful convolve_shape values.now }
+        ensures value { result ≡ factors_of values.now }
+        ensures few { AreFactors result }
+    {
+        Factors {
+            top: Triple::of(values, 0),
+            middle: Triple::of(values, 3),
+            bottom: Triple::of(values, 6),
+        }
+    }
+}
+
+// The rows of a render.
+#[derive(Drop)]
+struct ConvolvedRows<'a, 'b> {
+    values: &'a Values,
+    inputs: &'a Inputs<'b>,
+    factors: Factors,
+    divisor: u64,
+    mean: Mean,
+}
+
+impl<'a, 'b> RowKernel for ConvolvedRows<'a, 'b> {
+    ghost makes = { λ k depth c. MayRender convolve_shape k.values.now k.inputs.now depth c
+        × (k.factors ≡ factors_of k.values.now) × AreFactors k.factors × (k.divisor ≡ divisor k.values.now)
+        × IsDivisor k.divisor × (k.mean ≡ k.divisor) };
+
+    ghost pixel = { λ k depth c x y. rendered convolve3 k.values.now k.inputs.now depth c x y };
+
+    ghost byte_count = { λ k depth c rect. 3 * line_size depth c rect };
+
+    fn fill_row(
+        &self,
+        depth: Depth,
+        components: Components,
+        rect: Rect,
+        y: i64,
+        _cells: &mut [u64],
+        bytes: &mut [u8],
+        row: &mut [u8],
+    ) {
+        let line = row.len() + 2 * pixel_size(depth, components);
+        let (top, rest) = bytes.split_at_mut(line);
+        let (middle, bottom) = rest.split_at_mut(line);
+        self.read(depth, components, rect, y + 1, top);
+        self.read(depth, components, rect, y, middle);
+        self.read(depth, components, rect, y - 1, bottom);
+        self.convolve(depth, components, top, middle, bottom, row);
+    }
+}
+
+impl<'a, 'b> ConvolvedRows<'a, 'b> {
+    // Reads the pixels of row y for a row of the rectangle: one more on either side.
+    fn read(&self, depth: Depth, components: Components, rect: Rect, y: i64, line: &mut [u8])
+        requires source { ShowsClip self.now.inputs.now 0 depth components }
+        requires near { IsNear rect }
+        requires wide { rect.x1 <ℤ rect.x2 }
+        requires row { IsStep 2147483648 y }
+        requires long { length line.old ≡ line_size depth components rect }
+        ensures { let k = self.now in (i : ℕ) → i < columns rect + 2
+            → pixel_in depth components line.new i
+            ≡ row_pixel k.inputs.now 0 k.values.now.frame ((rect.x1 -ℤ pos 1) +ℤ pos i) y }
+    {
+        let pixels = Line {
+            frame: self.values.frame,
+            x: rect.x1 - 1,
+            y,
+            count: offset(rect.x1, rect.x2) + 2,
+        };
+        read_line(self.inputs, depth, components, pixels, line);
+    }
+
+    // Writes a row whose samples are made of three of each line.
+    fn convolve(
+        &self,
+        depth: Depth,
+        components: Components,
+        top: &[u8],
+        middle: &[u8],
+        bottom: &[u8],
+        row: &mut [u8],
+    )
+        requires factors { AreFactors self.now.factors }
+        requires divisor { IsDivisor self.now.divisor }
+        requires mean { self.now.mean ≡ self.now.divisor }
+        requires top { length top.now ≡ length row.old + 2 * pixel_size depth components }
+        requires middle { length middle.now ≡ length row.old + 2 * pixel_size depth components }
+        requires bottom { length bottom.now ≡ length row.old + 2 * pixel_size depth components }
+        ensures { let k = self.now in (s : ℕ) → s * size depth + size depth ≤ length row.old
+            → sample_in depth row.new s ≡ convolved_sample k.factors k.divisor depth (count_of components)
+            top.now middle.now bottom.now s }
+    {
+        match depth {
+            Depth::Byte => { self.convolve_each(Depth::Byte, components, top, middle, bottom, row) }
+            Depth::Short => {
+                self.convolve_each(Depth::Short, components, top, middle, bottom, row)
+            }
+        }
+    }
+
+    #[inline(always)]
+    fn convolve_each(
+        &self,
+        depth: Depth,
+        components: Components,
+        top: &[u8],
+        middle: &[u8],
+        bottom: &[u8],
+        row: &mut [u8],
+    )
+        requires factors { AreFactors self.now.factors }
+        requires divisor { IsDivisor self.now.divisor }
+        requires mean { self.now.mean ≡ self.now.divisor }
+        requires top { length top.now ≡ length row.old + 2 * pixel_size depth components }
+        requires middle { length middle.now ≡ length row.old + 2 * pixel_size depth components }
+        requires bottom { length bottom.now ≡ length row.old + 2 * pixel_size depth components }
+        ensures { let k = self.now in (s : ℕ) → s * size depth + size depth ≤ length row.old
+            → sample_in depth row.new s ≡ convolved_sample k.factors k.divisor depth (count_of components)
+            top.now middle.now bottom.now s }
+    {
+        let step = components.count() as usize;
+        let factors = self.factors;
+        for s in 0..row.len() / depth.size() as usize {
+            let high = factors.top.sum(depth, step, top, s);
+            let level = factors.middle.sum(depth, step, middle, s);
+            let low = factors.bottom.sum(depth, step, bottom, s);
+            set_sample(depth, row, s, self.divided(depth, high + level + low));
+        }
+    }
+
+    // A sum divided by the divisor, to the nearest, and brought into the samples' range.
+    #[inline(always)]
+    fn divided(&self, depth: Depth, sum: i64) -> u16
+        requires divisor { IsDivisor self.now.divisor }
+        requires mean { self.now.mean ≡ self.now.divisor }
+        ensures value { result ≡ clamped (greatest depth) (rounded_z sum self.now.divisor) }
+        ensures bound { result ≤ greatest depth }
+    {
+        let most = u64::from(depth.greatest());
+        if sum <= 0 {
+            0
+        } else if sum.unsigned_abs() >= most * self.divisor {
+            most as u16
+        } else {
+            self.mean.sample(depth, sum.unsigned_abs())
+        }
+    }
+}

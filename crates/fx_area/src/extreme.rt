@@ -1,0 +1,268 @@
+//! The least or the greatest sample of a square. The samples of the whole area are picked in place, first
+//! along columns and then along rows: windows of 1, 2, 4 and more samples are each made of two that are
+//! half as long, so that the work grows with the logarithm of the radius.
+ghost use Rattle.std.specs.Prelude.{◌≡◌, ◌≢◌, ◌≤◌, ◌<◌, ◌+◌, ◌*◌, ℕ, length, IfOk, OnOk, vec_len};
+ghost use Rattle.fx_base.specs.Bounds.{none};
+ghost use Rattle.fx_base.specs.Rect.{columns, rows, IsUpTo};
+ghost use Rattle.fx_pixel.specs.Pixel.{size};
+ghost use Rattle.fx_image.specs.Stored.{pixel_size, sample_in, pixel_in};
+ghost use Rattle.fx_image.specs.Part.{IsPart, SamePart, IsWritten};
+ghost use Rattle.fx_effect.specs.Given.{ShowsClip};
+ghost use Rattle.fx_area.specs.Extreme.{pick};
+ghost use Rattle.fx_area.specs.Erode.{radius as radius_of};
+ghost use Rattle.fx_area.specs.Gathered.{AreGathered, ArePicked, IsProperArea, ShowsArea, IsCopied, area_pixel, extreme_pixel};
+
+use crate::lines::{Line, read_line};
+use fx_base::{Memory, Rect, offset};
+use fx_effect::{Inputs, RowKernel, Values, fill_with};
+use fx_image::Part;
+use fx_image::samples::{copy_pixels, pixel_size, sample, set_sample};
+use fx_pixel::{Components, Depth};
+use std::alloc::Global;
+
+/// Which of two samples is picked.
+#[derive(Clone, Copy, Debug, PartialEq, Eq)]
+pub(crate) enum Extreme {
+    Least,
+    Greatest,
+}
+
+impl Extreme {
+    #[inline(always)]
+    fn pick(self, a: u16, b: u16) -> u16
+        ensures value { result ≡ pick self a b }
+        ensures bound { (m : ℕ) → a ≤ m → b ≤ m → result ≤ m }
+    {
+        match self {
+            Extreme::Least => a.min(b),
+            Extreme::Greatest => a.max(b),
+        }
+    }
+}
+
+/// How far the pixels lie that are picked of, in columns and in rows.
+pub(crate) fn radius(values: &Values) -> usize
+    requires { radius_of values.now ≤ 32 }
+    ensures value { result ≡ radius_of values.now }
+    ensures few { result ≤ 32 }
+{
+    values.number(0).unsigned_abs() as usize
+}
+
+/// Fills a part with the least or the greatest of the samples of each square. At want of memory the part is
+/// as it was.
+pub(crate) fn render_extreme(
+    alloc: Global,
+    extreme: Extreme,
+    values: &Values,
+    inputs: &Inputs<'_>,
+    out: &mut Part<'_>,
+) -> Result<(), Memory>
+    requires part { IsPart out.old }
+    requires some_window { out.old.rect ≢ none }
+    requires source { let image = out.old.image.now in ShowsClip inputs.now 0 image.depth image.components }
+    requires few { radius_of values.now ≤ 32 }
+    ensures same_part { SamePart out.old out.new }
+    ensures ok { let image = out.old.image.now in
+        let pixels = extreme_pixel extreme values.now inputs.now image.depth image.components in
+        OnOk result (IsWritten out.old out.new pixels) }
+{
+    inputs.pixels_fit();
+    let (depth, components) = (out.depth(), out.components());
+    let _near = out.row_bytes();
+    let rect = out.rect();
+    let radius = radius(values);
+    let area = rect.grow(radius as i64, radius as i64);
+    let mut bytes = read_area(alloc, inputs, values.frame, depth, components, area)?;
+    let (width, height) = (offset(area.x1, area.x2), offset(area.y1, area.y2));
+    let squares = bytes.as_mut_slice();
+    pick_squares(extreme, depth, components, width, height, radius, squares);
+    let rows = AreaRows {
+        bytes: bytes.as_slice(),
+        left: rect.x1,
+        bottom: rect.y1,
+        width,
+    };
+    fill_with(&rows, &mut [], &mut [], out);
+    Ok(())
+}
+
+// The pixels of an area, row after row from the bottom.
+fn read_area(
+    alloc: Global,
+    inputs: &Inputs<'_>,
+    frame: i64,
+    depth: Depth,
+    components: Components,
+    area: Rect,
+) -> Result<Vec<u8>, Memory>
+    requires source { ShowsClip inputs.now 0 depth components }
+    requires area { IsProperArea area }
+    ensures long { let size = pixel_size depth components in
+        IfOk result (λ bytes. vec_len bytes ≡ rows area * columns area * size) }
+    ensures pixels { IfOk result (λ bytes. ShowsArea inputs.now frame depth components area (rows area) bytes.items) }
+{
+    let size = pixel_size(depth, components);
+    let width = offset(area.x1, area.x2);
+    let mut line = Vec::new(alloc);
+    line.resize(width * size, 0)?;
+    let Some(count) = offset(area.y1, area.y2).checked_mul(width * size) else {
+        return Err(Memory);
+    };
+    let mut bytes = Vec::new(alloc);
+    bytes.resize(count, 0)?;
+    let (line, rows) = (line.as_mut_slice(), bytes.as_mut_slice());
+    fill_area(inputs, frame, depth, components, area, line, rows);
+    Ok(bytes)
+}
+
+fn fill_area(
+    inputs: &Inputs<'_>,
+    frame: i64,
+    depth: Depth,
+    components: Components,
+    area: Rect,
+    line: &mut [u8],
+    bytes: &mut [u8],
+)
+    requires source { ShowsClip inputs.now 0 depth components }
+    requires area { IsProperArea area }
+    requires line { length line.old ≡ columns area * pixel_size depth components }
+    requires long { length bytes.old ≡ rows area * columns area * pixel_size depth components }
+    ensures { ShowsArea inputs.now frame depth components area (rows area) bytes.new }
+{
+    let width = offset(area.x1, area.x2);
+    let (x, bottom) = (area.x1, area.y1);
+    for j in 0..offset(area.y1, area.y2) {
+        let y = bottom + j as i64;
+        let count = width;
+        let pixels = Line { frame, x, y, count };
+        read_line(inputs, depth, components, pixels, line);
+        copy_pixels(depth, components, line, bytes, j * width, width);
+    }
+}
+
+// Picks, for each sample of rows of pixels, of the square that it is the first of: along columns, and then
+// along rows. Samples with too few behind them hold anything then.
+fn pick_squares(
+    extreme: Extreme,
+    depth: Depth,
+    components: Components,
+    width: usize,
+    height: usize,
+    radius: usize,
+    bytes: &mut [u8],
+)
+    requires few { radius ≤ 32 }
+    requires wide { 2 * radius + 1 ≤ width }
+    requires high { 2 * radius + 1 ≤ height }
+    requires long { length bytes.old ≡ height * width * pixel_size depth components }
+    ensures { ArePicked extreme depth components width height radius bytes.old bytes.new }
+{
+    let step = components.count() as usize;
+    let count = height * width * step;
+    let wanted = 2 * radius + 1;
+    gather(extreme, depth, bytes, count, width * step, wanted);
+    gather(extreme, depth, bytes, count, step, wanted);
+}
+
+// Picks, for each sample, of so many samples, each `stride` behind the one before it. Samples with too few
+// behind them hold anything then.
+fn gather(
+    extreme: Extreme,
+    depth: Depth,
+    bytes: &mut [u8],
+    count: usize,
+    stride: usize,
+    wanted: usize,
+)
+    requires long { length bytes.old ≡ count * size depth }
+    requires some { 0 < wanted }
+    requires room { stride * wanted ≤ count }
+    ensures { AreGathered extreme depth count stride wanted bytes.old bytes.new }
+{
+    let mut have = 1;
+    while have < wanted {
+        let more = have.min(wanted - have);
+        spread(extreme, depth, bytes, count, stride * more);
+        have += more;
+    }
+}
+
+// Picks of each sample and the one `shift` behind it.
+fn spread(extreme: Extreme, depth: Depth, bytes: &mut [u8], count: usize, shift: usize)
+    requires long { length bytes.old ≡ count * size depth }
+    ensures { (s : ℕ) → s + shift < count → sample_in depth bytes.new s
+        ≡ pick extreme (sample_in depth bytes.old s) (sample_in depth bytes.old (s + shift)) }
+{
+    match (extreme, depth) {
+        (Extreme::Least, Depth::Byte) => {
+            spread_each(Extreme::Least, Depth::Byte, bytes, count, shift)
+        }
+        (Extreme::Least, Depth::Short) => {
+            spread_each(Extreme::Least, Depth::Short, bytes, count, shift)
+        }
+        (Extreme::Greatest, Depth::Byte) => {
+            spread_each(Extreme::Greatest, Depth::Byte, bytes, count, shift)
+        }
+        (Extreme::Greatest, Depth::Short) => {
+            spread_each(Extreme::Greatest, Depth::Short, bytes, count, shift)
+        }
+    }
+}
+
+// The depth is a constant in each arm, so that the loop decides nothing of it.
+#[inline(always)]
+fn spread_each(extreme: Extreme, depth: Depth, bytes: &mut [u8], count: usize, shift: usize)
+    requires long { length bytes.old ≡ count * size depth }
+    ensures { (s : ℕ) → s + shift < count → sample_in depth bytes.new s
+        ≡ pick extreme (sample_in depth bytes.old s) (sample_in depth bytes.old (s + shift)) }
+{
+    for s in 0..count.saturating_sub(shift) {
+        let a = sample(depth, bytes, s);
+        let b = sample(depth, bytes, s + shift);
+        set_sample(depth, bytes, s, extreme.pick(a, b));
+    }
+}
+
+// The rows of a render: they begin the rows of the area that was gathered.
+#[derive(Drop)]
+struct AreaRows<'a> {
+    bytes: &'a [u8],
+    left: i64,
+    bottom: i64,
+    width: usize,
+}
+
+impl<'a> RowKernel for AreaRows<'a> {
+    ghost makes = { λ k depth c. k.width ≤ 2147483776 };
+
+    ghost pixel = { λ k depth c x y. area_pixel k.left k.bottom k.width depth c k.bytes.now x y };
+
+    ghost ready = { λ k depth c rect y cells.
+        IsCopied rect k.left k.bottom k.width (pixel_size depth c) k.bytes.now };
+
+    fn fill_row(
+        &self,
+        depth: Depth,
+        components: Components,
+        rect: Rect,
+        y: i64,
+        _cells: &mut [u64],
+        _bytes: &mut [u8],
+        row: &mut [u8],
+    ) {
+        let first = offset(rect.y1, y) * self.width;
+        take_pixels(depth, components, self.bytes, first, row);
+    }
+}
+
+// Copies as many pixels as the row has, from this one on.
+fn take_pixels(depth: Depth, components: Components, bytes: &[u8], first: usize, row: &mut [u8])
+    requires room { first * pixel_size depth components + length row.old ≤ length bytes.now }
+    ensures { let size = pixel_size depth components in (i : ℕ) → i * size + size ≤ length row.old
+        → pixel_in depth components row.new i ≡ pixel_in depth components bytes.now (first + i) }
+{
+    let start = first * pixel_size(depth, components);
+    row.copy_from_slice(&bytes[start..start + row.len()]);
+}
