@@ -4,3 +4,4 @@ pub mod Merge
 pub mod MergeLaws
 pub mod Keymix
 pub mod KeymixLaws
+pub mod Here

@@ -5,6 +5,8 @@
 mod keymix;
 mod merge;
 mod operation;
+#[cfg(test)]
+mod tests;
 
 pub use keymix::Keymix;
 pub use merge::Merge;
