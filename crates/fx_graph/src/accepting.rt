@@ -16,14 +16,12 @@ use crate::graph::Graph;
 use crate::node::{Node, Work};
 use crate::places::{add, place};
 use crate::refuse::{refuse, refuse_at};
-use fx_base::{Memory, Name, Pattern, Rect};
+use fx_base::{Name, Pattern, Rect};
 use fx_effect::Catalogue;
 use fx_pixel::{Components, Depth};
-use fx_text::{GraphCode, GraphFault, RawGraph, RawNode, RawNodes, RawProject, RawWork};
+use fx_text::{GraphCode, GraphFault, RawGraph, RawNode, RawProject, RawWork};
 use std::alloc::Global;
 use std::collections::BTreeMap;
-
-const MOST_NODES: usize = 1024;
 
 /// The graph that a raw graph stands for, over a catalogue of effects. Else it is refused by the first fault
 /// of the nodes in their order, and then of the output: of its node, and then of its file. Of a node the
@@ -46,7 +44,7 @@ pub fn accept<E: Catalogue + Drop>(alloc: Global, raw: RawGraph) -> Result<Graph
 {
     let project = raw.project;
     let form = (project.depth, project.components);
-    let nodes = accept_nodes(alloc, form, few_nodes(&raw.nodes)?)?;
+    let nodes = accept_nodes(alloc, form, raw.nodes.items())?;
     let output = output_node(alloc, &nodes, raw.output.node.text())?;
     let file = output_file(alloc, raw.output.file.text())?;
     Ok(Graph {
@@ -68,19 +66,6 @@ fn extent_of(project: RawProject) -> Rect
     ensures lawful { IsProject result }
 {
     Rect::of(0, 0, i64::from(project.width), i64::from(project.height))
-}
-
-// The nodes in order. `RawNodes` keeps that there are 1 to 1,024 of them and doesn't tell it, so it is asked
-// here, and the answer Memory, which may come at any time, never does.
-fn few_nodes(raws: &RawNodes) -> Result<&[RawNode], Memory>
-    ensures same { IfOk result (λ items. items.now ≡ raws.now) }
-    ensures few { IfOk result (λ items. length items.now ≤ 1024) }
-{
-    let items = raws.items();
-    if items.len() > MOST_NODES {
-        return Err(Memory);
-    }
-    Ok(items)
 }
 
 fn accept_nodes<E: Catalogue + Drop>(

@@ -1,7 +1,9 @@
 -- Clips, and the values of parameters.
 use Rattle.std.specs.Prelude.{ℕ, ◌&&◌, ℤ, pos, negsuc, List, [], ◌∷◌, codes, Bool, true, false, if◌then◌else◌, Option, Some, None, is_some}
-use Rattle.std.specs.Prelude.{option_and_then, Result, Ok, Err, ⊤}
+use Rattle.std.specs.Prelude.{option_and_then, Result, Ok, Err, ⊤, ◌-◌}
 use Rattle.std.specs.Int.Signed.{le_z}
+use Rattle.fx_base.specs.declared.limits.TheConstants.{LAST_FRAME}
+use Rattle.fx_text.specs.declared.value.TheConstants.{MOST_KEYS}
 use Rattle.serde_json.specs.Data.{Data, boolean, string, object, Items, no_items, item, Members}
 use Rattle.serde_json.specs.Find.{get, as_str, as_bool, as_number, as_integer, as_i64, as_array, as_object}
 use Rattle.fx_text.specs.Fault.{Fault}
@@ -58,7 +60,7 @@ of_form true = Ok tt
 of_form false = Err (wrong_at [] [])
 
 abbrev pub frame_within : ℤ → Option ℤ
-frame_within z = if le_z (negsuc 999998) z && le_z z (pos 999999) then Some z else None
+frame_within z = if le_z (negsuc (LAST_FRAME - 1)) z && le_z z (pos LAST_FRAME) then Some z else None
 
 abbrev pub pair_in : Items → Option (Data × Data)
 pair_in (item a (item b no_items)) = Some (a, b)
@@ -88,7 +90,7 @@ keys_of = read_items (λ k d. key_of d) 0
 abbrev pub keyed_of : Data → Result RawValue Fault
 keyed_of d =
     after (check_object [] keyed_keys d) (λ _.
-    after (after (list_at [] (codes "keys") 1 1000 d) keys_of) (λ keys.
+    after (after (list_at [] (codes "keys") 1 MOST_KEYS d) keys_of) (λ keys.
     after (flag_or [] (codes "step") false d) (λ step.
     Ok (value.Keyed keys step))))
 

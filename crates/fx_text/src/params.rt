@@ -1,6 +1,8 @@
 //! Reads clips, and the values of parameters. A fault inside a value stands at the path of its parameter, so
 //! the readers of values give it at the empty path.
-ghost use Rattle.std.specs.Prelude.{◌≡◌, ◌≢◌, ℕ, ◌≤◌, ◌≤ℤ◌, pos, negsuc, [], IfOk, IfSome, option_map, option_and_then, length};
+ghost use Rattle.std.specs.Prelude.{◌≡◌, ◌≢◌, ℕ, ◌≤◌, ◌-◌, ◌≤ℤ◌, pos, negsuc, [], IfOk, IfSome, option_map, option_and_then};
+ghost use Rattle.std.specs.Prelude.{length};
+ghost use Rattle.fx_base.specs.declared.limits.TheConstants.{LAST_FRAME};
 ghost use Rattle.serde_json.specs.View.{view, items_view, members_view};
 ghost use Rattle.serde_json.specs.Find.{as_array};
 ghost use Rattle.fx_text.specs.declared.fault.GraphFault.TheVariants.{Memory as OutOfMemory};
@@ -15,8 +17,9 @@ ghost use Rattle.fx_text.specs.Values.{param_of, params_in};
 use crate::fault::{GraphCode, GraphFault};
 use crate::json::{check_object, fault_at, has, list_at, range_at, word_at, wrong_at};
 use crate::path::joined;
-use crate::value::{RawClip, RawKey, RawKeys, RawParam, RawScalar, RawValue};
+use crate::value::{MOST_KEYS, RawClip, RawKey, RawKeys, RawParam, RawScalar, RawValue};
 use fx_base::Name;
+use fx_base::limits::LAST_FRAME;
 use serde_json::{Map, Number, Value};
 use std::alloc::Global;
 
@@ -120,9 +123,9 @@ fn check_form(alloc: Global, is_of_form: bool) -> Result<(), GraphFault>
 
 fn frame_within(number: i128) -> Option<i64>
     ensures value { result ≡ frame_within number }
-    ensures range { IfSome result (λ n. (negsuc 999998 ≤ℤ n) × (n ≤ℤ pos 999999)) }
+    ensures range { IfSome result (λ n. (negsuc (LAST_FRAME - 1) ≤ℤ n) × (n ≤ℤ pos LAST_FRAME)) }
 {
-    if -999_999 <= number && number <= 999_999 {
+    if -(LAST_FRAME as i128) <= number && number <= LAST_FRAME as i128 {
         Some(number as i64)
     } else {
         None
@@ -131,7 +134,7 @@ fn frame_within(number: i128) -> Option<i64>
 
 fn frame_of(alloc: Global, number: i128) -> Result<i64, GraphFault>
     ensures value { Answers result (or_range [] [] (frame_within number)) }
-    ensures range { IfOk result (λ n. (negsuc 999998 ≤ℤ n) × (n ≤ℤ pos 999999)) }
+    ensures range { IfOk result (λ n. (negsuc (LAST_FRAME - 1) ≤ℤ n) × (n ≤ℤ pos LAST_FRAME)) }
 {
     match frame_within(number) {
         Some(frame) => Ok(frame),
@@ -208,7 +211,7 @@ fn keyed_of(alloc: Global, value: &Value) -> Result<RawValue, GraphFault>
     ensures { Answers result (keyed_of (view value.now)) }
 {
     check_object(alloc, "", &["keys", "step"], value)?;
-    let items = list_at(alloc, "", "keys", 1, 1000, value)?;
+    let items = list_at(alloc, "", "keys", 1, MOST_KEYS, value)?;
     let keys = keys_of(alloc, items)?;
     let step = flag_or(alloc, "", "step", false, value)?;
     Ok(RawValue::Keyed {

@@ -196,7 +196,9 @@ impl RawNodes {
 
     /// The nodes in order.
     pub fn items(&self) -> &[RawNode]
-        ensures { result.now ≡ self.now }
+        ensures value { result.now ≡ self.now }
+        ensures some { 1 ≤ length result.now }
+        ensures few { length result.now ≤ MOST_NODES }
     {
         self.items.as_slice()
     }

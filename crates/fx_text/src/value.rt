@@ -1,8 +1,12 @@
 //! Clips, and the values of parameters, as a graph file says them.
 ghost use Rattle.std.specs.Prelude.{◌≡◌, ◌≤◌, length};
+ghost use Rattle.fx_text.specs.declared.value.TheConstants.{MOST_KEYS};
 
 use fx_base::Name;
 use std::marker::Model;
+
+/// The most keys of a parameter.
+pub const MOST_KEYS: usize = 1000;
 
 /// An input clip, and the name of the node that it is connected to.
 #[derive(Debug, Drop)]
@@ -56,7 +60,7 @@ impl Model for RawKeys {
 impl RawKeys {
     /// These keys, in this order.
     pub fn of(items: Vec<RawKey>) -> RawKeys
-        requires { (1 ≤ length items.items) × (length items.items ≤ 1000) }
+        requires { (1 ≤ length items.items) × (length items.items ≤ MOST_KEYS) }
         ensures { result ≡ items.items }
     {
         RawKeys { items }

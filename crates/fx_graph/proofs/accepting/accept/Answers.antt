@@ -19,7 +19,7 @@ returns-in_err-output-clause-refused g c =
     let raw : RawGraph = record { format = c.raw.inside.format; project = own; output = c.raw.inside.output; first = c.raw.inside.first; last = c.raw.inside.last; nodes = c.raw.inside.nodes } in
     let raw_is : raw ≡ c.args.raw = ap (λ (p : Project). record raw { project = p }) c.project.view_is ∙ c.raw.view_is in
     let nodes = map shown c.in_ok-nodes.nodes.items in
-    let made : nodes_of find meaning (form own) [] c.raw.inside.nodes ≡ Ok nodes = subst (λ rs. nodes_of find meaning (form own) [] rs ≡ Ok nodes) c.in_ok-few_nodes.ensures.same c.in_ok-nodes.ensures.ok in
+    let made : nodes_of find meaning (form own) [] c.raw.inside.nodes ≡ Ok nodes = subst (λ rs. nodes_of find meaning (form own) [] rs ≡ Ok nodes) c.items.ensures.value c.in_ok-nodes.ensures.ok in
     let e = c.in_err-output.field-0.0 in
     let told = rw (c.deref.ensures.value, c.text.ensures) at c.in_err-output.ensures.err in
     let p = err_from_is_err_and c.from_residual-in_err-output.result c.from_residual-in_err-output.ensures.1 in
@@ -33,7 +33,7 @@ returns-in_err-file-clause-refused g c =
     let raw : RawGraph = record { format = c.raw.inside.format; project = own; output = c.raw.inside.output; first = c.raw.inside.first; last = c.raw.inside.last; nodes = c.raw.inside.nodes } in
     let raw_is : raw ≡ c.args.raw = ap (λ (p : Project). record raw { project = p }) c.project.view_is ∙ c.raw.view_is in
     let nodes = map shown c.in_ok-nodes.nodes.items in
-    let made : nodes_of find meaning (form own) [] c.raw.inside.nodes ≡ Ok nodes = subst (λ rs. nodes_of find meaning (form own) [] rs ≡ Ok nodes) c.in_ok-few_nodes.ensures.same c.in_ok-nodes.ensures.ok in
+    let made : nodes_of find meaning (form own) [] c.raw.inside.nodes ≡ Ok nodes = subst (λ rs. nodes_of find meaning (form own) [] rs ≡ Ok nodes) c.items.ensures.value c.in_ok-nodes.ensures.ok in
     let found : place_of (names_of nodes) c.raw.inside.output.node ≡ Some c.in_ok-output.output = rw (c.deref.ensures.value, c.text.ensures) at c.in_ok-output.ensures.ok in
     let e = c.in_err-file.field-0.0 in
     let told = rw c.text-2.ensures at c.in_err-file.ensures.err in
@@ -58,7 +58,7 @@ returns-clause-accepted g c =
     let raw : RawGraph = record { format = c.raw.inside.format; project = own; output = c.raw.inside.output; first = c.raw.inside.first; last = c.raw.inside.last; nodes = c.raw.inside.nodes } in
     let raw_is : raw ≡ c.args.raw = ap (λ (p : Project). record raw { project = p }) c.project.view_is ∙ c.raw.view_is in
     let nodes = map shown c.in_ok-nodes.nodes.items in
-    let made : nodes_of find meaning (form own) [] c.raw.inside.nodes ≡ Ok nodes = subst (λ rs. nodes_of find meaning (form own) [] rs ≡ Ok nodes) c.in_ok-few_nodes.ensures.same c.in_ok-nodes.ensures.ok in
+    let made : nodes_of find meaning (form own) [] c.raw.inside.nodes ≡ Ok nodes = subst (λ rs. nodes_of find meaning (form own) [] rs ≡ Ok nodes) c.items.ensures.value c.in_ok-nodes.ensures.ok in
     let found : place_of (names_of nodes) c.raw.inside.output.node ≡ Some c.in_ok-output.output = rw (c.deref.ensures.value, c.text.ensures) at c.in_ok-output.ensures.ok in
     let file : is_output c.raw.inside.output.file ≡ true = rw c.text-2.ensures at c.in_ok-file.ensures.ok in
     let of_is : c.extent_of.result ≡ extent own = c.extent_of.ensures.value ∙ ap extent (sym c.project.view_is) in
