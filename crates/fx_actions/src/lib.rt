@@ -6,6 +6,10 @@ mod frames;
 mod interest;
 mod is_identity;
 mod region;
+#[cfg(test)]
+mod tests;
+#[cfg(test)]
+mod toys;
 
 pub use frames::frames_needed;
 pub use interest::regions_of_interest;

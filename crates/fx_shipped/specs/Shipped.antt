@@ -14,6 +14,9 @@ use Rattle.fx_point.specs.Shuffle.{shuffle}
 use Rattle.fx_point.specs.Saturation.{saturation}
 use Rattle.fx_point.specs.Posterise.{posterise}
 use Rattle.fx_area.specs.Boxblur.{boxblur}
+use Rattle.fx_area.specs.Erode.{erode}
+use Rattle.fx_area.specs.Dilate.{dilate}
+use Rattle.fx_area.specs.Convolve3.{convolve3}
 use Rattle.fx_move.specs.Crop.{crop}
 use Rattle.fx_move.specs.Translate.{translate}
 use Rattle.fx_move.specs.Mirror.{mirror}
@@ -41,6 +44,9 @@ meaning_of shipped.Shuffle = shuffle
 meaning_of shipped.Saturation = saturation
 meaning_of shipped.Posterise = posterise
 meaning_of shipped.Boxblur = boxblur
+meaning_of shipped.Erode = erode
+meaning_of shipped.Dilate = dilate
+meaning_of shipped.Convolve3 = convolve3
 meaning_of shipped.Crop = crop
 meaning_of shipped.Translate = translate
 meaning_of shipped.Mirror = mirror
@@ -66,6 +72,9 @@ name_of shipped.Shuffle = codes "shuffle"
 name_of shipped.Saturation = codes "saturation"
 name_of shipped.Posterise = codes "posterise"
 name_of shipped.Boxblur = codes "boxblur"
+name_of shipped.Erode = codes "erode"
+name_of shipped.Dilate = codes "dilate"
+name_of shipped.Convolve3 = codes "convolve3"
 name_of shipped.Crop = codes "crop"
 name_of shipped.Translate = codes "translate"
 name_of shipped.Mirror = codes "mirror"
@@ -91,6 +100,9 @@ number_of shipped.Shuffle = 8
 number_of shipped.Saturation = 9
 number_of shipped.Posterise = 10
 number_of shipped.Boxblur = 11
+number_of shipped.Erode = 12
+number_of shipped.Dilate = 13
+number_of shipped.Convolve3 = 14
 number_of shipped.Crop = 15
 number_of shipped.Translate = 16
 number_of shipped.Mirror = 17
@@ -117,6 +129,9 @@ all =
     ∷ shipped.Saturation
     ∷ shipped.Posterise
     ∷ shipped.Boxblur
+    ∷ shipped.Erode
+    ∷ shipped.Dilate
+    ∷ shipped.Convolve3
     ∷ shipped.Crop
     ∷ shipped.Translate
     ∷ shipped.Mirror

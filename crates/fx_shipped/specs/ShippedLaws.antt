@@ -15,6 +15,9 @@ use Rattle.fx_point.specs.ShuffleLaws.{shuffle_laws}
 use Rattle.fx_point.specs.SaturationLaws.{saturation_laws}
 use Rattle.fx_point.specs.PosteriseLaws.{posterise_laws}
 use Rattle.fx_area.specs.BoxblurLaws.{boxblur_laws}
+use Rattle.fx_area.specs.ErodeLaws.{erode_laws}
+use Rattle.fx_area.specs.DilateLaws.{dilate_laws}
+use Rattle.fx_area.specs.Convolve3Laws.{convolve3_laws}
 use Rattle.fx_move.specs.CropLaws.{crop_laws}
 use Rattle.fx_move.specs.TranslateLaws.{translate_laws}
 use Rattle.fx_move.specs.MirrorLaws.{mirror_laws}
@@ -43,6 +46,9 @@ shipped_laws shipped.Shuffle = shuffle_laws
 shipped_laws shipped.Saturation = saturation_laws
 shipped_laws shipped.Posterise = posterise_laws
 shipped_laws shipped.Boxblur = boxblur_laws
+shipped_laws shipped.Erode = erode_laws
+shipped_laws shipped.Dilate = dilate_laws
+shipped_laws shipped.Convolve3 = convolve3_laws
 shipped_laws shipped.Crop = crop_laws
 shipped_laws shipped.Translate = translate_laws
 shipped_laws shipped.Mirror = mirror_laws
@@ -73,6 +79,9 @@ at_number shipped.Shuffle = refl
 at_number shipped.Saturation = refl
 at_number shipped.Posterise = refl
 at_number shipped.Boxblur = refl
+at_number shipped.Erode = refl
+at_number shipped.Dilate = refl
+at_number shipped.Convolve3 = refl
 at_number shipped.Crop = refl
 at_number shipped.Translate = refl
 at_number shipped.Mirror = refl
@@ -107,6 +116,9 @@ few_numbers shipped.Shuffle = omega arith
 few_numbers shipped.Saturation = omega arith
 few_numbers shipped.Posterise = omega arith
 few_numbers shipped.Boxblur = omega arith
+few_numbers shipped.Erode = omega arith
+few_numbers shipped.Dilate = omega arith
+few_numbers shipped.Convolve3 = omega arith
 few_numbers shipped.Crop = omega arith
 few_numbers shipped.Translate = omega arith
 few_numbers shipped.Mirror = omega arith

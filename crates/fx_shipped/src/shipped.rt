@@ -2,7 +2,7 @@
 ghost use Rattle.fx_shipped.specs.Shipped.{meaning_of};
 ghost use Rattle.fx_shipped.specs.ShippedLaws.{shipped_laws};
 
-use fx_area::Boxblur;
+use fx_area::{Boxblur, Convolve3, Dilate, Erode};
 use fx_base::{Memory, Rect};
 use fx_core::Ticket;
 use fx_effect::{Context, Identity, ImageEffect, Inputs, Reply, Values};
@@ -33,6 +33,9 @@ pub enum Shipped {
     Saturation,
     Posterise,
     Boxblur,
+    Erode,
+    Dilate,
+    Convolve3,
     Crop,
     Translate,
     Mirror,
@@ -65,6 +68,9 @@ impl ImageEffect for Shipped {
             Shipped::Saturation => Saturation.describe(alloc, descriptor),
             Shipped::Posterise => Posterise.describe(alloc, descriptor),
             Shipped::Boxblur => Boxblur.describe(alloc, descriptor),
+            Shipped::Erode => Erode.describe(alloc, descriptor),
+            Shipped::Dilate => Dilate.describe(alloc, descriptor),
+            Shipped::Convolve3 => Convolve3.describe(alloc, descriptor),
             Shipped::Crop => Crop.describe(alloc, descriptor),
             Shipped::Translate => Translate.describe(alloc, descriptor),
             Shipped::Mirror => Mirror.describe(alloc, descriptor),
@@ -99,6 +105,9 @@ impl ImageEffect for Shipped {
             Shipped::Saturation => Saturation.describe_in_context(alloc, context, clips, params),
             Shipped::Posterise => Posterise.describe_in_context(alloc, context, clips, params),
             Shipped::Boxblur => Boxblur.describe_in_context(alloc, context, clips, params),
+            Shipped::Erode => Erode.describe_in_context(alloc, context, clips, params),
+            Shipped::Dilate => Dilate.describe_in_context(alloc, context, clips, params),
+            Shipped::Convolve3 => Convolve3.describe_in_context(alloc, context, clips, params),
             Shipped::Crop => Crop.describe_in_context(alloc, context, clips, params),
             Shipped::Translate => Translate.describe_in_context(alloc, context, clips, params),
             Shipped::Mirror => Mirror.describe_in_context(alloc, context, clips, params),
@@ -156,6 +165,15 @@ impl ImageEffect for Shipped {
                 alloc, values, regions, in_args, out_args,
             ),
             Shipped::Boxblur => Boxblur.get_region_of_definition(
+                alloc, values, regions, in_args, out_args,
+            ),
+            Shipped::Erode => Erode.get_region_of_definition(
+                alloc, values, regions, in_args, out_args,
+            ),
+            Shipped::Dilate => Dilate.get_region_of_definition(
+                alloc, values, regions, in_args, out_args,
+            ),
+            Shipped::Convolve3 => Convolve3.get_region_of_definition(
                 alloc, values, regions, in_args, out_args,
             ),
             Shipped::Crop => Crop.get_region_of_definition(
@@ -220,6 +238,11 @@ impl ImageEffect for Shipped {
                 alloc, values, in_args, out_args,
             ),
             Shipped::Boxblur => Boxblur.get_regions_of_interest(alloc, values, in_args, out_args),
+            Shipped::Erode => Erode.get_regions_of_interest(alloc, values, in_args, out_args),
+            Shipped::Dilate => Dilate.get_regions_of_interest(alloc, values, in_args, out_args),
+            Shipped::Convolve3 => Convolve3.get_regions_of_interest(
+                alloc, values, in_args, out_args,
+            ),
             Shipped::Crop => Crop.get_regions_of_interest(alloc, values, in_args, out_args),
             Shipped::Translate => Translate.get_regions_of_interest(
                 alloc, values, in_args, out_args,
@@ -262,6 +285,9 @@ impl ImageEffect for Shipped {
             Shipped::Saturation => Saturation.get_frames_needed(alloc, values, in_args, out_args),
             Shipped::Posterise => Posterise.get_frames_needed(alloc, values, in_args, out_args),
             Shipped::Boxblur => Boxblur.get_frames_needed(alloc, values, in_args, out_args),
+            Shipped::Erode => Erode.get_frames_needed(alloc, values, in_args, out_args),
+            Shipped::Dilate => Dilate.get_frames_needed(alloc, values, in_args, out_args),
+            Shipped::Convolve3 => Convolve3.get_frames_needed(alloc, values, in_args, out_args),
             Shipped::Crop => Crop.get_frames_needed(alloc, values, in_args, out_args),
             Shipped::Translate => Translate.get_frames_needed(alloc, values, in_args, out_args),
             Shipped::Mirror => Mirror.get_frames_needed(alloc, values, in_args, out_args),
@@ -290,6 +316,9 @@ impl ImageEffect for Shipped {
             Shipped::Saturation => Saturation.is_identity(values, in_args),
             Shipped::Posterise => Posterise.is_identity(values, in_args),
             Shipped::Boxblur => Boxblur.is_identity(values, in_args),
+            Shipped::Erode => Erode.is_identity(values, in_args),
+            Shipped::Dilate => Dilate.is_identity(values, in_args),
+            Shipped::Convolve3 => Convolve3.is_identity(values, in_args),
             Shipped::Crop => Crop.is_identity(values, in_args),
             Shipped::Translate => Translate.is_identity(values, in_args),
             Shipped::Mirror => Mirror.is_identity(values, in_args),
@@ -333,6 +362,11 @@ impl ImageEffect for Shipped {
                 alloc, values, in_args, inputs, hold, ticket, out,
             ),
             Shipped::Boxblur => Boxblur.render(alloc, values, in_args, inputs, hold, ticket, out),
+            Shipped::Erode => Erode.render(alloc, values, in_args, inputs, hold, ticket, out),
+            Shipped::Dilate => Dilate.render(alloc, values, in_args, inputs, hold, ticket, out),
+            Shipped::Convolve3 => Convolve3.render(
+                alloc, values, in_args, inputs, hold, ticket, out,
+            ),
             Shipped::Crop => Crop.render(alloc, values, in_args, inputs, hold, ticket, out),
             Shipped::Translate => Translate.render(
                 alloc, values, in_args, inputs, hold, ticket, out,

@@ -36,6 +36,15 @@ returns-in-Posterise c = rw c.in-Posterise.is c.get_regions_of_interest-in-Poste
 pub returns-in-Boxblur : goal.returns-in-Boxblur
 returns-in-Boxblur c = rw c.in-Boxblur.is c.get_regions_of_interest-in-Boxblur.ensures
 
+pub returns-in-Erode : goal.returns-in-Erode
+returns-in-Erode c = rw c.in-Erode.is c.get_regions_of_interest-in-Erode.ensures
+
+pub returns-in-Dilate : goal.returns-in-Dilate
+returns-in-Dilate c = rw c.in-Dilate.is c.get_regions_of_interest-in-Dilate.ensures
+
+pub returns-in-Convolve3 : goal.returns-in-Convolve3
+returns-in-Convolve3 c = rw c.in-Convolve3.is c.get_regions_of_interest-in-Convolve3.ensures
+
 pub returns-in-Crop : goal.returns-in-Crop
 returns-in-Crop c = rw c.in-Crop.is c.get_regions_of_interest-in-Crop.ensures
 
