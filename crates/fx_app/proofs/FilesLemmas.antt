@@ -4,8 +4,8 @@ use Rattle.std.specs.Str.{bytes_eq}
 use Rattle.fx_outside.specs.Outside.{Files, HasRisen, SameFiles, SameBut}
 use Rattle.fx_pixel.specs.declared.Format.TheVariants.{RgbAlpha}
 use Rattle.fx_pam.specs.Text.{pam_text}
-use Rattle.fx_scene.specs.Graph.{Graph}
-use Rattle.fx_scene.specs.Scene.{Frames, picture}
+use Rattle.fx_chain.specs.Graph.{Graph}
+use Rattle.fx_chain.specs.Scene.{Frames, picture}
 use Rattle.fx_app.specs.declared.texts.RunFault.{RunFault}
 use Rattle.fx_app.specs.declared.texts.RunFault.TheVariants as run
 use Rattle.fx_app.specs.Run.{with_file, with_frames, file_name, frame_count, HasGained, HasGainedBut}

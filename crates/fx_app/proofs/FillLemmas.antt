@@ -6,11 +6,11 @@ use Rattle.fx_seq.specs.declared.wanted.Wanted.{Wanted}
 use Rattle.fx_seq.specs.declared.store.Store.{Store}
 use Rattle.fx_seq.specs.Frames.{HoldsPictures}
 use Rattle.fx_seq.specs.Held.{held}
-use Rattle.fx_scene.specs.declared.graph.Source.{Source}
-use Rattle.fx_scene.specs.declared.graph.Start.{Start}
-use Rattle.fx_scene.specs.declared.graph.Start.TheVariants as start
-use Rattle.fx_scene.specs.Graph.{Graph}
-use Rattle.fx_scene.specs.Wants.{wanted_from, wanted_of, wanted_of_start}
+use Rattle.fx_chain.specs.declared.graph.Source.{Source}
+use Rattle.fx_chain.specs.declared.graph.Start.{Start}
+use Rattle.fx_chain.specs.declared.graph.Start.TheVariants as start
+use Rattle.fx_chain.specs.Graph.{Graph}
+use Rattle.fx_chain.specs.Wants.{wanted_from, wanted_of, wanted_of_start}
 use Rattle.fx_app.specs.Run.{AreFrames}
 use Rattle.fx_app.specs.Steps.{frames_of}
 

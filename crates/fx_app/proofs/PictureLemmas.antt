@@ -17,15 +17,15 @@ use Rattle.fx_image.proofs.ImageLaws.{place_from}
 use Rattle.fx_effect.specs.Tap.{tap}
 use Rattle.fx_effect.specs.Given.{GivenPiece, first_pixel}
 use Rattle.fx_point.specs.Invert.{inverted}
-use Rattle.fx_scene.specs.Graph.{Graph, project}
+use Rattle.fx_chain.specs.Graph.{Graph, project}
 use Rattle.fx_gen.specs.Solid.{solid}
-use Rattle.fx_scene.specs.declared.solid.Levels.{Levels}
-use Rattle.fx_scene.specs.declared.graph.Source.{Source}
-use Rattle.fx_scene.specs.declared.graph.Start.TheVariants as start
-use Rattle.fx_scene.specs.Nodes.{SourceFrames}
-use Rattle.fx_scene.specs.Value.{value, node_value, source_value, has_frame}
-use Rattle.fx_scene.specs.Scene.{Frames, nodes_of, first_node, solid_values, picture}
-use Rattle.fx_scene.proofs.ChainLemmas.{start_value, invert_value}
+use Rattle.fx_chain.specs.declared.solid.Levels.{Levels}
+use Rattle.fx_chain.specs.declared.graph.Source.{Source}
+use Rattle.fx_chain.specs.declared.graph.Start.TheVariants as start
+use Rattle.fx_chain.specs.Nodes.{SourceFrames}
+use Rattle.fx_chain.specs.Value.{value, node_value, source_value, has_frame}
+use Rattle.fx_chain.specs.Scene.{Frames, nodes_of, first_node, solid_values, picture}
+use Rattle.fx_chain.proofs.ChainLemmas.{start_value, invert_value}
 use Rattle.fx_app.specs.Picture.{IsFrame, IsCanvas, ShowsNode, IsFilled}
 
 -- every conversion keeps the zero pixel

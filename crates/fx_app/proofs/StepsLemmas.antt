@@ -1,8 +1,8 @@
 -- From what a step ends with to what the run ends with.
 use Rattle.std.proofs.Common.{◌≡◌, ◌≢◌, inl, inr, ℕ, List, Some, subst}
 use Rattle.fx_outside.specs.Outside.{Files}
-use Rattle.fx_scene.specs.Graph.{Graph}
-use Rattle.fx_scene.specs.Scene.{Frames}
+use Rattle.fx_chain.specs.Graph.{Graph}
+use Rattle.fx_chain.specs.Scene.{Frames}
 use Rattle.fx_app.specs.declared.texts.RunFault.{RunFault}
 use Rattle.fx_app.specs.declared.texts.RunFault.TheVariants as run
 use Rattle.fx_app.specs.Run.{graph_under, AreFrames, Cause, Rose, Leaves}

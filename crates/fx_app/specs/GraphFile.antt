@@ -4,11 +4,11 @@ use Rattle.serde_json.specs.Data.{Data, Items, no_items, item}
 use Rattle.serde_json.specs.Find.{get, as_str, as_number, as_i64, as_array}
 use Rattle.fx_base.specs.Fix.{raw_of_text}
 use Rattle.fx_base.specs.Pattern.{pattern_of, runs}
-use Rattle.fx_scene.specs.declared.solid.Levels.{Levels}
-use Rattle.fx_scene.specs.declared.graph.Source.{Source}
-use Rattle.fx_scene.specs.declared.graph.Start.{Start}
-use Rattle.fx_scene.specs.declared.graph.Start.TheVariants as start
-use Rattle.fx_scene.specs.Graph.{Graph}
+use Rattle.fx_chain.specs.declared.solid.Levels.{Levels}
+use Rattle.fx_chain.specs.declared.graph.Source.{Source}
+use Rattle.fx_chain.specs.declared.graph.Start.{Start}
+use Rattle.fx_chain.specs.declared.graph.Start.TheVariants as start
+use Rattle.fx_chain.specs.Graph.{Graph}
 use Rattle.fx_app.specs.declared.graph.Frames.{Frames}
 use Rattle.fx_app.specs.Json.{value_of, is_among, is_object_of, text_at, whole_at, has_text, has_whole}
 
@@ -32,7 +32,8 @@ pair_of None height = None
 -- the width and the height
 abbrev pub sides_of : Data → Option (ℕ × ℕ)
 sides_of d =
-    if is_object_of project_keys d && has_text (codes "depth") (codes "byte") d && has_text (codes "components") (codes "RGBA") d
+    if is_object_of project_keys d && has_text (codes "depth") (codes "byte") d
+    && has_text (codes "components") (codes "RGBA") d
     then pair_of (side_at (codes "width") d) (side_at (codes "height") d)
     else None
 
@@ -95,7 +96,8 @@ levels_from _ _ _ _ = None
 abbrev pub levels_in : Data → Option Levels
 levels_in d =
     if is_object_of param_keys d
-    then levels_from (level_or 0 (get (codes "r") d)) (level_or 0 (get (codes "g") d)) (level_or 0 (get (codes "b") d)) (level_or 65536 (get (codes "a") d))
+    then levels_from (level_or 0 (get (codes "r") d)) (level_or 0 (get (codes "g") d))
+    (level_or 0 (get (codes "b") d)) (level_or 65536 (get (codes "a") d))
     else None
 
 abbrev pub levels_of : Option Data → Option Levels
@@ -153,7 +155,8 @@ source_of d =
 
 abbrev pub start_of : Data → Option Start
 start_of d =
-    if is_some (get (codes "source") d) then option_map start.Source (source_of d) else option_map start.Solid (solid_of d)
+    if is_some (get (codes "source") d) then option_map start.Source (source_of d)
+    else option_map start.Solid (solid_of d)
 
 abbrev pub start_in : Items → Option Start
 start_in no_items = None
@@ -176,7 +179,8 @@ is_clip_of before d = is_object_of clip_keys d && has_text (codes "Source") befo
 
 abbrev pub is_invert_of : List ℕ → Data → Bool
 is_invert_of before d =
-    is_object_of invert_keys d && has_text (codes "effect") (codes "invert") d && holds_at (is_clip_of before) (get (codes "clips") d)
+    is_object_of invert_keys d && has_text (codes "effect") (codes "invert") d
+    && holds_at (is_clip_of before) (get (codes "clips") d)
 
 -- ---- the chain, by the names of its nodes, the last one's first
 

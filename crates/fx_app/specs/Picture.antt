@@ -6,9 +6,9 @@ use Rattle.fx_pixel.specs.declared.Components.TheVariants.{Rgba}
 use Rattle.fx_pixel.specs.declared.Pixel.{Pixel}
 use Rattle.fx_pixel.specs.Pixel.{zero}
 use Rattle.fx_image.specs.Stored.{Stored, shown}
-use Rattle.fx_scene.specs.Graph.{Graph, project}
-use Rattle.fx_scene.specs.Value.{value}
-use Rattle.fx_scene.specs.Scene.{Frames, nodes_of}
+use Rattle.fx_chain.specs.Graph.{Graph, project}
+use Rattle.fx_chain.specs.Value.{value}
+use Rattle.fx_chain.specs.Scene.{Frames, nodes_of}
 
 -- an image of bytes and RGBA over the project's extent
 pub record IsFrame (g : Graph) (image : Stored) : Type 0 where

@@ -1,19 +1,19 @@
 -- The effects of a graph, ready to render.
 use Rattle.std.specs.Prelude.{◌≡◌, ℕ, length, Option, Some, None}
-use Rattle.fx_scene.specs.Graph.{Graph}
-use Rattle.fx_scene.specs.declared.graph.Start.{Start}
-use Rattle.fx_scene.specs.declared.graph.Start.TheVariants as start
+use Rattle.fx_chain.specs.Graph.{Graph}
+use Rattle.fx_chain.specs.declared.graph.Start.{Start}
+use Rattle.fx_chain.specs.declared.graph.Start.TheVariants as start
 use Rattle.fx_app.specs.declared.plugins.Plugins.{Plugins}
-use Rattle.fx_life.specs.Plugin.{Plugin}
+use Rattle.fx_life.specs.Running.{Run}
 use Rattle.fx_shipped.specs.declared.shipped.Shipped.TheVariants as shipped
 
 -- how many instances a plug-in has, where there is one
-abbrev pub instances : {E : Type 0} → Option (Plugin E) → ℕ
+abbrev pub instances : {E : Type 0} → Option (Run E) → ℕ
 instances None = 0
-instances (Some p) = length p.live
+instances (Some p) = length p.sequences
 
 -- the plug-in, where there is one, is of this effect
-abbrev pub IsOf : {E : Type 0} → E → Option (Plugin E) → Type 0
+abbrev pub IsOf : {E : Type 0} → E → Option (Run E) → Type 0
 IsOf effect None = Unit {0}
 IsOf effect (Some p) = p.effect ≡ effect
 

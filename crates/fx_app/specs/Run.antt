@@ -14,11 +14,11 @@ use Rattle.fx_seq.specs.declared.wanted.Wanted.{Wanted}
 use Rattle.fx_seq.specs.declared.fault.SeqFault.{SeqFault}
 use Rattle.fx_seq.specs.declared.fault.SeqFault.TheVariants as seq
 use Rattle.fx_seq.specs.Filling.{first_refused}
-use Rattle.fx_scene.specs.declared.graph.Start.{Start}
-use Rattle.fx_scene.specs.declared.graph.Start.TheVariants as start
-use Rattle.fx_scene.specs.Graph.{Graph}
-use Rattle.fx_scene.specs.Scene.{Frames, picture}
-use Rattle.fx_scene.specs.Wants.{wanted_of}
+use Rattle.fx_chain.specs.declared.graph.Start.{Start}
+use Rattle.fx_chain.specs.declared.graph.Start.TheVariants as start
+use Rattle.fx_chain.specs.Graph.{Graph}
+use Rattle.fx_chain.specs.Scene.{Frames, picture}
+use Rattle.fx_chain.specs.Wants.{wanted_of}
 use Rattle.fx_app.specs.Words.{order_of}
 use Rattle.fx_app.specs.GraphFile.{graph_of}
 use Rattle.fx_app.specs.declared.texts.FrameFault.{FrameFault}
@@ -71,7 +71,8 @@ with_file name bytes files other = if bytes_eq name other then Some bytes else f
 abbrev pub with_frames : Graph → Frames → ℕ → Files → Files
 with_frames g frames zero files = files
 with_frames g frames (suc n) files =
-    with_file (file_name g (g.first + n)) (pam_text RgbAlpha (picture g frames (pos (g.first + n)))) (with_frames g frames n files)
+    with_file (file_name g (g.first + n)) (pam_text RgbAlpha (picture g frames (pos (g.first + n))))
+    (with_frames g frames n files)
 
 -- the depot has gained the files of the first n frames, and nothing else
 abbrev pub HasGained : Graph → Frames → ℕ → Files → Files → Type 0

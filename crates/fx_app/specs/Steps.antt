@@ -7,9 +7,9 @@ use Rattle.fx_seq.specs.declared.fault.SeqFault.{SeqFault}
 use Rattle.fx_seq.specs.declared.fault.SeqFault.TheVariants as seq
 use Rattle.fx_seq.specs.declared.store.Store.{Store}
 use Rattle.fx_seq.specs.Held.{held}
-use Rattle.fx_scene.specs.Graph.{Graph}
-use Rattle.fx_scene.specs.Scene.{Frames}
-use Rattle.fx_scene.specs.Wants.{wanted_of}
+use Rattle.fx_chain.specs.Graph.{Graph}
+use Rattle.fx_chain.specs.Scene.{Frames}
+use Rattle.fx_chain.specs.Wants.{wanted_of}
 use Rattle.fx_app.specs.declared.texts.RunFault.{RunFault}
 use Rattle.fx_app.specs.declared.texts.RunFault.TheVariants as run
 use Rattle.fx_app.specs.Run.{IsRefused, AreFrames, frame_refused, Tells, frame_count, file_name, HasGained, HasGainedBut}

@@ -3,7 +3,7 @@ ghost use Rattle.std.specs.Prelude.{◌≡◌, ◌≤◌, ◌+◌, pos, Some, No
 ghost use Rattle.fx_outside.specs.Outside.{SameFiles};
 ghost use Rattle.fx_pixel.specs.declared.Format.TheVariants.{RgbAlpha};
 ghost use Rattle.fx_pam.specs.Text.{pam_text};
-ghost use Rattle.fx_scene.specs.Scene.{picture};
+ghost use Rattle.fx_chain.specs.Scene.{picture};
 ghost use Rattle.fx_app.specs.Run.{AreFrames, frame_refused, fault_of, source_name, frame_count, file_name, with_file, HasGained};
 ghost use Rattle.fx_app.specs.Ready.{AreReady};
 ghost use Rattle.fx_app.specs.Steps.{frames_of, FetchRose, IsFillFault, IsFramesFault, IsPutFault, IsPutFaultOf, LeavesFile, LeavesFrames};
@@ -13,9 +13,9 @@ use crate::picture::picture_text;
 use crate::plugins::Plugins;
 use crate::texts::{FrameFault, RunFault};
 use fx_base::{Memory, Name};
+use fx_chain::{Graph, Start, wants};
 use fx_outside::{Depot, Library, PutFault};
 use fx_pam::PamFault;
-use fx_scene::{Graph, Start, wants};
 use fx_seq::{SeqFault, Store};
 use std::alloc::Global;
 
@@ -105,7 +105,8 @@ pub fn put_frames<D: Depot>(
 ) -> Result<(), RunFault>
     ensures ok { D.tells
         → OnOk result (HasGained graph.now (frames_of store.now) (frame_count graph.now) (D.file depot.old) (D.file depot.new)) }
-    ensures fault { IfErr result (λ e. IsPutFault graph.now (D.faults depot.old) (D.faults depot.new) (D.last depot.new) e) }
+    ensures fault { IfErr result
+        (λ e. IsPutFault graph.now (D.faults depot.old) (D.faults depot.new) (D.last depot.new) e) }
     ensures leaves { D.tells
         → IfErr result (λ e. LeavesFrames graph.now (frames_of store.now) e (D.file depot.old) (D.file depot.new)) }
 {
@@ -125,7 +126,8 @@ fn put_each<D: Depot>(
     requires ready { AreReady graph.now plugins.now }
     ensures ok { D.tells
         → OnOk result (HasGained graph.now (frames_of store.now) (frame_count graph.now) (D.file depot.old) (D.file depot.new)) }
-    ensures fault { IfErr result (λ e. IsPutFault graph.now (D.faults depot.old) (D.faults depot.new) (D.last depot.new) e) }
+    ensures fault { IfErr result
+        (λ e. IsPutFault graph.now (D.faults depot.old) (D.faults depot.new) (D.last depot.new) e) }
     ensures leaves { D.tells
         → IfErr result (λ e. LeavesFrames graph.now (frames_of store.now) e (D.file depot.old) (D.file depot.new)) }
 {
@@ -150,7 +152,8 @@ fn put_frame<D: Depot>(
     requires frame { frame ≤ 999999 }
     ensures ok { D.tells
         → OnOk result (SameFiles (with_file (file_name graph.now frame) (pam_text RgbAlpha (picture graph.now (frames_of store.now) (pos frame))) (D.file depot.old)) (D.file depot.new)) }
-    ensures fault { IfErr result (λ e. IsPutFaultOf (file_name graph.now frame) (D.faults depot.old) (D.faults depot.new) (D.last depot.new) e) }
+    ensures fault { IfErr result
+        (λ e. IsPutFaultOf (file_name graph.now frame) (D.faults depot.old) (D.faults depot.new) (D.last depot.new) e) }
     ensures leaves { D.tells
         → IfErr result (λ e. LeavesFile (file_name graph.now frame) e (D.file depot.old) (D.file depot.new)) }
     ensures later { D.faults depot.old ≤ D.faults depot.new }

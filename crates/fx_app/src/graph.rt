@@ -12,7 +12,7 @@ use crate::json::{
     JsonFault, has_text, has_whole, is_among, is_object_of, text_at, value_of, whole_at,
 };
 use fx_base::{Fix, Memory, Name, Pattern};
-use fx_scene::{Graph, Level, Levels, Source, Start};
+use fx_chain::{Graph, Level, Levels, Source, Start};
 use serde_json::Value;
 use std::alloc::Global;
 
@@ -231,7 +231,8 @@ fn chain_of<'v>(alloc: Global, nodes: &'v [Value]) -> Result<Option<Chain<'v>>, 
 }
 
 fn names_of<'v>(alloc: Global, nodes: &'v [Value]) -> Result<Option<Vec<&'v str>>, Memory>
-    ensures value { IfOk result (λ found. option_map (λ names. latest_first names.items) found ≡ names_from [] (items_view nodes.now)) }
+    ensures value { IfOk result
+        (λ found. option_map (λ names. latest_first names.items) found ≡ names_from [] (items_view nodes.now)) }
     ensures few { IfOk result (λ found. IfSome found (λ names. length names.items ≤ length nodes.now)) }
 {
     let mut names = Vec::new(alloc);
@@ -484,7 +485,8 @@ fn level_of_raw(raw: i64) -> Option<Level>
 }
 
 fn file_in(alloc: Global, node: &str, graph: &Value) -> Result<Option<Pattern>, Memory>
-    ensures { IfOk result (λ found. found ≡ option_and_then (file_of node.now) (get (codes "output") (view graph.now))) }
+    ensures { IfOk result
+        (λ found. found ≡ option_and_then (file_of node.now) (get (codes "output") (view graph.now))) }
 {
     match graph.get("output") {
         Some(output) => file_of(alloc, node, output),

@@ -7,8 +7,8 @@ ghost use Rattle.fx_app.specs.Steps.{IsReadFault, IsGraphFault, FetchRose};
 use crate::graph::{GraphFault, read_graph};
 use crate::texts::RunFault;
 use fx_base::{Memory, Name};
+use fx_chain::Graph;
 use fx_outside::{FetchFault, Library};
-use fx_scene::Graph;
 use std::alloc::Global;
 
 /// The graph whose bytes the library has under a name.

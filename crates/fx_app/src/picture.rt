@@ -14,10 +14,10 @@ ghost use Rattle.fx_pixel.specs.declared.Depth.TheVariants.{Byte as Bytes};
 ghost use Rattle.fx_pixel.specs.declared.Components.TheVariants.{Rgba as RgbaSamples};
 ghost use Rattle.fx_effect.specs.Tap.{tap};
 ghost use Rattle.fx_effect.specs.Given.{input_pixel};
-ghost use Rattle.fx_scene.specs.Graph.{project};
-ghost use Rattle.fx_scene.specs.declared.graph.Start.TheVariants.{Solid as SolidNode, Source as SourceNode};
+ghost use Rattle.fx_chain.specs.Graph.{project};
+ghost use Rattle.fx_chain.specs.declared.graph.Start.TheVariants.{Solid as SolidNode, Source as SourceNode};
 ghost use Rattle.fx_pam.specs.Text.{pam_text};
-ghost use Rattle.fx_scene.specs.Scene.{Frames, picture};
+ghost use Rattle.fx_chain.specs.Scene.{Frames, picture};
 ghost use Rattle.fx_app.specs.Steps.{frames_of};
 ghost use Rattle.fx_app.specs.Ready.{AreReady, instances, IsOf};
 ghost use Rattle.fx_app.specs.Picture.{IsFrame as IsFrameOf, IsCanvas, ShowsNode, IsFilled};
@@ -26,11 +26,11 @@ use crate::copy::copy_frame;
 use crate::plugins::Plugins;
 use crate::whole::render_whole;
 use fx_base::{Memory, Rect};
+use fx_chain::{Graph, Levels, Source, Start};
 use fx_effect::{Flags, Inputs, Numbers, Piece, Steps, Values};
 use fx_image::Image;
 use fx_pam::write;
 use fx_pixel::{Components, Depth, Format};
-use fx_scene::{Graph, Levels, Source, Start};
 use fx_seq::Store;
 use fx_shipped::Shipped;
 use std::alloc::Global;
@@ -45,7 +45,8 @@ pub fn picture_text(
 ) -> Result<Vec<u8>, Memory>
     requires ready { AreReady graph.now plugins.now }
     requires frame { frame ≤ 999999 }
-    ensures { IfOk result (λ bytes. bytes.items ≡ pam_text RgbAlpha (picture graph.now (frames_of store.now) (pos frame))) }
+    ensures { IfOk result
+        (λ bytes. bytes.items ≡ pam_text RgbAlpha (picture graph.now (frames_of store.now) (pos frame))) }
 {
     let image = picture(alloc, graph, store, plugins, i64::from(frame))?;
     let mut text = Vec::new(alloc);
@@ -131,7 +132,8 @@ fn solid_image(
 }
 
 fn numbers_of(alloc: Global, levels: Levels) -> Result<Vec<i64>, Memory>
-    ensures value { IfOk result (λ numbers. numbers.items ≡ pos levels.r ∷ pos levels.g ∷ pos levels.b ∷ pos levels.a ∷ []) }
+    ensures value { IfOk result
+        (λ numbers. numbers.items ≡ pos levels.r ∷ pos levels.g ∷ pos levels.b ∷ pos levels.a ∷ []) }
     ensures range { IfOk result (λ numbers. AllZip InRange of_solid numbers.items) }
 {
     let numbers = vec![in alloc;

@@ -1,12 +1,13 @@
 //! The effects of a graph, through their order of life.
-ghost use Rattle.std.specs.Prelude.{◌≡◌, ◌<◌, ◌≤◌, ◌+◌, IfOk};
+ghost use Rattle.std.specs.Prelude.{◌≡◌, ◌≢◌, ◌<◌, ◌≤◌, ◌+◌, length, All, AllPairs, IfOk};
 ghost use Rattle.std.specs.List.{Contains};
+ghost use Rattle.fx_shipped.specs.declared.shipped.Shipped.TheVariants as shipped;
 ghost use Rattle.fx_app.specs.Ready.{instances, IsOf, solids, AreReady};
 
 use fx_base::Memory;
+use fx_chain::{Graph, Start};
 use fx_effect::{Catalogue, Context};
-use fx_life::{Running, Span};
-use fx_scene::{Graph, Start};
+use fx_life::{Running, Use};
 use fx_shipped::Shipped;
 use std::alloc::Global;
 
@@ -24,16 +25,11 @@ impl Plugins {
     {
         let solid = running(
             alloc,
+            graph,
             Shipped::Solid,
-            Context::Generator,
-            span(graph, 0, solids(graph)),
+            uses(alloc, Context::Generator, 0, solids(graph))?,
         )?;
-        match running(
-            alloc,
-            Shipped::Invert,
-            Context::Filter,
-            span(graph, 1, graph.inverts()),
-        ) {
+        match inverts(alloc, graph) {
             Ok(invert) => Ok(Plugins { solid, invert }),
             Err(memory) => {
                 finish(solid);
@@ -59,36 +55,46 @@ fn solids(graph: &Graph) -> u32
     }
 }
 
-// So many nodes from one on, over the graph's range.
-fn span(graph: &Graph, first_node: u32, count: u32) -> Span
-    ensures nodes { (result.first_node ≡ first_node) × (result.count ≡ count) }
-    ensures frames { (result.first ≤ 999999) × (result.last ≤ 999999) }
+// The invert of each node behind the first.
+fn inverts(alloc: Global, graph: &Graph) -> Result<Option<Running<Shipped>>, Memory>
+    ensures instances { IfOk result (λ r. instances r ≡ graph.now.inverts) }
+    ensures effect { IfOk result (λ r. IsOf shipped.Invert r) }
 {
-    Span {
-        first_node,
-        count,
-        first: graph.first(),
-        last: graph.last(),
-    }
+    let uses = uses(alloc, Context::Filter, 1, graph.inverts())?;
+    running(alloc, graph, Shipped::Invert, uses)
 }
 
-// The effect with an instance for each node, where there is one.
+// The uses by so many nodes from one on, in the context.
+fn uses(alloc: Global, context: Context, first_node: u32, count: u32) -> Result<Vec<Use>, Memory>
+    requires { first_node + count ≤ 65536 }
+    ensures count { IfOk result (λ uses. length uses.items ≡ count) }
+    ensures contexts { IfOk result (λ uses. All (λ u. u.context ≡ context) uses.items) }
+    ensures apart { IfOk result (λ uses. AllPairs (λ a b. a.node ≢ b.node) uses.items) }
+{
+    let mut uses = Vec::new(alloc);
+    for node in first_node..first_node + count {
+        uses.push(Use { node, context })?;
+    }
+    Ok(uses)
+}
+
+// The effect with an instance for each use, where there is one, over the graph's range.
 fn running<E: Catalogue + Drop>(
     alloc: Global,
+    graph: &Graph,
     effect: E,
-    context: Context,
-    span: Span,
+    uses: Vec<Use>,
 ) -> Result<Option<Running<E>>, Memory>
-    requires supported { Contains (E.meaning effect).shape.contexts context }
-    requires nodes { span.first_node + span.count ≤ 65536 }
-    requires frames { (span.first ≤ 1073741824) × (span.last ≤ 1073741824) }
-    ensures instances { IfOk result (λ r. instances r ≡ span.count) }
+    requires supported { All (λ u. Contains (E.meaning effect).shape.contexts u.context) uses.items }
+    requires apart { AllPairs (λ a b. a.node ≢ b.node) uses.items }
+    ensures instances { IfOk result (λ r. instances r ≡ length uses.items) }
     ensures effect { IfOk result (λ r. IsOf effect r) }
 {
-    if span.count == 0 {
+    if uses.is_empty() {
         Ok(None)
     } else {
-        Ok(Some(Running::start(alloc, effect, context, span)?))
+        let (first, last) = (graph.first(), graph.last());
+        Ok(Some(Running::start(alloc, effect, &uses, first, last)?))
     }
 }
 

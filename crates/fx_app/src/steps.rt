@@ -5,8 +5,8 @@ ghost use Rattle.fx_outside.specs.Outside.{HasRisen, AddsPrefix};
 ghost use Rattle.fx_app.specs.Words.{order_of};
 ghost use Rattle.fx_app.specs.Texts.{line_of, report_of, status_of, LeavesReport, GainsLine};
 ghost use Rattle.fx_app.specs.Run.{is_status, CauseOf, LeavesOf, Cause, Leaves, Rose, IsAccepted, HasDone, HasTold, HasPutAll, HasReported, graph_under, frame_refused, frame_count, AreFrames, HasGained};
-ghost use Rattle.fx_scene.specs.Graph.{Graph};
-ghost use Rattle.fx_scene.specs.Scene.{Frames};
+ghost use Rattle.fx_chain.specs.Graph.{Graph};
+ghost use Rattle.fx_chain.specs.Scene.{Frames};
 ghost use Rattle.fx_app.specs.Steps.{frames_of, IsEndFault, LeavesEnd, GraphCause, LeavesGraph};
 ghost use Rattle.fx_app.specs.declared.texts.RunFault.{RunFault};
 ghost use Rattle.fx_app.specs.declared.texts.RunFault.TheVariants.{Memory as OutOfMemory, Usage as OtherWords};
@@ -16,8 +16,8 @@ use crate::graph_under::graph_of;
 use crate::tell::{report_frames, tell};
 use crate::texts::RunFault;
 use crate::words::order_of;
+use fx_chain::Graph;
 use fx_outside::{Depot, Library, Pace, Sink};
-use fx_scene::Graph;
 use fx_seq::Store;
 use std::alloc::Global;
 use std::sync::Wait;
@@ -90,7 +90,9 @@ fn outcome<L: Library, D: Depot, O: Sink>(
     ensures leaves { L.tells → D.tells
         → IfErr result (λ e. LeavesOf (map string_bytes words.now) (L.file library.old) e (D.file depot.old) (D.file depot.new)) }
     ensures report { O.tells → IfErr result (λ e. LeavesReport e (O.written out.old) (O.written out.new)) }
-    ensures rose { IfErr result (λ e. Rose (L.faults library.old, L.faults library.new) (D.faults depot.old, D.faults depot.new) (O.faults out.old, O.faults out.new) e) }
+    ensures rose { IfErr result
+        (λ e. Rose (L.faults library.old, L.faults library.new) (D.faults depot.old, D.faults depot.new)
+        (O.faults out.old, O.faults out.new) e) }
     ensures usage { IfErr result (λ e. e ≡ OtherWords → order_of (map string_bytes words.now) ≡ None) }
     ensures other_words { order_of (map string_bytes words.now) ≡ None → IfErr result (λ e. e ≡ OtherWords)
         × (OnOk result ⊥) }
@@ -120,7 +122,9 @@ fn render<L: Library, D: Depot, O: Sink>(
     ensures leaves { L.tells → D.tells
         → IfErr result (λ e. Leaves (L.file library.old) name.now e (D.file depot.old) (D.file depot.new)) }
     ensures report { O.tells → IfErr result (λ e. LeavesReport e (O.written out.old) (O.written out.new)) }
-    ensures rose { IfErr result (λ e. Rose (L.faults library.old, L.faults library.new) (D.faults depot.old, D.faults depot.new) (O.faults out.old, O.faults out.new) e) }
+    ensures rose { IfErr result
+        (λ e. Rose (L.faults library.old, L.faults library.new) (D.faults depot.old, D.faults depot.new)
+        (O.faults out.old, O.faults out.new) e) }
     ensures no_usage { IfErr result (λ e. e ≢ OtherWords) }
 {
     match graph_of(alloc, name, library) {
@@ -146,7 +150,9 @@ fn render_graph<L: Library, D: Depot, O: Sink>(
     ensures leaves { L.tells → D.tells
         → IfErr result (λ e. LeavesGraph (L.file library.old) graph.now e (D.file depot.old) (D.file depot.new)) }
     ensures report { O.tells → IfErr result (λ e. LeavesReport e (O.written out.old) (O.written out.new)) }
-    ensures rose { IfErr result (λ e. Rose (L.faults library.old, L.faults library.new) (D.faults depot.old, D.faults depot.new) (O.faults out.old, O.faults out.new) e) }
+    ensures rose { IfErr result
+        (λ e. Rose (L.faults library.old, L.faults library.new) (D.faults depot.old, D.faults depot.new)
+        (O.faults out.old, O.faults out.new) e) }
     ensures no_usage { IfErr result (λ e. e ≢ OtherWords) }
 {
     match store_of(alloc, graph, library) {
@@ -166,7 +172,9 @@ fn put_and_report<D: Depot, O: Sink>(
     ensures done { D.tells
         → OnOk result (HasGained graph.now (frames_of store.now) (frame_count graph.now) (D.file depot.old) (D.file depot.new)) }
     ensures told { O.tells → OnOk result (O.written out.new ≡ O.written out.old ++ report_of (frame_count graph.now)) }
-    ensures fault { IfErr result (λ e. IsEndFault graph.now (D.faults depot.old, D.faults depot.new) (D.last depot.new) (O.faults out.old, O.faults out.new) e) }
+    ensures fault { IfErr result
+        (λ e. IsEndFault graph.now (D.faults depot.old, D.faults depot.new) (D.last depot.new)
+        (O.faults out.old, O.faults out.new) e) }
     ensures leaves { D.tells
         → IfErr result (λ e. LeavesEnd graph.now (frames_of store.now) e (D.file depot.old) (D.file depot.new)) }
     ensures report { O.tells → IfErr result (λ e. LeavesReport e (O.written out.old) (O.written out.new)) }

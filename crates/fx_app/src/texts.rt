@@ -83,7 +83,9 @@ impl RunFault {
 }
 
 fn usage_line(alloc: Global) -> Result<String, Memory>
-    ensures { IfOk result (λ text. string_bytes text ≡ codes "usage: ofxr MODE GRAPH [--first N] [--last N] [--tile N] [--cache N] [--workers N]\n") }
+    ensures { IfOk result
+        (λ text. string_bytes text
+        ≡ codes "usage: ofxr MODE GRAPH [--first N] [--last N] [--tile N] [--cache N] [--workers N]\n") }
 {
     let text =
         "usage: ofxr MODE GRAPH [--first N] [--last N] [--tile N] [--cache N] [--workers N]\n";

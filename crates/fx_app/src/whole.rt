@@ -23,7 +23,7 @@ pub(crate) fn render_whole<E: Catalogue + Drop>(
     inputs: &Inputs<'_>,
     image: &mut Image,
 ) -> Result<(), Memory>
-    requires place { place < length running.now.live }
+    requires place { place < length running.now.sequences }
     requires frame { IsFrame values.now.frame }
     requires window { image.old.rect ≢ none }
     requires may { let meaning = E.meaning running.now.effect in

@@ -2,3 +2,7 @@ pub mod Phases
 pub mod Nodes
 pub mod Lives
 mod RunningLemmas
+mod Places
+mod SeatLemmas
+mod LifeLemmas
+mod ToyLemmas

@@ -26,11 +26,13 @@ is_live-false live node none =
       | false ↦ λ _. refl
     ]) refl
 
-pub present : (live : List ℕ) (phases : ℕ → Phase) (node : ℕ) (phase : Phase) → IsIn live phases node phase → phase_of live phases node ≡ Some phase
+pub present : (live : List ℕ) (phases : ℕ → Phase) (node : ℕ) (phase : Phase) → IsIn live phases node phase
+    → phase_of live phases node ≡ Some phase
 present live phases node phase there =
     ap (λ b. cond b (Some (phases node)) None) (is_live-true live node there.0) ∙ ap (λ p. Some p) there.1
 
-pub absent : (live : List ℕ) (phases : ℕ → Phase) (node : ℕ) → (Contains live node → ⊥) → phase_of live phases node ≡ None
+pub absent : (live : List ℕ) (phases : ℕ → Phase) (node : ℕ) → (Contains live node → ⊥)
+    → phase_of live phases node ≡ None
 absent live phases node none =
     ap (λ b. cond b (Some (phases node)) None) (is_live-false live node none)
 
@@ -39,20 +41,24 @@ absent live phases node none =
 with_phase-same : (phases : ℕ → Phase) (node : ℕ) (phase : Phase) → with_phase phases node phase node ≡ phase
 with_phase-same phases node phase = ap (λ b. cond b phase (phases node)) (eq-eqb node node refl)
 
-with_phase-other : (phases : ℕ → Phase) (node n : ℕ) (phase : Phase) → n ≢ node → with_phase phases node phase n ≡ phases n
+with_phase-other : (phases : ℕ → Phase) (node n : ℕ) (phase : Phase) → n ≢ node
+    → with_phase phases node phase n ≡ phases n
 with_phase-other phases node n phase other = ap (λ b. cond b phase (phases n)) (ne_eqb n node other)
 
-pub changed : (live : List ℕ) (phases : ℕ → Phase) (node : ℕ) (phase : Phase) → Contains live node → phase_of live (with_phase phases node phase) node ≡ Some phase
+pub changed : (live : List ℕ) (phases : ℕ → Phase) (node : ℕ) (phase : Phase) → Contains live node
+    → phase_of live (with_phase phases node phase) node ≡ Some phase
 changed live phases node phase there =
     present live (with_phase phases node phase) node phase (there, with_phase-same phases node phase)
 
-pub unchanged : (live : List ℕ) (phases : ℕ → Phase) (node n : ℕ) (phase : Phase) → n ≢ node → phase_of live (with_phase phases node phase) n ≡ phase_of live phases n
+pub unchanged : (live : List ℕ) (phases : ℕ → Phase) (node n : ℕ) (phase : Phase) → n ≢ node
+    → phase_of live (with_phase phases node phase) n ≡ phase_of live phases n
 unchanged live phases node n phase other =
     ap (λ p. cond (is_live live n) (Some p) None) (with_phase-other phases node n phase other)
 
 -- ---- after an instance came or went
 
-pub added : (live : List ℕ) (phases : ℕ → Phase) (node : ℕ) → phase_of (live ++ node ∷ []) (with_phase phases node Idle) node ≡ Some Idle
+pub added : (live : List ℕ) (phases : ℕ → Phase) (node : ℕ)
+    → phase_of (live ++ node ∷ []) (with_phase phases node Idle) node ≡ Some Idle
 added live phases node = changed (live ++ node ∷ []) phases node Idle (Contains-push live node)
 
 or_none : (a b : Bool) → b ≡ false → (a || (b || false)) ≡ a
@@ -63,20 +69,25 @@ is_live-push : (live : List ℕ) (node n : ℕ) → n ≢ node → is_live (live
 is_live-push live node n other =
     list_any-append (λ m. n == m) live (node ∷ []) ∙ or_none (is_live live n) (n == node) (ne_eqb n node other)
 
-pub added_other : (live : List ℕ) (phases : ℕ → Phase) (node n : ℕ) → n ≢ node → phase_of (live ++ node ∷ []) (with_phase phases node Idle) n ≡ phase_of live phases n
+pub added_other : (live : List ℕ) (phases : ℕ → Phase) (node n : ℕ) → n ≢ node
+    → phase_of (live ++ node ∷ []) (with_phase phases node Idle) n ≡ phase_of live phases n
 added_other live phases node n other =
-    ap (λ b. cond b (Some (with_phase phases node Idle n)) None) (is_live-push live node n other) ∙ unchanged live phases node n Idle other
+    ap (λ b. cond b (Some (with_phase phases node Idle n)) None) (is_live-push live node n other)
+    ∙ unchanged live phases node n Idle other
 
 left_out : (node k : ℕ) → (node == k) ≡ true → not (k == node) ≡ false
 left_out node k same = ap not (eq-eqb k node (sym (eqb-true node k same)))
 
 pub removed : (live : List ℕ) (phases : ℕ → Phase) (node : ℕ) → phase_of (without node live) phases node ≡ None
 removed live phases node =
-    ap (λ b. cond b (Some (phases node)) None) (any-filter_same (λ k. node == k) (λ k. not (k == node)) false (left_out node) live)
+    ap (λ b. cond b (Some (phases node)) None)
+    (any-filter_same (λ k. node == k) (λ k. not (k == node)) false (left_out node) live)
 
 stays_in : (node n k : ℕ) → n ≢ node → (n == k) ≡ true → not (k == node) ≡ true
 stays_in node n k other same = ap not (ne_eqb k node (λ e. other (eqb-true n k same ∙ e)))
 
-pub removed_other : (live : List ℕ) (phases : ℕ → Phase) (node n : ℕ) → n ≢ node → phase_of (without node live) phases n ≡ phase_of live phases n
+pub removed_other : (live : List ℕ) (phases : ℕ → Phase) (node n : ℕ) → n ≢ node
+    → phase_of (without node live) phases n ≡ phase_of live phases n
 removed_other live phases node n other =
-    ap (λ b. cond b (Some (phases n)) None) (any-filter_same (λ k. n == k) (λ k. not (k == node)) true (λ k same. stays_in node n k other same) live)
+    ap (λ b. cond b (Some (phases n)) None)
+    (any-filter_same (λ k. n == k) (λ k. not (k == node)) true (λ k same. stays_in node n k other same) live)

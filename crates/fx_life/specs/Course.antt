@@ -21,7 +21,8 @@ pub data Action : Type 0 where
   Destroy : ℕ → Action
   Unload : Action
 
--- A described plug-in has the contexts in which it was described, the nodes of its live instances, and the phase of each of these.
+-- A described plug-in has the contexts in which it was described, the nodes of its live instances, and the phase of
+-- each of these.
 pub data State : Type 0 where
   NotLoaded : State
   Loaded : State
@@ -42,12 +43,21 @@ IsIn live phases node phase = Contains live node × (phases node ≡ phase)
 
 -- the actions that are allowed in a described plug-in, and the state that they leave
 abbrev pub AllowsDescribed : List Context → List ℕ → (ℕ → Phase) → Action → State → Type 0
-AllowsDescribed contexts live phases (DescribeInContext c) t = (Contains contexts c → ⊥) × (t ≡ Described (contexts ++ c ∷ []) live phases)
-AllowsDescribed contexts live phases (Create node c) t = Contains contexts c × (Contains live node → ⊥) × (t ≡ Described contexts (live ++ node ∷ []) (with_phase phases node Idle))
-AllowsDescribed contexts live phases (Begin node first last) t = IsIn live phases node Idle × (t ≡ Described contexts live (with_phase phases node (Sequence first last)))
-AllowsDescribed contexts live phases (Render node) t = ((first last : ℕ) × IsIn live phases node (Sequence first last)) × (t ≡ Described contexts live phases)
-AllowsDescribed contexts live phases (End node first last) t = IsIn live phases node (Sequence first last) × (t ≡ Described contexts live (with_phase phases node Idle))
-AllowsDescribed contexts live phases (Destroy node) t = IsIn live phases node Idle × (t ≡ Described contexts (without node live) phases)
+AllowsDescribed contexts live phases (DescribeInContext c) t =
+    (Contains contexts c → ⊥) × (t ≡ Described (contexts ++ c ∷ []) live phases)
+AllowsDescribed contexts live phases (Create node c) t =
+    let created = Described contexts (live ++ node ∷ []) (with_phase phases node Idle) in
+    Contains contexts c × (Contains live node → ⊥) × (t ≡ created)
+AllowsDescribed contexts live phases (Begin node first last) t =
+    let begun = with_phase phases node (Sequence first last) in
+    IsIn live phases node Idle × (t ≡ Described contexts live begun)
+AllowsDescribed contexts live phases (Render node) t =
+    ((first last : ℕ) × IsIn live phases node (Sequence first last)) × (t ≡ Described contexts live phases)
+AllowsDescribed contexts live phases (End node first last) t =
+    let ended = with_phase phases node Idle in
+    IsIn live phases node (Sequence first last) × (t ≡ Described contexts live ended)
+AllowsDescribed contexts live phases (Destroy node) t =
+    IsIn live phases node Idle × (t ≡ Described contexts (without node live) phases)
 AllowsDescribed contexts live phases Unload t = (live ≡ []) × (t ≡ Unloaded)
 AllowsDescribed contexts live phases Load t = ⊥
 AllowsDescribed contexts live phases Describe t = ⊥

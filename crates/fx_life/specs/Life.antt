@@ -53,13 +53,17 @@ IsUse action = Unit {0}
 
 -- the plug-in is loaded first and unloaded last, at once or with a description and its use between
 abbrev pub IsWhole : List Action → Type 0
-IsWhole life = (life ≡ Load ∷ Unload ∷ []) ⊎ ((uses : List Action) × All IsUse uses × (life ≡ Load ∷ Describe ∷ (uses ++ Unload ∷ [])))
+IsWhole life = (life ≡ Load ∷ Unload ∷ [])
+    ⊎ ((uses : List Action) × All IsUse uses × (life ≡ Load ∷ Describe ∷ (uses ++ Unload ∷ [])))
 
 pub record IsLawfulLife (life : List Action) : Type 0 where
   pub whole : IsWhole life
   -- in each context it is described once at most
-  pub once : (before after : List Action) (c : Context) → life ≡ before ++ DescribeInContext c ∷ after → Contains before (DescribeInContext c) → ⊥
+  pub once : (before after : List Action) (c : Context) → life ≡ before ++ DescribeInContext c ∷ after
+      → Contains before (DescribeInContext c) → ⊥
   -- an instance is created in a context in which it was described before
-  pub described : (before after : List Action) (node : ℕ) (c : Context) → life ≡ before ++ Create node c ∷ after → Contains before (DescribeInContext c)
-  -- each node has one instance at a time, with its sequences between its creation and its destruction, and all before the plug-in is unloaded
+  pub described : (before after : List Action) (node : ℕ) (c : Context) → life ≡ before ++ Create node c ∷ after
+      → Contains before (DescribeInContext c)
+  -- each node has one instance at a time, with its sequences between its creation and its destruction, and all
+  -- before the plug-in is unloaded
   pub instances : (node : ℕ) → AreInstances node (actions_of node life)

@@ -10,15 +10,17 @@ pub record Plugin (E : Type 0) : Type 0 where
   pub contexts : List Context
   pub live : List ℕ
 
--- an instance: the number of its plug-in, and its node
+-- an instance: the number of its plug-in, its node, and the context in which it was created
 pub record MadeFor : Type 0 where
   pub plugin : ℕ
   pub node : ℕ
+  pub context : Context
 
 -- an instance in a sequence of renders, from the first frame to the last
 pub record Rendering : Type 0 where
   pub plugin : ℕ
   pub node : ℕ
+  pub context : Context
   pub first : ℕ
   pub last : ℕ
 

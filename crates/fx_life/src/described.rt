@@ -1,5 +1,5 @@
 //! A plug-in that is described.
-ghost use Rattle.std.specs.Prelude.{◌≡◌, ◌≢◌, ◌≤◌, ◌<◌, ◌^◌, ◌++◌, ◌∷◌, [], ℕ, true, IfOk, IfErr, OnOk, OnErr};
+ghost use Rattle.std.specs.Prelude.{◌≡◌, ◌≢◌, ◌≤◌, ◌<◌, ◌^◌, ◌++◌, ◌∷◌, [], ℕ, true, IfOk, IfErr, OnOk, OnErr, IsTrue, ◌↔◌};
 ghost use Rattle.std.specs.List.{Contains};
 ghost use Rattle.fx_base.specs.Bounds.{none};
 ghost use Rattle.fx_image.specs.Part.{IsPart, SamePart, IsWritten};
@@ -8,7 +8,9 @@ ghost use Rattle.fx_effect.specs.Meaning.{rendered};
 ghost use Rattle.fx_effect.specs.Asked.{MayRender};
 ghost use Rattle.fx_base.specs.Rect.{IsFrame};
 ghost use Rattle.fx_life.specs.Plugin.{described, without, gate_of};
-ghost use Rattle.fx_life.specs.Course.{Phase, Idle, Sequence, DescribeInContext, Create, Begin, Render, End, Destroy, Unload, Unloaded, state_of, with_phase, Allows};
+ghost use Rattle.fx_life.specs.Running.{begun, made};
+ghost use Rattle.fx_life.specs.Course.{Phase, Idle, Sequence, DescribeInContext, Create, Begin, Render, End, Destroy};
+ghost use Rattle.fx_life.specs.Course.{Unload, Unloaded, state_of, with_phase, Allows};
 
 use crate::{InSequence, Instance};
 use fx_base::{Memory, Rect};
@@ -47,6 +49,13 @@ impl<E: Catalogue> Described<E> {
         }
     }
 
+    // Whether it was described in the context.
+    pub(crate) fn is_described_in(&self, context: Context) -> bool
+        ensures { IsTrue result ↔ Contains self.now.contexts context }
+    {
+        self.contexts.contains(&context)
+    }
+
     /// Has the plug-in describe its clips and parameters in a context
     /// (kOfxImageEffectActionDescribeInContext).
     pub fn describe_in_context(&mut self, alloc: Global, context: Context) -> Result<(), Memory>
@@ -82,14 +91,16 @@ impl<E: Catalogue> Described<E> {
         requires described { Contains self.old.contexts context }
         requires once { Contains self.old.live node → ⊥ }
         ensures ok { OnOk result (self.new ≡ record self.old { live = self.old.live ++ node ∷ [] }) }
-        ensures instance { IfOk result (λ instance. instance ≡ record { plugin = E.number_of self.old.effect; node = node }) }
+        ensures instance { let number = E.number_of self.old.effect in
+            IfOk result (λ i. i ≡ record { plugin = number; node = node; context = context }) }
         ensures memory { OnErr result (self.new ≡ self.old) }
         ensures step { OnOk result ((phases : ℕ → Phase)
-            → Allows (state_of self.old phases) (Create node context) (state_of self.new (with_phase phases node Idle))) }
+            → let idle = with_phase phases node Idle in
+            Allows (state_of self.old phases) (Create node context) (state_of self.new idle)) }
     {
         self.live.push(node)?;
         match self.effect.create_instance(alloc) {
-            Ok(_) => Ok(Instance::new(self.effect.number(), node)),
+            Ok(_) => Ok(Instance::new(self.effect.number(), node, context)),
             Err(memory) => {
                 self.live.pop();
                 Err(memory)
@@ -110,10 +121,11 @@ impl<E: Catalogue> Described<E> {
         requires live { Contains self.now.live instance.node }
         requires first { first ≤ 2 ^ 30 }
         requires last { last ≤ 2 ^ 30 }
-        ensures ok { IfOk result (λ s. s ≡ record { plugin = instance.plugin; node = instance.node; first = first; last = last }) }
+        ensures ok { IfOk result (λ s. s ≡ begun first last instance) }
         ensures back { IfErr result (λ r. r.0 ≡ instance) }
         ensures step { OnOk result ((phases : ℕ → Phase) → phases instance.node ≡ Idle
-            → Allows (state_of self.now phases) (Begin instance.node first last) (state_of self.now (with_phase phases instance.node (Sequence first last)))) }
+            → let begun = with_phase phases instance.node (Sequence first last) in
+            Allows (state_of self.now phases) (Begin instance.node first last) (state_of self.now begun)) }
     {
         let args = match sequence_args(alloc, i64::from(first), i64::from(last)) {
             Ok(args) => args,
@@ -129,9 +141,10 @@ impl<E: Catalogue> Described<E> {
     pub fn end(&self, s: InSequence) -> Instance
         requires plugin { s.plugin ≡ E.number_of self.now.effect }
         requires live { Contains self.now.live s.node }
-        ensures ok { result ≡ record { plugin = s.plugin; node = s.node } }
+        ensures ok { result ≡ made s }
         ensures step { (phases : ℕ → Phase) → phases s.node ≡ Sequence s.first s.last
-            → Allows (state_of self.now phases) (End s.node s.first s.last) (state_of self.now (with_phase phases s.node Idle)) }
+            → let ended = with_phase phases s.node Idle in
+            Allows (state_of self.now phases) (End s.node s.first s.last) (state_of self.now ended) }
     {
         self.effect.end_sequence_render(s.args());
         s.into_instance()
@@ -201,10 +214,13 @@ impl<E: Catalogue> Described<E> {
         requires some_window { window ≢ none }
         requires lawful { IsLawful (E.meaning self.now.effect).shape values.now }
         requires frame { IsFrame values.now.frame }
-        requires may { MayRender (E.meaning self.now.effect).shape values.now inputs.now out.old.image.now.depth out.old.image.now.components }
+        requires may { let image = out.old.image.now in
+            MayRender (E.meaning self.now.effect).shape values.now inputs.now image.depth image.components }
         ensures same_part { SamePart out.old out.new }
         ensures same_hold { hold.new.gate ≡ hold.old.gate }
-        ensures ok { OnOk result (IsWritten out.old out.new (rendered (E.meaning self.now.effect) values.now inputs.now out.old.image.now.depth out.old.image.now.components)) }
+        ensures ok { let image = out.old.image.now in let meaning = E.meaning self.now.effect in
+            let pixels = rendered meaning values.now inputs.now image.depth image.components in
+            OnOk result (IsWritten out.old out.new pixels) }
         ensures stamped { OnOk result (ticket.new ≡ record ticket.old { stamped = true }) }
         ensures unstamped { OnErr result (ticket.new ≡ ticket.old) }
         ensures step { OnOk result ((phases : ℕ → Phase) → phases s.now.node ≡ Sequence s.now.first s.now.last

@@ -1,7 +1,9 @@
 //! Instances of a plug-in: idle ones, and those in a sequence of renders.
 ghost use Rattle.std.specs.Prelude.{◌≡◌, ◌≤◌, pos};
 ghost use Rattle.fx_effect.specs.Asked.{AsksSequence, HasRange};
+ghost use Rattle.fx_life.specs.Running.{begun, made};
 
+use fx_effect::Context;
 use fx_props::PropSet;
 use std::marker::Model;
 
@@ -9,6 +11,7 @@ use std::marker::Model;
 pub struct Instance {
     plugin: u32,
     node: u32,
+    context: Context,
 }
 
 impl Model for Instance {
@@ -16,22 +19,30 @@ impl Model for Instance {
 
     ghost Value = { MadeFor };
 
-    ghost view = { λ i. record { plugin = i.plugin; node = i.node } };
+    ghost view = { λ i. record { plugin = i.plugin; node = i.node; context = i.context } };
 }
 
 impl Instance {
-    // The instance of this node, of the plug-in of this number.
-    pub(crate) fn new(plugin: u32, node: u32) -> Instance
-        ensures { result ≡ record { plugin = plugin; node = node } }
+    // The instance of this node, of the plug-in of this number, in this context.
+    pub(crate) fn new(plugin: u32, node: u32, context: Context) -> Instance
+        ensures { result ≡ record { plugin = plugin; node = node; context = context } }
     {
-        Instance { plugin, node }
+        Instance {
+            plugin,
+            node,
+            context,
+        }
     }
 
     // Its node, where the instance is done with.
     pub(crate) fn into_node(self) -> u32
         ensures { result ≡ self.node }
     {
-        let Instance { plugin: _, node } = self;
+        let Instance {
+            plugin: _,
+            node,
+            context: _,
+        } = self;
         node
     }
 }
@@ -52,7 +63,13 @@ impl Model for InSequence {
 
     ghost Value = { Rendering };
 
-    ghost view = { λ s. record { plugin = s.instance.plugin; node = s.instance.node; first = s.first; last = s.last } };
+    ghost view = { λ s. record {
+      plugin = s.instance.plugin;
+      node = s.instance.node;
+      context = s.instance.context;
+      first = s.first;
+      last = s.last;
+    } };
 
     // begin was told these very frames
     ghost invariant = { λ s. AsksSequence s.args × HasRange s.args (pos s.first) (pos s.last) };
@@ -63,7 +80,7 @@ impl InSequence {
     pub(crate) fn of(instance: Instance, first: u32, last: u32, args: PropSet) -> InSequence
         requires asks { AsksSequence args }
         requires range { HasRange args (pos first) (pos last) }
-        ensures { result ≡ record { plugin = instance.plugin; node = instance.node; first = first; last = last } }
+        ensures { result ≡ begun first last instance }
     {
         InSequence {
             instance,
@@ -82,7 +99,7 @@ impl InSequence {
 
     // The instance, where the sequence is done with.
     pub(crate) fn into_instance(self) -> Instance
-        ensures { result ≡ record { plugin = self.plugin; node = self.node } }
+        ensures { result ≡ made self }
     {
         let InSequence {
             instance,

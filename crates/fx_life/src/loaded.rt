@@ -38,7 +38,8 @@ impl<E: Catalogue> Loaded<E> {
     pub fn describe(self, alloc: Global) -> Result<Described<E>, (Loaded<E>, Memory)>
         ensures ok { IfOk result (λ plugin. plugin ≡ described self) }
         ensures back { IfErr result (λ r. r.0 ≡ self) }
-        ensures step { IfOk result (λ plugin. (phases : ℕ → Phase) → Allows IsLoaded Describe (state_of plugin phases)) }
+        ensures step { IfOk result
+            (λ plugin. (phases : ℕ → Phase) → Allows IsLoaded Describe (state_of plugin phases)) }
     {
         let written = match descriptor(alloc) {
             Ok(mut set) => self.effect.describe(alloc, &mut set),

@@ -1,7 +1,8 @@
 //! The instances of one effect in a run: created together, each in its sequence of renders, and destroyed
 //! together (OpenFX 1.4, "The Actions").
-ghost use Rattle.std.specs.Prelude.{◌≡◌, ◌≢◌, ◌<◌, ◌≤◌, ◌+◌, [], length, true, IfOk, OnOk, OnErr};
-ghost use Rattle.std.specs.List.{Contains, range_with_len};
+ghost use Rattle.std.specs.Prelude.{◌≡◌, ◌≢◌, ◌<◌, ◌≤◌, ◌+◌, ◌^◌, [], length, map, reverse, true};
+ghost use Rattle.std.specs.Prelude.{All, AllPairs, IfOk, OnOk, OnErr};
+ghost use Rattle.std.specs.List.{Contains};
 ghost use Rattle.std.specs.Vec.{vec_capacity};
 ghost use Rattle.fx_base.specs.Bounds.{none};
 ghost use Rattle.fx_base.specs.Rect.{IsFrame};
@@ -9,10 +10,10 @@ ghost use Rattle.fx_image.specs.Part.{IsPart, SamePart, IsWritten};
 ghost use Rattle.fx_effect.specs.Shape.{IsLawful};
 ghost use Rattle.fx_effect.specs.Meaning.{rendered};
 ghost use Rattle.fx_effect.specs.Asked.{MayRender};
-ghost use Rattle.fx_life.specs.Plugin.{described};
-ghost use Rattle.fx_life.specs.Running.{members, AreLive};
+ghost use Rattle.fx_life.specs.Plugin.{described, gate_of};
+ghost use Rattle.fx_life.specs.Running.{members, planned, made_for, rendering, AreLive, AreUsed, IsWith};
 
-use crate::{Described, InSequence, Instance, Loaded};
+use crate::{Described, InSequence, Instance, Loaded, Use};
 use fx_base::Memory;
 use fx_core::Ticket;
 use fx_effect::{Catalogue, Context, Inputs, Values};
@@ -21,8 +22,9 @@ use fx_image::Part;
 use std::alloc::Global;
 use std::marker::Model;
 
-/// A plug-in with an instance for each of some nodes, each in its sequence. Contracts see the plug-in. It
-/// has to be finished.
+/// A plug-in with an instance for each of some nodes, each in its sequence. Contracts see its effect, the
+/// contexts in which it was described, and the sequences in the order in which the instances were created.
+/// It has to be finished.
 pub struct Running<E: Catalogue> {
     plugin: Described<E>,
     // the room for the instances, so that the end takes no memory
@@ -32,43 +34,41 @@ pub struct Running<E: Catalogue> {
 }
 
 impl<E: Catalogue> Model for Running<E> {
-    ghost use Rattle.std.specs.Prelude.{◌≡◌, ◌≤◌, [], length};
+    ghost use Rattle.std.specs.Prelude.{◌≡◌, ◌≤◌, [], length, reverse};
     ghost use Rattle.std.specs.Vec.{vec_capacity};
-    ghost use Rattle.fx_life.specs.Plugin.{Plugin};
-    ghost use Rattle.fx_life.specs.Running.{members, AreLive};
+    ghost use Rattle.fx_life.specs.Running.{Run, members, AreLive};
 
-    ghost Value = { Plugin E };
+    ghost Value = { Run E };
 
-    ghost view = { λ r. r.plugin };
+    ghost view = { λ r. record {
+      effect = r.plugin.effect;
+      contexts = r.plugin.contexts;
+      sequences = reverse r.in_sequence.items;
+    } };
 
     // no instance is idle, and each has room to be so
     ghost invariant = { λ r. (r.idle.items ≡ []) × (length r.in_sequence.items ≤ vec_capacity r.idle)
         × AreLive (E.number_of r.plugin.effect) r.plugin.live (members [] r.in_sequence.items) };
 }
 
-/// The nodes that instances stand for, which follow one another, and the frames of their sequences.
-#[derive(Clone, Copy, Debug)]
-pub struct Span {
-    pub first_node: u32,
-    pub count: u32,
-    pub first: u32,
-    pub last: u32,
-}
-
 impl<E: Catalogue + Drop> Running<E> {
-    /// Loads and describes the effect, describes it in the context, creates an instance for each node, and
-    /// then begins their sequences. At want of memory all that was begun is ended, destroyed and unloaded.
+    /// Loads and describes the effect, describes it in each context that is used, creates an instance for
+    /// each use, and then begins their sequences over the frames. At want of memory all that was begun is
+    /// ended, destroyed and unloaded.
     pub fn start(
         alloc: Global,
         effect: E,
-        context: Context,
-        span: Span,
+        uses: &[Use],
+        first: u32,
+        last: u32,
     ) -> Result<Running<E>, Memory>
-        requires supported { Contains (E.meaning effect).shape.contexts context }
-        requires nodes { span.first_node + span.count ≤ 65536 }
-        requires frames { (span.first ≤ 1073741824) × (span.last ≤ 1073741824) }
+        requires supported { All (λ u. Contains (E.meaning effect).shape.contexts u.context) uses.now }
+        requires apart { AllPairs (λ a b. a.node ≢ b.node) uses.now }
+        requires frames { (first ≤ 2 ^ 30) × (last ≤ 2 ^ 30) }
         ensures effect { IfOk result (λ r. r.effect ≡ effect) }
-        ensures nodes { IfOk result (λ r. r.live ≡ range_with_len span.first_node span.count) }
+        ensures contexts { IfOk result (λ r. AreUsed r.contexts uses.now) }
+        ensures sequences { let number = E.number_of effect in
+            IfOk result (λ r. r.sequences ≡ map (rendering number first last) uses.now) }
     {
         let mut plugin = described(alloc, effect)?;
         let mut idle = Vec::new(alloc);
@@ -78,8 +78,9 @@ impl<E: Catalogue + Drop> Running<E> {
             &mut plugin,
             &mut idle,
             &mut in_sequence,
-            context,
-            span,
+            uses,
+            first,
+            last,
         ) {
             Ok(()) => Ok(Running {
                 plugin,
@@ -105,7 +106,7 @@ impl<E: Catalogue + Drop> Running<E> {
         ticket: &mut Ticket,
         out: &mut Part<'_>,
     ) -> Result<(), Memory>
-        requires place { place < length self.now.live }
+        requires place { place < length self.now.sequences }
         requires part { IsPart out.old }
         requires some_window { out.old.rect ≢ none }
         requires lawful { IsLawful (E.meaning self.now.effect).shape values.now }
@@ -126,6 +127,14 @@ impl<E: Catalogue + Drop> Running<E> {
             .render(alloc, sequence, values, window, inputs, hold, ticket, out)
     }
 
+    /// The gate that renders of the node's instance hold, as `Described::gate_of` tells it.
+    pub fn gate_of(&self, node: u32) -> Option<u32>
+        requires { node < 2 ^ 31 }
+        ensures { result ≡ gate_of (E.meaning self.now.effect).shape.safety (E.number_of self.now.effect) node }
+    {
+        self.plugin.gate_of(node)
+    }
+
     /// Ends each sequence, then destroys each instance, and unloads the effect.
     pub fn finish(self) -> E
         ensures { result ≡ self.effect }
@@ -139,31 +148,70 @@ impl<E: Catalogue + Drop> Running<E> {
     }
 }
 
-// Describes the plug-in in the context, creates the instances, and begins their sequences.
+// Describes the plug-in in the contexts, creates the instances, and begins their sequences.
 fn begin<E: Catalogue>(
     alloc: Global,
     plugin: &mut Described<E>,
     idle: &mut Vec<Instance>,
     in_sequence: &mut Vec<InSequence>,
-    context: Context,
-    span: Span,
+    uses: &[Use],
+    first: u32,
+    last: u32,
 ) -> Result<(), Memory>
-    requires supported { Contains (E.meaning plugin.old.effect).shape.contexts context }
+    requires supported { All (λ u. Contains (E.meaning plugin.old.effect).shape.contexts u.context) uses.now }
     requires fresh { plugin.old ≡ described plugin.old.effect }
     requires none_yet { (idle.old.items ≡ []) × (in_sequence.old.items ≡ []) }
-    requires nodes { span.first_node + span.count ≤ 65536 }
-    requires frames { (span.first ≤ 1073741824) × (span.last ≤ 1073741824) }
+    requires apart { AllPairs (λ a b. a.node ≢ b.node) uses.now }
+    requires frames { (first ≤ 2 ^ 30) × (last ≤ 2 ^ 30) }
     ensures effect { plugin.new.effect ≡ plugin.old.effect }
     ensures live { let all = members idle.new.items in_sequence.new.items in
         AreLive (E.number_of plugin.new.effect) plugin.new.live all }
     ensures room { length idle.new.items + length in_sequence.new.items ≤ vec_capacity idle.new }
-    ensures nodes { OnOk result (plugin.new.live ≡ range_with_len span.first_node span.count) }
+    ensures contexts { OnOk result (AreUsed plugin.new.contexts uses.now) }
+    ensures sequences { let number = E.number_of plugin.old.effect in
+        OnOk result (reverse in_sequence.new.items ≡ map (rendering number first last) uses.now) }
     ensures begun { OnOk result (idle.new.items ≡ []) }
 {
-    plugin.describe_in_context(alloc, context)?;
-    create_each(alloc, plugin, idle, context, span)?;
+    describe_each(alloc, plugin, uses)?;
+    create_each(alloc, plugin, idle, uses)?;
     in_sequence.reserve(idle.len())?;
-    begin_each(alloc, plugin, idle, in_sequence, span)
+    begin_each(alloc, plugin, idle, in_sequence, first, last)
+}
+
+// Describes the plug-in in each context that is used, once.
+fn describe_each<E: Catalogue>(
+    alloc: Global,
+    plugin: &mut Described<E>,
+    uses: &[Use],
+) -> Result<(), Memory>
+    requires supported { All (λ u. Contains (E.meaning plugin.old.effect).shape.contexts u.context) uses.now }
+    requires fresh { plugin.old.contexts ≡ [] }
+    ensures effect { plugin.new.effect ≡ plugin.old.effect }
+    ensures live { plugin.new.live ≡ plugin.old.live }
+    ensures contexts { OnOk result (AreUsed plugin.new.contexts uses.now) }
+{
+    for one in uses {
+        describe_once(alloc, plugin, one.context)?;
+    }
+    Ok(())
+}
+
+// Describes the plug-in in the context, where it wasn't yet.
+fn describe_once<E: Catalogue>(
+    alloc: Global,
+    plugin: &mut Described<E>,
+    context: Context,
+) -> Result<(), Memory>
+    requires { Contains (E.meaning plugin.old.effect).shape.contexts context }
+    ensures effect { plugin.new.effect ≡ plugin.old.effect }
+    ensures live { plugin.new.live ≡ plugin.old.live }
+    ensures contexts { OnOk result (IsWith plugin.old.contexts context plugin.new.contexts) }
+{
+    if plugin.is_described_in(context) {
+        Ok(())
+    } else {
+        plugin.describe_in_context(alloc, context)
+    }
 }
 
 // Ends the sequences, destroys the instances, and unloads the plug-in.
@@ -203,25 +251,25 @@ fn described<E: Catalogue + Drop>(alloc: Global, effect: E) -> Result<Described<
     }
 }
 
-// Creates the instance of each node.
+// Creates the instance of each use.
 fn create_each<E: Catalogue>(
     alloc: Global,
     plugin: &mut Described<E>,
     idle: &mut Vec<Instance>,
-    context: Context,
-    span: Span,
+    uses: &[Use],
 ) -> Result<(), Memory>
-    requires described { Contains plugin.old.contexts context }
+    requires described { All (λ u. Contains plugin.old.contexts u.context) uses.now }
     requires none_yet { (plugin.old.live ≡ []) × (idle.old.items ≡ []) }
-    requires nodes { span.first_node + span.count ≤ 65536 }
+    requires apart { AllPairs (λ a b. a.node ≢ b.node) uses.now }
     ensures effect { plugin.new.effect ≡ plugin.old.effect }
+    ensures contexts { plugin.new.contexts ≡ plugin.old.contexts }
     ensures live { AreLive (E.number_of plugin.new.effect) plugin.new.live idle.new.items }
     ensures room { length idle.new.items ≤ vec_capacity idle.new }
-    ensures nodes { OnOk result (plugin.new.live ≡ range_with_len span.first_node span.count) }
+    ensures made { OnOk result (idle.new.items ≡ map (made_for (E.number_of plugin.old.effect)) uses.now) }
 {
-    for node in span.first_node..span.first_node + span.count {
+    for one in uses {
         idle.reserve(1)?;
-        idle.push_reserved(plugin.create_instance(alloc, node, context)?);
+        idle.push_reserved(plugin.create_instance(alloc, one.node, one.context)?);
     }
     Ok(())
 }
@@ -232,19 +280,22 @@ fn begin_each<E: Catalogue>(
     plugin: &Described<E>,
     idle: &mut Vec<Instance>,
     in_sequence: &mut Vec<InSequence>,
-    span: Span,
+    first: u32,
+    last: u32,
 ) -> Result<(), Memory>
     requires live { let all = members idle.old.items in_sequence.old.items in
         AreLive (E.number_of plugin.now.effect) plugin.now.live all }
     requires room { length idle.old.items + length in_sequence.old.items ≤ vec_capacity idle.old }
     requires sequence_room { length idle.old.items + length in_sequence.old.items ≤ vec_capacity in_sequence.old }
-    requires frames { (span.first ≤ 1073741824) × (span.last ≤ 1073741824) }
+    requires frames { (first ≤ 2 ^ 30) × (last ≤ 2 ^ 30) }
     ensures same { members idle.new.items in_sequence.new.items ≡ members idle.old.items in_sequence.old.items }
+    ensures planned { let all = planned first last in
+        all idle.new.items in_sequence.new.items ≡ all idle.old.items in_sequence.old.items }
     ensures room { length idle.new.items + length in_sequence.new.items ≤ vec_capacity idle.new }
     ensures all { OnOk result (idle.new.items ≡ []) }
 {
     while let Some(instance) = idle.pop() {
-        match plugin.begin(alloc, instance, span.first, span.last) {
+        match plugin.begin(alloc, instance, first, last) {
             Ok(sequence) => in_sequence.push_reserved(sequence),
             Err((instance, memory)) => {
                 idle.push_reserved(instance);

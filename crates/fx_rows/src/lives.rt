@@ -1,5 +1,6 @@
 //! The order in which actions come to an effect, and the gates of its instances.
-ghost use Rattle.std.specs.Prelude.{◌<◌, ◌^◌};
+ghost use Rattle.std.specs.Prelude.{◌≡◌, ◌<◌, ◌^◌};
+ghost use Rattle.fx_effect.specs.declared.action.Context.TheVariants as context;
 
 use crate::toy::Toy;
 use fx_base::{Memory, Rect};
@@ -7,7 +8,7 @@ use fx_core::Ticket;
 use fx_effect::{Catalogue, Context, Flags, Inputs, Numbers, Values};
 use fx_gate::Gates;
 use fx_image::Image;
-use fx_life::{Loaded, Running, Span};
+use fx_life::{Loaded, Running, Use};
 use fx_pixel::{Components, Depth, Pixel};
 use std::alloc::Global;
 use std::sync::atomic::{AtomicU64, Ordering};
@@ -27,6 +28,15 @@ const CLEAR: Pixel = Pixel::Rgba {
     a: 0,
 };
 
+fn used_by(node: u32) -> Use
+    ensures { result ≡ record { node = node; context = context.Generator } }
+{
+    Use {
+        node,
+        context: Context::Generator,
+    }
+}
+
 // Of a picture of 3 by 2 pixels that has two grey ones, an instance renders the two right columns.
 fn one_renders(alloc: Global, effect: Toy<'_>) -> Result<(Image, bool), Memory> {
     let (byte, rgba) = (Depth::Byte, Components::Rgba);
@@ -40,13 +50,7 @@ fn one_renders(alloc: Global, effect: Toy<'_>) -> Result<(Image, bool), Memory> 
         project: Rect::of(0, 0, 3, 2),
     };
     let inputs = Inputs::new(alloc, byte, Vec::new(alloc))?;
-    let span = Span {
-        first_node: 8,
-        count: 1,
-        first: 4,
-        last: 9,
-    };
-    let running = Running::start(alloc, effect, Context::Generator, span)?;
+    let running = Running::start(alloc, effect, &[used_by(8)], 4, 9)?;
     let mut hold = Gates::free(alloc);
     let mut ticket = Ticket {
         scene: 1,
@@ -95,13 +99,7 @@ fn instances_stand_before_sequences_begin(rt: HostRuntime) -> Result<(), Fail> {
     let effect = Toy {
         notes: Some(&notes),
     };
-    let span = Span {
-        first_node: 8,
-        count: 2,
-        first: 4,
-        last: 9,
-    };
-    Running::start(rt.alloc(), effect, Context::Generator, span)?.finish();
+    Running::start(rt.alloc(), effect, &[used_by(8), used_by(9)], 4, 9)?.finish();
     // Both are created, both begin; both end, both are destroyed.
     assert_eq!(rt; notes.load(Ordering::SeqCst), 12344549549749749889);
     Ok(())

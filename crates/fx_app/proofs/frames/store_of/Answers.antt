@@ -1,5 +1,5 @@
 use Rattle.std.proofs.Common.{◌≡◌, rules}
-use Rattle.fx_scene.specs.Wants.{wanted_of}
+use Rattle.fx_chain.specs.Wants.{wanted_of}
 use Rattle.fx_app.proofs.FillLemmas.{shown}
 use Rattle.fx_app.proofs.frames.store_of.Goals as goal
 

@@ -3,7 +3,7 @@ use Rattle.fx_app.proofs.PictureLemmas.{small_frame}
 use Rattle.fx_pixel.specs.declared.Format.TheVariants.{RgbAlpha}
 use Rattle.fx_image.specs.Image.{SameImage}
 use Rattle.fx_image.specs.Stored.{image_of}
-use Rattle.fx_scene.specs.Scene.{picture}
+use Rattle.fx_chain.specs.Scene.{picture}
 use Rattle.fx_pam.specs.Text.{pam_text}
 use Rattle.fx_pam.proofs.TextLaws.{text-same}
 use Rattle.fx_app.specs.Steps.{frames_of}

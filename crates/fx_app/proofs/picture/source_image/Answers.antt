@@ -2,7 +2,7 @@ use Rattle.std.proofs.Common.{rules, ◌≡◌, None, Some, true, false}
 use Rattle.std.proofs.lemmas.Result.{IfOk-weaker}
 use Rattle.fx_image.specs.Stored.{image_of}
 use Rattle.fx_app.proofs.PictureLemmas.{shows_zero, source_outside, source_absent, shows_frame, frames_of_source}
-use Rattle.fx_scene.specs.Value.{has_frame}
+use Rattle.fx_chain.specs.Value.{has_frame}
 use Rattle.fx_app.specs.Steps.{frames_of}
 use Rattle.fx_app.proofs.picture.source_image.Goals as goal
 

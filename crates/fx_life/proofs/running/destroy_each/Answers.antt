@@ -9,7 +9,9 @@ loop-instance-preserved g c =
     let number = g.E.Catalogue.number_of c.loop-instance.plugin.effect in
     let m = c.in-Some.instance in
     let popped : c.loop-instance.idle.items ≡ c.pop.new.self.items ++ m ∷ [] = c.in-Some.ensures.items in
-    let before = subst (λ (l : List MadeFor). AreLive number c.loop-instance.plugin.live l) popped c.loop-instance.invariant.live in
+    let before =
+    subst (λ (l : List MadeFor). AreLive number c.loop-instance.plugin.live l) popped
+    c.loop-instance.invariant.live in
     let left = fewer_live number c.loop-instance.plugin.live c.pop.new.self.items m before in
     let live : c.destroy_instance.new.self.live ≡ without m.node c.loop-instance.plugin.live = search rules in
     let effect : c.destroy_instance.new.self.effect ≡ c.loop-instance.plugin.effect = search rules in
