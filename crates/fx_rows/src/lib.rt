@@ -1,13 +1,19 @@
-//! Tests that cross crates: lives of plug-ins, the names of the host's arguments, and runs of the top call over
-//! objects in memory, with the bytes of their files worked by hand.
+//! Tests that cross crates: every effect of the catalogue through all its actions, lives of plug-ins, and
+//! runs of the top call over objects in memory, with the bytes of their files worked by hand.
 #![tactic(auto)]
 
 #[cfg(test)]
+mod areas;
+#[cfg(test)]
 mod arguments;
+#[cfg(test)]
+mod asking;
 #[cfg(test)]
 mod chain;
 #[cfg(test)]
 mod first_frame;
+#[cfg(test)]
+mod generators;
 #[cfg(test)]
 mod graph_text;
 #[cfg(test)]
@@ -15,6 +21,16 @@ mod graphs;
 #[cfg(test)]
 mod lives;
 #[cfg(test)]
+mod mixes;
+#[cfg(test)]
+mod moves;
+#[cfg(test)]
 mod outcome;
+#[cfg(test)]
+mod points;
+#[cfg(test)]
+mod rows;
+#[cfg(test)]
+mod times;
 #[cfg(test)]
 mod toy;

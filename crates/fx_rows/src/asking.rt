@@ -1,0 +1,502 @@
+//! One effect through all its actions: what it describes, what it answers, and what it renders.
+ghost use Rattle.std.specs.Prelude.{◌≡◌, [], ◌∷◌, IsTrue, IfOk};
+ghost use Rattle.std.specs.List.{Contains};
+ghost use Rattle.fx_base.specs.Rect.{IsFrame};
+ghost use Rattle.fx_pixel.specs.Pixel.{IsOfDepth, components_of};
+ghost use Rattle.fx_pixel.specs.declared.Depth.TheVariants.{Byte, Short};
+ghost use Rattle.fx_pixel.specs.declared.Components.TheVariants.{Rgba};
+ghost use Rattle.fx_effect.specs.Shape.{IsLawfulIn, clip_names, optional_flags, shown_components, supports};
+ghost use Rattle.fx_effect.specs.Asked.{AreRegions, IsWindow};
+ghost use Rattle.fx_shipped.specs.Shipped.{meaning_of};
+ghost use Rattle.fx_rows.specs.Asked.{IsSmallWindow};
+
+use fx_actions::{frames_needed, identity, region_of_definition, regions_of_interest};
+use fx_base::{Memory, Name, Names, Rect};
+use fx_core::Ticket;
+use fx_effect::{
+    Context, Flags, Identity, ImageEffect, Inputs, Numbers, Piece, Steps, Values, descriptor,
+    window_args,
+};
+use fx_gate::Gates;
+use fx_image::Image;
+use fx_life::{Running, Use};
+use fx_params::{ParamDef, ParamKind};
+use fx_pixel::{Components, Depth, Pixel};
+use fx_props::PropSet;
+use fx_shipped::Shipped;
+use std::alloc::Global;
+use std::process::Abort;
+use std::sync::Arc;
+use std::test::Fail;
+
+/// The bounds of a rectangle: left, bottom, right and top.
+pub type Bounds = (i64, i64, i64, i64);
+
+/// An effect's row: what it describes, how it is asked, what it answers, and the pixels of the window.
+#[derive(Clone, Copy)]
+pub struct Row<'a> {
+    pub label: &'static str,
+    pub contexts: &'static [&'static str],
+    pub depths: &'static [&'static str],
+    pub temporal: i64,
+    pub safety: &'static str,
+    pub clips: &'static [Clip],
+    pub params: &'a [Parameter],
+    pub window: Rect,
+    pub region: Rect,
+    pub interest: &'static [Bounds],
+    pub frames: &'static [&'static [(i64, i64)]],
+    pub identity: Identity,
+    pub sources: &'static [Frame],
+    pub bytes: &'static [[u16; 4]],
+    pub shorts: &'static [[u16; 4]],
+}
+
+/// An input clip: its name, whether it may be left unconnected, and its components.
+#[derive(Clone, Copy)]
+pub struct Clip {
+    pub name: &'static str,
+    pub optional: i64,
+    pub components: &'static [&'static str],
+}
+
+/// A parameter: its name, kind, least and greatest number, the one that it starts with, and its choices.
+#[derive(Clone, Copy)]
+pub struct Parameter {
+    pub name: &'static str,
+    pub kind: ParamKind,
+    pub least: i64,
+    pub greatest: i64,
+    pub start: i64,
+    pub choices: &'static [&'static str],
+}
+
+/// The pixels of columns 0 to 3 of row 0, as r, g, b and a.
+#[derive(Clone, Copy)]
+pub enum Picture {
+    First,
+    Second,
+    Mask,
+}
+
+impl Picture {
+    fn pixels(self) -> [[u16; 4]; 4] {
+        match self {
+            Picture::First => [
+                [1, 1, 1, 1],
+                [10, 200, 30, 128],
+                [0, 255, 254, 255],
+                [3, 2, 1, 0],
+            ],
+            Picture::Second => [
+                [2, 2, 2, 2],
+                [20, 0, 0, 255],
+                [0, 0, 0, 0],
+                [255, 255, 255, 255],
+            ],
+            Picture::Mask => [[0, 0, 0, 0], [0, 0, 0, 128], [0, 0, 0, 0], [0, 0, 0, 255]],
+        }
+    }
+}
+
+/// A frame of an input clip.
+#[derive(Clone, Copy)]
+pub struct Frame {
+    pub clip: u32,
+    pub frame: i64,
+    pub picture: Picture,
+}
+
+/// Takes an effect through all its actions, and renders bytes.
+pub fn byte_row(
+    rt: &impl Abort,
+    alloc: Global,
+    effect: Shipped,
+    context: Context,
+    names: &Names,
+    optional: &Flags,
+    shown: &[Components],
+    values: &Values,
+    regions: &[Rect],
+    row: &Row<'_>,
+) -> Result<(), Fail>
+    requires lawful { IsLawfulIn (meaning_of effect).shape context values.now }
+    requires frame { IsFrame values.now.frame }
+    requires names { names.now ≡ clip_names (meaning_of effect).shape context }
+    requires optional { optional.now ≡ optional_flags (meaning_of effect).shape context }
+    requires shown { shown.now ≡ shown_components (meaning_of effect).shape context Rgba }
+    requires regions { AreRegions values.now regions.now }
+    requires window { IsSmallWindow row.now.window }
+    requires supported { IsTrue (supports (meaning_of effect).shape Byte Rgba) }
+{
+    describes(rt, alloc, effect, row)?;
+    describes_in(rt, alloc, effect, context, row)?;
+    let found = answers_of(
+        alloc, effect, context, names, optional, values, regions, row.window,
+    )?;
+    same_answers(rt, &found, row)?;
+    let image = rendered(rt, alloc, effect, context, shown, values, row, Depth::Byte)?;
+    same_pixels(rt, &image, row.bytes)
+}
+
+/// Renders shorts.
+pub fn short_row(
+    rt: &impl Abort,
+    alloc: Global,
+    effect: Shipped,
+    context: Context,
+    shown: &[Components],
+    values: &Values,
+    row: &Row<'_>,
+) -> Result<(), Fail>
+    requires lawful { IsLawfulIn (meaning_of effect).shape context values.now }
+    requires frame { IsFrame values.now.frame }
+    requires shown { shown.now ≡ shown_components (meaning_of effect).shape context Rgba }
+    requires window { IsSmallWindow row.now.window }
+    requires supported { IsTrue (supports (meaning_of effect).shape Short Rgba) }
+{
+    let image = rendered(rt, alloc, effect, context, shown, values, row, Depth::Short)?;
+    same_pixels(rt, &image, row.shorts)
+}
+
+fn rect_of(bounds: &Bounds) -> Rect {
+    let (left, bottom, right, top) = *bounds;
+    Rect::of(left, bottom, right, top)
+}
+
+// ---- what it describes
+
+fn describes(rt: &impl Abort, alloc: Global, effect: Shipped, row: &Row<'_>) -> Result<(), Fail> {
+    let mut set = descriptor(alloc)?;
+    effect.describe(alloc, &mut set)?;
+    assert_eq!(rt; set.get_text("OfxPropLabel", 0)?, row.label);
+    texts(
+        rt,
+        &set,
+        "OfxImageEffectPropSupportedContexts",
+        row.contexts,
+    )?;
+    texts(
+        rt,
+        &set,
+        "OfxImageEffectPropSupportedPixelDepths",
+        row.depths,
+    )?;
+    let temporal = set.get_int("OfxImageEffectPropTemporalClipAccess", 0)?;
+    let tiles = set.get_int("OfxImageEffectPropSupportsTiles", 0)?;
+    assert_eq!(rt; (temporal, tiles), (row.temporal, 1), "{}", row.label);
+    let safety = set.get_text("OfxImageEffectPluginRenderThreadSafety", 0)?;
+    assert_eq!(rt; safety, row.safety, "{}", row.label);
+    Ok(())
+}
+
+// The property has these texts and no others.
+fn texts(rt: &impl Abort, set: &PropSet, name: &str, wanted: &[&str]) -> Result<(), Fail> {
+    assert_eq!(rt; set.dimension(name)? as usize, wanted.len(), "{name}");
+    for (index, text) in wanted.iter().enumerate() {
+        assert_eq!(rt; set.get_text(name, index as u32)?, *text, "{name}");
+    }
+    Ok(())
+}
+
+fn describes_in(
+    rt: &impl Abort,
+    alloc: Global,
+    effect: Shipped,
+    context: Context,
+    row: &Row<'_>,
+) -> Result<(), Fail>
+    requires { Contains (meaning_of effect).shape.contexts context }
+{
+    let mut sets = Vec::new(alloc);
+    let mut defs = Vec::new(alloc);
+    effect.describe_in_context(alloc, context, &mut sets, &mut defs)?;
+    let lengths = (sets.len(), defs.len());
+    assert_eq!(rt;
+        lengths,
+        (row.clips.len(), row.params.len()),
+        "{}",
+        row.label
+    );
+    for (set, clip) in sets.iter().zip(row.clips) {
+        assert_eq!(rt; set.get_text("OfxPropName", 0)?, clip.name);
+        let optional = set.get_int("OfxImageClipPropOptional", 0)?;
+        assert_eq!(rt; optional, clip.optional, "{}", clip.name);
+        texts(
+            rt,
+            set,
+            "OfxImageEffectPropSupportedComponents",
+            clip.components,
+        )?;
+    }
+    for (def, wanted) in defs.iter().zip(row.params) {
+        same_parameter(rt, def, wanted)?;
+    }
+    Ok(())
+}
+
+fn same_parameter(rt: &impl Abort, def: &ParamDef, wanted: &Parameter) -> Result<(), Fail> {
+    assert_eq!(rt; def.name.text(), wanted.name);
+    assert_eq!(rt; def.kind, wanted.kind, "{}", wanted.name);
+    let numbers = (def.least, def.greatest, def.start);
+    assert_eq!(rt;
+        numbers,
+        (wanted.least, wanted.greatest, wanted.start),
+        "{}",
+        wanted.name
+    );
+    assert_eq!(rt;
+        def.choices.items().len(),
+        wanted.choices.len(),
+        "{}",
+        wanted.name
+    );
+    for (choice, text) in def.choices.items().iter().zip(wanted.choices) {
+        assert_eq!(rt; choice.text(), *text);
+    }
+    Ok(())
+}
+
+// ---- what it answers
+
+fn name_of(alloc: Global, name: &str) -> Result<Name, Memory>
+    ensures { IfOk result (λ n. n ≡ name.now) }
+{
+    Ok(Name::of(String::from_str(alloc, name)?))
+}
+
+pub fn no_clips(alloc: Global) -> Result<Names, Memory>
+    ensures { IfOk result (λ n. n ≡ []) }
+{
+    Ok(Names::of(Vec::new(alloc)))
+}
+
+pub fn one_clip(alloc: Global, name: &str) -> Result<Names, Memory>
+    ensures { IfOk result (λ n. n ≡ name.now ∷ []) }
+{
+    Ok(Names::of(vec![in alloc; name_of(alloc, name)?]?))
+}
+
+pub fn two_clips(alloc: Global, first: &str, second: &str) -> Result<Names, Memory>
+    ensures { IfOk result (λ n. n ≡ first.now ∷ second.now ∷ []) }
+{
+    let names = vec![in alloc; name_of(alloc, first)?, name_of(alloc, second)?]?;
+    Ok(Names::of(names))
+}
+
+pub fn three_clips(alloc: Global, first: &str, second: &str, third: &str) -> Result<Names, Memory>
+    ensures { IfOk result (λ n. n ≡ first.now ∷ second.now ∷ third.now ∷ []) }
+{
+    let names = vec![in alloc;
+        name_of(alloc, first)?,
+        name_of(alloc, second)?,
+        name_of(alloc, third)?,
+    ]?;
+    Ok(Names::of(names))
+}
+
+/// The values of an instance at a frame.
+pub fn values_of(
+    alloc: Global,
+    frame: i64,
+    numbers: &[i64],
+    connected: &[bool],
+    project: Rect,
+) -> Result<Values, Memory>
+    ensures frame { IfOk result (λ v. v.frame ≡ frame) }
+    ensures numbers { IfOk result (λ v. v.numbers ≡ numbers.now) }
+    ensures connected { IfOk result (λ v. v.connected ≡ connected.now) }
+    ensures project { IfOk result (λ v. v.project ≡ project) }
+{
+    Ok(Values {
+        frame,
+        numbers: Numbers::of(numbers.to_vec(alloc)?),
+        connected: Flags::of(connected.to_vec(alloc)?),
+        project,
+    })
+}
+
+pub fn flags_of(alloc: Global, flags: &[bool]) -> Result<Flags, Memory>
+    ensures { IfOk result (λ f. f ≡ flags.now) }
+{
+    Ok(Flags::of(flags.to_vec(alloc)?))
+}
+
+// What an effect answers for a window.
+#[derive(Drop)]
+struct Answers {
+    region: Rect,
+    interest: Vec<Rect>,
+    frames: Vec<Vec<(i64, i64)>>,
+    identity: Identity,
+}
+
+fn answers_of(
+    alloc: Global,
+    effect: Shipped,
+    context: Context,
+    names: &Names,
+    optional: &Flags,
+    values: &Values,
+    regions: &[Rect],
+    window: Rect,
+) -> Result<Answers, Memory>
+    requires lawful { IsLawfulIn (meaning_of effect).shape context values.now }
+    requires frame { IsFrame values.now.frame }
+    requires names { names.now ≡ clip_names (meaning_of effect).shape context }
+    requires optional { optional.now ≡ optional_flags (meaning_of effect).shape context }
+    requires regions { AreRegions values.now regions.now }
+    requires window { IsWindow window }
+{
+    let args = window_args(alloc, values.frame, window)?;
+    Ok(Answers {
+        region: region_of_definition(alloc, &effect, context, optional, values, regions)?,
+        interest: regions_of_interest(alloc, &effect, names, values, window)?,
+        frames: frames_needed(alloc, &effect, names, values)?,
+        identity: identity(&effect, values, &args),
+    })
+}
+
+fn same_answers(rt: &impl Abort, found: &Answers, row: &Row<'_>) -> Result<(), Fail> {
+    assert_eq!(rt; found.region, row.region, "{}", row.label);
+    assert_eq!(rt; found.interest.len(), row.interest.len(), "{}", row.label);
+    for (region, wanted) in found.interest.iter().zip(row.interest) {
+        assert_eq!(rt; *region, rect_of(wanted), "{}", row.label);
+    }
+    assert_eq!(rt; found.frames.len(), row.frames.len(), "{}", row.label);
+    for (spans, wanted) in found.frames.iter().zip(row.frames) {
+        assert_eq!(rt; spans.as_slice(), *wanted, "{}", row.label);
+    }
+    assert_eq!(rt; found.identity, row.identity, "{}", row.label);
+    Ok(())
+}
+
+// ---- what it renders
+
+// Renders the row's window by the second of two instances, from their loading to their unloading.
+fn rendered(
+    rt: &impl Abort,
+    alloc: Global,
+    effect: Shipped,
+    context: Context,
+    shown: &[Components],
+    values: &Values,
+    row: &Row<'_>,
+    depth: Depth,
+) -> Result<Image, Fail>
+    requires lawful { IsLawfulIn (meaning_of effect).shape context values.now }
+    requires frame { IsFrame values.now.frame }
+    requires shown { shown.now ≡ shown_components (meaning_of effect).shape context Rgba }
+    requires supported { IsTrue (supports (meaning_of effect).shape depth Rgba) }
+    requires window { IsSmallWindow row.now.window }
+{
+    let inputs = inputs_of(alloc, depth, shown, row.sources)?;
+    let mut image = Image::new(alloc, row.window, depth, Components::Rgba, 1024)?;
+    let uses = [Use { node: 3, context }, Use { node: 4, context }];
+    let running = Running::start(alloc, effect, &uses, 0, 9)?;
+    let mut hold = Gates::free(alloc);
+    let mut ticket = Ticket {
+        scene: 1,
+        number: 2,
+        stamped: false,
+    };
+    let mut part = image.part(row.window);
+    let outcome = running.render(alloc, 1, values, &inputs, &mut hold, &mut ticket, &mut part);
+    let Ticket {
+        scene: _,
+        number: _,
+        stamped,
+    } = ticket;
+    running.finish();
+    outcome?;
+    assert!(rt; stamped, "{}", row.label);
+    Ok(image)
+}
+
+fn inputs_of(
+    alloc: Global,
+    depth: Depth,
+    shown: &[Components],
+    frames: &[Frame],
+) -> Result<Inputs<'static>, Memory>
+    ensures depth { IfOk result (λ inputs. inputs.depth ≡ depth) }
+    ensures shown { IfOk result (λ inputs. inputs.components ≡ shown.now) }
+{
+    let mut inputs = Inputs::new(alloc, depth, shown.to_vec(alloc)?)?;
+    for frame in frames {
+        push_frame(alloc, depth, shown, frame, &mut inputs)?;
+    }
+    Ok(inputs)
+}
+
+fn push_frame(
+    alloc: Global,
+    depth: Depth,
+    shown: &[Components],
+    frame: &Frame,
+    inputs: &mut Inputs<'static>,
+) -> Result<(), Memory>
+    requires { inputs.old.components ≡ shown.now }
+    ensures depth { inputs.new.depth ≡ inputs.old.depth }
+    ensures shown { inputs.new.components ≡ inputs.old.components }
+{
+    let clip = frame.clip as usize;
+    if clip < shown.len() {
+        let image = image_of(alloc, depth, shown[clip], &frame.picture.pixels())?;
+        image.pixels_fit();
+        let piece = Piece::Tile {
+            image: Arc::new(alloc, image)?,
+            through: Steps::of(Vec::new(alloc)),
+        };
+        inputs.push(alloc, frame.clip, frame.frame, piece)?;
+    }
+    Ok(())
+}
+
+// An image of one row with these pixels.
+fn image_of(
+    alloc: Global,
+    depth: Depth,
+    components: Components,
+    pixels: &[[u16; 4]; 4],
+) -> Result<Image, Memory> {
+    let mut image = Image::new(alloc, Rect::of(0, 0, 4, 1), depth, components, 32)?;
+    let [first, second, third, fourth] = pixels;
+    image.put(0, 0, pixel_of(depth, components, first));
+    image.put(1, 0, pixel_of(depth, components, second));
+    image.put(2, 0, pixel_of(depth, components, third));
+    image.put(3, 0, pixel_of(depth, components, fourth));
+    Ok(image)
+}
+
+// The pixel of these samples. None is greater than the depth's greatest.
+fn pixel_of(depth: Depth, components: Components, samples: &[u16; 4]) -> Pixel
+    ensures depth { IsOfDepth depth result }
+    ensures components { components_of result ≡ components }
+{
+    let [r, g, b, a] = *samples;
+    let greatest = depth.greatest() as u16;
+    match components {
+        Components::Rgba => Pixel::Rgba {
+            r: r.min(greatest),
+            g: g.min(greatest),
+            b: b.min(greatest),
+            a: a.min(greatest),
+        },
+        Components::Alpha => Pixel::Alpha { a: a.min(greatest) },
+    }
+}
+
+// Compares an image with its pixels by rows from the bottom. Behind the last one they are zero.
+fn same_pixels(rt: &impl Abort, image: &Image, wanted: &[[u16; 4]]) -> Result<(), Fail> {
+    let rect = image.rect();
+    let mut left = wanted.iter();
+    for y in rect.y1..rect.y2 {
+        for x in rect.x1..rect.x2 {
+            let samples = left.next().copied().unwrap_or([0, 0, 0, 0]);
+            let pixel = pixel_of(image.depth(), image.components(), &samples);
+            assert_eq!(rt; image.at(x, y), pixel, "{x} {y}");
+        }
+    }
+    Ok(())
+}

@@ -1,0 +1,299 @@
+//! Effects that make each pixel of the one at its place: all their actions, and pixels worked by hand at both depths.
+use crate::asking::{Frame, Picture, Row, byte_row, flags_of, one_clip, short_row, values_of};
+use crate::rows::{BYTES, FILTERED, PROJECT, SAMPLES, SOURCE, SOURCE_CLIP, choice, fix, int};
+use fx_effect::Context;
+use fx_pixel::Components;
+use fx_shipped::Shipped;
+use std::test::Fail;
+
+#[test]
+fn invert(rt: HostRuntime) -> Result<(), Fail> {
+    let alloc = rt.alloc();
+    let (effect, context) = (Shipped::Invert, Context::Filter);
+    let names = one_clip(alloc, "Source")?;
+    let optional = flags_of(alloc, &[false])?;
+    let values = values_of(alloc, 7, &[], &[true], PROJECT)?;
+    let wanted = Row {
+        label: "invert",
+        sources: &[Frame {
+            clip: 0,
+            frame: 7,
+            picture: Picture::First,
+        }],
+        bytes: &[[118, 0, 98, 128], [255, 0, 1, 255]],
+        shorts: &[[118, 0, 98, 128], [255, 0, 1, 255]],
+        ..FILTERED
+    };
+    byte_row(
+        &rt,
+        alloc,
+        effect,
+        context,
+        &names,
+        &optional,
+        &[Components::Rgba],
+        &values,
+        &[SOURCE],
+        &wanted,
+    )?;
+    short_row(
+        &rt,
+        alloc,
+        effect,
+        context,
+        &[Components::Rgba],
+        &values,
+        &wanted,
+    )
+}
+
+#[test]
+fn gain(rt: HostRuntime) -> Result<(), Fail> {
+    let alloc = rt.alloc();
+    let (effect, context) = (Shipped::Gain, Context::Filter);
+    let names = one_clip(alloc, "Source")?;
+    let optional = flags_of(alloc, &[false])?;
+    let values = values_of(alloc, 7, &[98304], &[true], PROJECT)?;
+    let params = [fix("gain", 0, 1048576, 65536)];
+    let wanted = Row {
+        label: "gain",
+        clips: &SOURCE_CLIP,
+        params: &params,
+        sources: &[Frame {
+            clip: 0,
+            frame: 7,
+            picture: Picture::First,
+        }],
+        bytes: &[[15, 255, 45, 128], [0, 255, 255, 255], [5, 3, 2, 0]],
+        shorts: &[[15, 300, 45, 128], [0, 383, 381, 255], [5, 3, 2, 0]],
+        ..FILTERED
+    };
+    byte_row(
+        &rt,
+        alloc,
+        effect,
+        context,
+        &names,
+        &optional,
+        &[Components::Rgba],
+        &values,
+        &[SOURCE],
+        &wanted,
+    )?;
+    short_row(
+        &rt,
+        alloc,
+        effect,
+        context,
+        &[Components::Rgba],
+        &values,
+        &wanted,
+    )
+}
+
+#[test]
+fn premult(rt: HostRuntime) -> Result<(), Fail> {
+    let alloc = rt.alloc();
+    let (effect, context) = (Shipped::Premult, Context::Filter);
+    let names = one_clip(alloc, "Source")?;
+    let optional = flags_of(alloc, &[false])?;
+    let values = values_of(alloc, 7, &[], &[true], PROJECT)?;
+    let wanted = Row {
+        label: "premult",
+        sources: &[Frame {
+            clip: 0,
+            frame: 7,
+            picture: Picture::First,
+        }],
+        bytes: &[[5, 100, 15, 128], [0, 255, 254, 255]],
+        shorts: &[[0, 0, 0, 128], [0, 1, 1, 255]],
+        ..FILTERED
+    };
+    byte_row(
+        &rt,
+        alloc,
+        effect,
+        context,
+        &names,
+        &optional,
+        &[Components::Rgba],
+        &values,
+        &[SOURCE],
+        &wanted,
+    )?;
+    short_row(
+        &rt,
+        alloc,
+        effect,
+        context,
+        &[Components::Rgba],
+        &values,
+        &wanted,
+    )
+}
+
+#[test]
+fn unpremult(rt: HostRuntime) -> Result<(), Fail> {
+    let alloc = rt.alloc();
+    let (effect, context) = (Shipped::Unpremult, Context::Filter);
+    let names = one_clip(alloc, "Source")?;
+    let optional = flags_of(alloc, &[false])?;
+    let values = values_of(alloc, 7, &[], &[true], PROJECT)?;
+    let wanted = Row {
+        label: "unpremult",
+        sources: &[Frame {
+            clip: 0,
+            frame: 7,
+            picture: Picture::First,
+        }],
+        bytes: &[[20, 255, 60, 128], [0, 255, 254, 255]],
+        shorts: &[[5120, 65535, 15360, 128], [0, 65535, 65278, 255]],
+        ..FILTERED
+    };
+    byte_row(
+        &rt,
+        alloc,
+        effect,
+        context,
+        &names,
+        &optional,
+        &[Components::Rgba],
+        &values,
+        &[SOURCE],
+        &wanted,
+    )?;
+    short_row(
+        &rt,
+        alloc,
+        effect,
+        context,
+        &[Components::Rgba],
+        &values,
+        &wanted,
+    )
+}
+
+#[test]
+fn shuffle(rt: HostRuntime) -> Result<(), Fail> {
+    let alloc = rt.alloc();
+    let (effect, context) = (Shipped::Shuffle, Context::Filter);
+    let names = one_clip(alloc, "Source")?;
+    let optional = flags_of(alloc, &[false])?;
+    let values = values_of(alloc, 7, &[3, 4, 0, 1], &[true], PROJECT)?;
+    let params = [
+        choice("r", &SAMPLES, 0),
+        choice("g", &SAMPLES, 1),
+        choice("b", &SAMPLES, 2),
+        choice("a", &SAMPLES, 3),
+    ];
+    let wanted = Row {
+        label: "shuffle",
+        params: &params,
+        sources: &[Frame {
+            clip: 0,
+            frame: 7,
+            picture: Picture::First,
+        }],
+        bytes: &[[128, 0, 10, 200], [255, 0, 0, 255], [0, 0, 3, 2]],
+        shorts: &[[128, 0, 10, 200], [255, 0, 0, 255], [0, 0, 3, 2]],
+        ..FILTERED
+    };
+    byte_row(
+        &rt,
+        alloc,
+        effect,
+        context,
+        &names,
+        &optional,
+        &[Components::Rgba],
+        &values,
+        &[SOURCE],
+        &wanted,
+    )?;
+    short_row(
+        &rt,
+        alloc,
+        effect,
+        context,
+        &[Components::Rgba],
+        &values,
+        &wanted,
+    )
+}
+
+#[test]
+fn saturation(rt: HostRuntime) -> Result<(), Fail> {
+    let alloc = rt.alloc();
+    let (effect, context) = (Shipped::Saturation, Context::Filter);
+    let names = one_clip(alloc, "Source")?;
+    let optional = flags_of(alloc, &[false])?;
+    let values = values_of(alloc, 7, &[98304], &[true], PROJECT)?;
+    let params = [fix("amount", 0, 262144, 65536)];
+    let wanted = Row {
+        label: "saturation",
+        params: &params,
+        sources: &[Frame {
+            clip: 0,
+            frame: 7,
+            picture: Picture::First,
+        }],
+        bytes: &[[0, 226, 0, 128], [0, 255, 255, 255], [3, 2, 0, 0]],
+        shorts: &[[0, 226, 0, 128], [0, 282, 280, 255], [3, 2, 0, 0]],
+        ..FILTERED
+    };
+    byte_row(
+        &rt,
+        alloc,
+        effect,
+        context,
+        &names,
+        &optional,
+        &[Components::Rgba],
+        &values,
+        &[SOURCE],
+        &wanted,
+    )?;
+    short_row(
+        &rt,
+        alloc,
+        effect,
+        context,
+        &[Components::Rgba],
+        &values,
+        &wanted,
+    )
+}
+
+#[test]
+fn posterise(rt: HostRuntime) -> Result<(), Fail> {
+    let alloc = rt.alloc();
+    let (effect, context) = (Shipped::Posterise, Context::Filter);
+    let names = one_clip(alloc, "Source")?;
+    let optional = flags_of(alloc, &[false])?;
+    let values = values_of(alloc, 7, &[3], &[true], PROJECT)?;
+    let params = [int("levels", 2, 256, 256)];
+    let wanted = Row {
+        label: "posterise",
+        depths: &BYTES,
+        params: &params,
+        sources: &[Frame {
+            clip: 0,
+            frame: 7,
+            picture: Picture::First,
+        }],
+        bytes: &[[0, 255, 0, 128], [0, 255, 255, 255]],
+        ..FILTERED
+    };
+    byte_row(
+        &rt,
+        alloc,
+        effect,
+        context,
+        &names,
+        &optional,
+        &[Components::Rgba],
+        &values,
+        &[SOURCE],
+        &wanted,
+    )
+}

@@ -1,0 +1,180 @@
+//! Effects that read other frames: all their actions, and pixels worked by hand at both depths.
+use crate::asking::{Row, byte_row, flags_of, one_clip, short_row, values_of};
+use crate::rows::{
+    AROUND, BEFORE_AND_NOW, FILTERED, LAST_TWO, NEXT, NOW_AND_NEXT, PROJECT, SOURCE, SOURCE_CLIP,
+    UNSAFE, int,
+};
+use fx_effect::{Context, Identity};
+use fx_pixel::Components;
+use fx_shipped::Shipped;
+use std::test::Fail;
+
+#[test]
+fn timeoffset(rt: HostRuntime) -> Result<(), Fail> {
+    let alloc = rt.alloc();
+    let (effect, context) = (Shipped::Timeoffset, Context::Filter);
+    let names = one_clip(alloc, "Source")?;
+    let optional = flags_of(alloc, &[false])?;
+    let values = values_of(alloc, 7, &[-1], &[true], PROJECT)?;
+    let params = [int("offset", -100000, 100000, 0)];
+    let wanted = Row {
+        label: "timeoffset",
+        temporal: 1,
+        clips: &SOURCE_CLIP,
+        params: &params,
+        frames: &NEXT,
+        identity: Identity::Same { clip: 0, frame: 8 },
+        sources: &NOW_AND_NEXT,
+        bytes: &[[20, 0, 0, 255], [0, 0, 0, 0], [255, 255, 255, 255]],
+        shorts: &[[20, 0, 0, 255], [0, 0, 0, 0], [255, 255, 255, 255]],
+        ..FILTERED
+    };
+    byte_row(
+        &rt,
+        alloc,
+        effect,
+        context,
+        &names,
+        &optional,
+        &[Components::Rgba],
+        &values,
+        &[SOURCE],
+        &wanted,
+    )?;
+    short_row(
+        &rt,
+        alloc,
+        effect,
+        context,
+        &[Components::Rgba],
+        &values,
+        &wanted,
+    )
+}
+
+#[test]
+fn frameblend(rt: HostRuntime) -> Result<(), Fail> {
+    let alloc = rt.alloc();
+    let (effect, context) = (Shipped::Frameblend, Context::Filter);
+    let names = one_clip(alloc, "Source")?;
+    let optional = flags_of(alloc, &[false])?;
+    let values = values_of(alloc, 7, &[1], &[true], PROJECT)?;
+    let params = [int("radius", 0, 16, 1)];
+    let wanted = Row {
+        label: "frameblend",
+        temporal: 1,
+        safety: UNSAFE,
+        clips: &SOURCE_CLIP,
+        params: &params,
+        frames: &AROUND,
+        sources: &NOW_AND_NEXT,
+        bytes: &[[10, 67, 10, 128], [0, 85, 85, 85], [86, 86, 85, 85]],
+        shorts: &[[10, 67, 10, 128], [0, 85, 85, 85], [86, 86, 85, 85]],
+        ..FILTERED
+    };
+    byte_row(
+        &rt,
+        alloc,
+        effect,
+        context,
+        &names,
+        &optional,
+        &[Components::Rgba],
+        &values,
+        &[SOURCE],
+        &wanted,
+    )?;
+    short_row(
+        &rt,
+        alloc,
+        effect,
+        context,
+        &[Components::Rgba],
+        &values,
+        &wanted,
+    )
+}
+
+#[test]
+fn framediff(rt: HostRuntime) -> Result<(), Fail> {
+    let alloc = rt.alloc();
+    let (effect, context) = (Shipped::Framediff, Context::Filter);
+    let names = one_clip(alloc, "Source")?;
+    let optional = flags_of(alloc, &[false])?;
+    let values = values_of(alloc, 7, &[1], &[true], PROJECT)?;
+    let params = [int("gap", 1, 16, 1)];
+    let wanted = Row {
+        label: "framediff",
+        temporal: 1,
+        clips: &SOURCE_CLIP,
+        params: &params,
+        frames: &LAST_TWO,
+        sources: &BEFORE_AND_NOW,
+        bytes: &[[10, 200, 30, 255], [0, 255, 254, 255], [252, 253, 254, 255]],
+        shorts: &[[10, 200, 30, 255], [0, 255, 254, 255], [252, 253, 254, 255]],
+        ..FILTERED
+    };
+    byte_row(
+        &rt,
+        alloc,
+        effect,
+        context,
+        &names,
+        &optional,
+        &[Components::Rgba],
+        &values,
+        &[SOURCE],
+        &wanted,
+    )?;
+    short_row(
+        &rt,
+        alloc,
+        effect,
+        context,
+        &[Components::Rgba],
+        &values,
+        &wanted,
+    )
+}
+
+#[test]
+fn echo(rt: HostRuntime) -> Result<(), Fail> {
+    let alloc = rt.alloc();
+    let (effect, context) = (Shipped::Echo, Context::Filter);
+    let names = one_clip(alloc, "Source")?;
+    let optional = flags_of(alloc, &[false])?;
+    let values = values_of(alloc, 7, &[1, 1], &[true], PROJECT)?;
+    let params = [int("count", 0, 8, 2), int("gap", 1, 8, 1)];
+    let wanted = Row {
+        label: "echo",
+        temporal: 1,
+        clips: &SOURCE_CLIP,
+        params: &params,
+        frames: &LAST_TWO,
+        sources: &BEFORE_AND_NOW,
+        bytes: &[[10, 200, 30, 128], [0, 255, 254, 255], [127, 127, 127, 127]],
+        shorts: &[[10, 200, 30, 128], [0, 255, 254, 255], [127, 127, 127, 127]],
+        ..FILTERED
+    };
+    byte_row(
+        &rt,
+        alloc,
+        effect,
+        context,
+        &names,
+        &optional,
+        &[Components::Rgba],
+        &values,
+        &[SOURCE],
+        &wanted,
+    )?;
+    short_row(
+        &rt,
+        alloc,
+        effect,
+        context,
+        &[Components::Rgba],
+        &values,
+        &wanted,
+    )
+}
