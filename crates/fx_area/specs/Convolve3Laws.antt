@@ -207,9 +207,11 @@ convolved_here v depth c value x y some keeps deep of =
     t left high ∷ t x high ∷ t right high ∷ t left y ∷ t x y ∷ t right y ∷ t left low ∷ t x low ∷ t right low ∷ [] in
     let pixel = middle_pixel depth (divisor v) (p left high) (p x high) (p right high) (p left y) (p x y) (p right y)
     (p left low) (p x low) (p right low) some deep in
-    let whole = subst (λ k. convolved k (greatest depth) (middle_alone (divisor v)) (divisor v) (map value taps) ≡ p x y)
+    let whole = subst
+    (λ k. convolved k (greatest depth) (middle_alone (divisor v)) (divisor v) (map value taps) ≡ p x y)
     of pixel in
-    let made = subst (λ ks. convolved c (greatest depth) ks (divisor v) (map value taps) ≡ p x y) (sym keeps.factors_are)
+    let made = subst (λ ks. convolved c (greatest depth) ks (divisor v) (map value taps) ≡ p x y)
+    (sym keeps.factors_are)
     whole in
     subst (λ ts. (convolved c (greatest depth) (factors v) (divisor v) (map value ts) ≡ p x y) × Contains ts (t x y))
     (sym (nine_are t x y)) (made, (4, omega arith, refl))

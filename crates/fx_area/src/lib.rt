@@ -8,6 +8,8 @@ mod dilate;
 mod erode;
 mod extreme;
 mod lines;
+#[cfg(test)]
+mod tests;
 
 pub use boxblur::Boxblur;
 pub use convolve3::Convolve3;

@@ -67,8 +67,12 @@ pub crop_numbers : (context : Context) (v : Values) → IsLawfulIn crop_shape co
     → Between (negsuc 16383) (pos 16384) (number v 0) × Between (negsuc 16383) (pos 16384) (number v 1)
     × Between (pos 0) (pos 16384) (number v 2) × Between (pos 0) (pos 16384) (number v 3)
 crop_numbers context v lawful =
-    let at : ParamDef = corner [] in
-    (number_between crop_params v 0 at lawful.numbers (omega arith), number_between crop_params v 1 at lawful.numbers (omega arith), number_between crop_params v 2 at lawful.numbers (omega arith), number_between crop_params v 3 at lawful.numbers (omega arith))
+    let at : ParamDef = corner [] in (
+      number_between crop_params v 0 at lawful.numbers (omega arith),
+      number_between crop_params v 1 at lawful.numbers (omega arith),
+      number_between crop_params v 2 at lawful.numbers (omega arith),
+      number_between crop_params v 3 at lawful.numbers (omega arith),
+    )
 
 -- ---- its laws
 

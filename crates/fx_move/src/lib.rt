@@ -9,3 +9,6 @@ mod translate;
 pub use crop::Crop;
 pub use mirror::Mirror;
 pub use translate::Translate;
+
+#[cfg(test)]
+mod tests;

@@ -9,3 +9,4 @@ pub mod EchoLaws
 pub mod Frameblend
 pub mod FrameblendLaws
 pub mod BlendRows
+pub mod Here

@@ -186,7 +186,8 @@ struct EchoRows<'a, 'b> {
 impl<'a, 'b> RowKernel for EchoRows<'a, 'b> {
     ghost makes = { λ k depth c. ShowsClip k.inputs.now 0 depth c × IsFrame k.frame × (k.count ≤ 8) × (k.gap ≤ 8) };
 
-    ghost pixel = { λ k depth c x y. echoed k.count c (map (input_pixel k.inputs.now) (own_taps (map source_at (moments k.frame k.gap (suc k.count))) x y)) };
+    ghost pixel = { λ k depth c x y. echoed k.count c
+        (map (input_pixel k.inputs.now) (own_taps (map source_at (moments k.frame k.gap (suc k.count))) x y)) };
 
     ghost byte_count = { λ k depth c rect. columns rect * pixel_size depth c };
 

@@ -151,7 +151,8 @@ struct BlendRows<'a, 'b> {
 }
 
 impl<'a, 'b> RowKernel for BlendRows<'a, 'b> {
-    ghost makes = { λ k depth c. ShowsClip k.inputs.now 0 depth c × IsFrame k.frame × (k.radius ≤ 16) × (k.mean ≡ 2 * k.radius + 1) };
+    ghost makes = { λ k depth c. ShowsClip k.inputs.now 0 depth c × IsFrame k.frame × (k.radius ≤ 16)
+        × (k.mean ≡ 2 * k.radius + 1) };
 
     ghost pixel = { λ k depth c x y. blend_pixel k.inputs.now k.frame k.radius c x y };
 

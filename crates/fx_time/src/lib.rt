@@ -6,6 +6,8 @@ mod echo;
 mod frameblend;
 mod framediff;
 mod parts;
+#[cfg(test)]
+mod tests;
 mod timeoffset;
 mod weight;
 

@@ -4,3 +4,4 @@ pub mod Dissolve
 pub mod DissolveLaws
 pub mod Wipe
 pub mod WipeLaws
+pub mod Here

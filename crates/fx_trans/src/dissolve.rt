@@ -130,9 +130,11 @@ struct DissolveRows<'a, 'b> {
 }
 
 impl<'a, 'b> RowKernel for DissolveRows<'a, 'b> {
-    ghost makes = { λ k depth c. ShowsClip k.inputs.now 0 depth c × ShowsClip k.inputs.now 1 depth c × (k.level ≤ 65536) };
+    ghost makes = { λ k depth c. ShowsClip k.inputs.now 0 depth c × ShowsClip k.inputs.now 1 depth c
+        × (k.level ≤ 65536) };
 
-    ghost pixel = { λ k depth c x y. dissolved k.level c (row_pixel k.inputs.now 0 k.frame x y) (row_pixel k.inputs.now 1 k.frame x y) };
+    ghost pixel = { λ k depth c x y. dissolved k.level c (row_pixel k.inputs.now 0 k.frame x y)
+        (row_pixel k.inputs.now 1 k.frame x y) };
 
     ghost byte_count = { λ k depth c rect. columns rect * pixel_size depth c };
 

@@ -4,6 +4,8 @@
 
 mod dissolve;
 mod parts;
+#[cfg(test)]
+mod tests;
 mod wipe;
 
 pub use dissolve::Dissolve;

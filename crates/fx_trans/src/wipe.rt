@@ -197,7 +197,8 @@ impl<'a, 'b> WipeRows<'a, 'b> {
 impl<'a, 'b> RowKernel for WipeRows<'a, 'b> {
     ghost makes = { λ k depth c. ShowsClip k.inputs.now 0 depth c × ShowsClip k.inputs.now 1 depth c };
 
-    ghost pixel = { λ k depth c x y. wiped k.level k.edge x (row_pixel k.inputs.now 0 k.frame x y) (row_pixel k.inputs.now 1 k.frame x y) };
+    ghost pixel = { λ k depth c x y. wiped k.level k.edge x (row_pixel k.inputs.now 0 k.frame x y)
+        (row_pixel k.inputs.now 1 k.frame x y) };
 
     ghost byte_count = { λ k depth c rect. columns rect * pixel_size depth c };
 
