@@ -1,6 +1,6 @@
 #!/usr/bin/env bash
-# graph.sh: how long the text of a graph of 256 nodes takes to be read, with 10, 100 and 1,000 keys a node.
-# What it takes to make the text is taken off.
+# graph.sh: how long the text of a graph of 256 nodes takes to be read, and what is read to be accepted over the
+# effects that are shipped, with 10, 100 and 1,000 keys a node. What it takes to make the text is taken off.
 set -eu
 here=$(cd "$(dirname "${BASH_SOURCE[0]}")/.." && pwd)
 program=$here/crates/fx_speed/out/fx_speed
@@ -24,6 +24,9 @@ took() {
 
 for keys in 10 100 1000; do
   bytes=$("$program" graph $keys | sed 's/.*: //')
-  nanoseconds=$(($(took parse $keys) - $(took graph $keys)))
-  echo "256 nodes with $keys keys each, $((bytes / 1000)) KB: $((nanoseconds / 1000)) microseconds, $((bytes * 1000 / nanoseconds)) MB a second"
+  made=$(took graph $keys)
+  read=$(took parse $keys)
+  accepted=$(took accept $keys)
+  nanoseconds=$((read - made))
+  echo "256 nodes with $keys keys each, $((bytes / 1000)) KB: $((nanoseconds / 1000)) microseconds to read, $((bytes * 1000 / nanoseconds)) MB a second, and $(((accepted - read) / 1000)) to accept"
 done

@@ -4,7 +4,8 @@
 //! workers. `file` makes the bytes of a PAM file with so many rows of 1,920 pixels and `read` reads them
 //! too, of r, g, b and a; with `rgb`, `scaled` or `short` behind its name, of other samples. `image` makes
 //! an image of that width, and `write` and `write_rgb` write it too. `graph` makes the text of a graph of 256
-//! nodes with so many keys each, and `parse` reads it too. Several such pairs are done in their order.
+//! nodes with so many keys each, `parse` reads it too, and `accept` reads it and accepts it over the effects that are
+//! shipped. Several such pairs are done in their order.
 #![tactic(auto)]
 
 mod graph;
@@ -43,6 +44,7 @@ fn main(rt: HostRuntime) -> ExitCode {
                 .map(|text| text.len() as u64)
                 .ok(),
             "parse" => graph::read(rt.alloc(), count).ok(),
+            "accept" => graph::accepted(rt.alloc(), count).ok(),
             "kept" => kept::ask_kept(rt.alloc(), count).ok(),
             "turn" => turns::add_alone(&rt, count).ok(),
             "turns" => turns::add_together(&rt, count).ok(),
