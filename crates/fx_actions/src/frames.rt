@@ -24,7 +24,9 @@ pub fn frames_needed<E: ImageEffect>(
 ) -> Result<Vec<Vec<(i64, i64)>>, Memory>
     requires names { NamesClips (E.meaning effect.now).shape values.now names.now }
     requires frame { IsFrame values.now.frame }
-    ensures { IfOk result (λ frames. map (λ spans. spans.items) frames.items ≡ each_clip names.now ((E.meaning effect.now).spans values.now)) }
+    ensures { IfOk result
+        (λ frames. map (λ spans. spans.items) frames.items
+        ≡ each_clip names.now ((E.meaning effect.now).spans values.now)) }
 {
     let in_args = time_args(alloc, values.frame)?;
     let mut out_args = clip_set_of_blanks(alloc, CLIP_FRAMES, PropKind::Fix, names)?;
@@ -36,7 +38,8 @@ pub fn frames_needed<E: ImageEffect>(
 
 fn frames_in(alloc: Global, set: &PropSet, names: &Names) -> Result<Vec<Vec<(i64, i64)>>, Memory>
     requires { ShowsAllFrames set.now names.now }
-    ensures { (spans : ℕ → List (ℤ × ℤ)) → AreFrames set.now names.now spans → IfOk result (λ found. map (λ s. s.items) found.items ≡ each_clip names.now spans) }
+    ensures { (spans : ℕ → List (ℤ × ℤ)) → AreFrames set.now names.now spans
+        → IfOk result (λ found. map (λ s. s.items) found.items ≡ each_clip names.now spans) }
 {
     let mut frames = Vec::new(alloc);
     for name in names.items() {
@@ -48,7 +51,8 @@ fn frames_in(alloc: Global, set: &PropSet, names: &Names) -> Result<Vec<Vec<(i64
 // The frames of one clip.
 fn frames_of(alloc: Global, set: &PropSet, clip: &str) -> Result<Vec<(i64, i64)>, Memory>
     requires { ShowsFrames set.now (CLIP_FRAMES.now ++ clip.now) }
-    ensures { (spans : List (ℤ × ℤ)) → HasValues set.now (frames_entry (CLIP_FRAMES.now ++ clip.now) spans) → IfOk result (λ found. found.items ≡ spans) }
+    ensures { (spans : List (ℤ × ℤ)) → HasValues set.now (frames_entry (CLIP_FRAMES.now ++ clip.now) spans)
+        → IfOk result (λ found. found.items ≡ spans) }
 {
     let property = composed(alloc, CLIP_FRAMES, clip)?;
     frames_at(alloc, set, property.text())

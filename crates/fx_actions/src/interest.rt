@@ -27,7 +27,8 @@ pub fn regions_of_interest<E: ImageEffect>(
     requires names { NamesClips (E.meaning effect.now).shape values.now names.now }
     requires frame { IsFrame values.now.frame }
     requires window { IsWindow window }
-    ensures { IfOk result (λ regions. regions.items ≡ each_clip names.now ((E.meaning effect.now).roi values.now window)) }
+    ensures { IfOk result
+        (λ regions. regions.items ≡ each_clip names.now ((E.meaning effect.now).roi values.now window)) }
 {
     let in_args = interest_args(alloc, values.frame, window)?;
     let mut out_args = clip_set_of_blanks(alloc, CLIP_REGION, PropKind::Fix, names)?;
@@ -39,7 +40,8 @@ pub fn regions_of_interest<E: ImageEffect>(
 
 fn regions_in(alloc: Global, set: &PropSet, names: &Names) -> Result<Vec<Rect>, Memory>
     requires { ShowsInterest set.now names.now }
-    ensures { (regions : ℕ → Bounds) → IsInterest set.now names.now regions → IfOk result (λ found. found.items ≡ each_clip names.now regions) }
+    ensures { (regions : ℕ → Bounds) → IsInterest set.now names.now regions
+        → IfOk result (λ found. found.items ≡ each_clip names.now regions) }
 {
     let mut regions = Vec::new(alloc);
     for name in names.items() {
@@ -51,7 +53,8 @@ fn regions_in(alloc: Global, set: &PropSet, names: &Names) -> Result<Vec<Rect>, 
 // The region of one clip.
 fn region_in(alloc: Global, set: &PropSet, clip: &str) -> Result<Rect, Memory>
     requires { ShowsRegion set.now (CLIP_REGION.now ++ clip.now) }
-    ensures { (r : Bounds) → IsRect r → HasValues set.now (region_entry (CLIP_REGION.now ++ clip.now) r) → IfOk result (λ found. found ≡ r) }
+    ensures { (r : Bounds) → IsRect r → HasValues set.now (region_entry (CLIP_REGION.now ++ clip.now) r)
+        → IfOk result (λ found. found ≡ r) }
 {
     let property = composed(alloc, CLIP_REGION, clip)?;
     Ok(region_at(set, property.text()))

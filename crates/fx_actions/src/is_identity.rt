@@ -15,7 +15,8 @@ pub fn identity<E: ImageEffect>(effect: &E, values: &Values, args: &PropSet) -> 
     requires frame { IsFrame values.now.frame }
     requires time { HasTime args.now values.now.frame }
     requires window { AsksWindow args.now }
-    ensures { (window : Bounds) → IsWindow window → HasWindow args.now window → result ≡ (E.meaning effect.now).same values.now window }
+    ensures { (window : Bounds) → IsWindow window → HasWindow args.now window
+        → result ≡ (E.meaning effect.now).same values.now window }
 {
     effect.is_identity(values, args)
 }

@@ -59,7 +59,8 @@ fn default_region(context: Context, optional: &Flags, values: &Values, regions: 
 fn hull_of_required(optional: &[bool], connected: &[bool], regions: &[Rect]) -> Option<Rect>
     requires flags { length optional.now ≡ length regions.now }
     requires connected { length connected.now ≡ length regions.now }
-    ensures { result ≡ (if has_required optional.now connected.now then Some (hull_from none optional.now connected.now regions.now) else None) }
+    ensures { result ≡ (if has_required optional.now connected.now
+        then Some (hull_from none optional.now connected.now regions.now) else None) }
 {
     let mut hull = None;
     for (clip, region) in regions.iter().enumerate() {

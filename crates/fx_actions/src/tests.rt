@@ -62,7 +62,13 @@ const EMPTY: Rect = Rect {
 
 // The values of an instance at frame 7, on a project of 8 by 6 pixels.
 fn values_of(alloc: Global, connected: &[bool]) -> Result<Values, Memory>
-    ensures { IfOk result (λ v. v ≡ record { frame = pos 7; numbers = []; connected = connected.now; project = record { x1 = pos 0; y1 = pos 0; x2 = pos 8; y2 = pos 6 } }) }
+    ensures { IfOk result
+        (λ v. v ≡ record {
+          frame = pos 7;
+          numbers = [];
+          connected = connected.now;
+          project = record { x1 = pos 0; y1 = pos 0; x2 = pos 8; y2 = pos 6 };
+        }) }
 {
     Ok(Values {
         frame: 7,

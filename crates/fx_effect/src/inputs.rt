@@ -27,7 +27,11 @@ impl<'a> Model for Inputs<'a> {
 
     ghost use Rattle.fx_effect.specs.Placed.{given_piece, ArePlaced};
 
-    ghost view = { λ a. record { depth = a.depth; components = a.components.items; pieces = map given_piece a.pieces.items } };
+    ghost view = { λ a. record {
+      depth = a.depth;
+      components = a.components.items;
+      pieces = map given_piece a.pieces.items;
+    } };
 
     ghost invariant = { λ a. ArePlaced a.pieces.items };
 }

@@ -20,7 +20,8 @@ scale m (negsuc n) = 0
 
 -- r, g, b and a, or a alone
 abbrev pub colour : Values → Components → ℕ → Pixel
-colour v components.Rgba m = Rgba (scale m (number v 0)) (scale m (number v 1)) (scale m (number v 2)) (scale m (number v 3))
+colour v components.Rgba m =
+    Rgba (scale m (number v 0)) (scale m (number v 1)) (scale m (number v 2)) (scale m (number v 3))
 colour v components.Alpha m = Alpha (scale m (number v 3))
 
 -- a level from 0 to 1
@@ -29,7 +30,9 @@ level name start = fix_def name (pos 0) (pos 65536) start
 
 -- opaque black at the start
 abbrev pub levels : List ParamDef
-levels = level (codes "r") (pos 0) ∷ level (codes "g") (pos 0) ∷ level (codes "b") (pos 0) ∷ level (codes "a") (pos 65536) ∷ []
+levels =
+    level (codes "r") (pos 0) ∷ level (codes "g") (pos 0) ∷ level (codes "b") (pos 0) ∷ level (codes "a") (pos 65536)
+    ∷ []
 
 abbrev pub solid_shape : Shape
 solid_shape = generator_shape (codes "solid") levels

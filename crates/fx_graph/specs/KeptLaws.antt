@@ -137,7 +137,8 @@ same_components components.Alpha = refl
 pub components_found : (c : Components) (cs : List Components) → Contains cs c → IsTrue (list_any (is_components c) cs)
 components_found c [] (k, low, is) = absurd (omega (arith, low))
 components_found c (x ∷ cs) (zero, low, is) =
-    left (is_components c x) (list_any (is_components c) cs) (subst (λ y. is_components c y ≡ true) (sym is) (same_components c))
+    left (is_components c x) (list_any (is_components c) cs)
+    (subst (λ y. is_components c y ≡ true) (sym is) (same_components c))
   where
     left : (a b : Bool) → a ≡ true → a || b ≡ true
     left true b h = refl
@@ -156,7 +157,8 @@ pub negotiated_supported : (s : Shape) (inputs : List Input) (project : Form) �
 negotiated_supported s inputs project is =
     both _ _
     (among_supported _ _ (deepest project.0 inputs) (λ d. has_depth s d) refl refl (some_depth s.depths is.some_depth))
-    (widest_supported (has_alpha s) (widest project.1 inputs) (λ c. list_any (is_components c) s.components) (components_found components.Rgba s.components is.rgba) refl)
+    (widest_supported (has_alpha s) (widest project.1 inputs) (λ c. list_any (is_components c) s.components)
+    (components_found components.Rgba s.components is.rgba) refl)
 
 pub renders_node : {E : Type 0} (meaning : E → Meaning) (project : Form) (before : List (Shown E)) (form : Form)
     (does : Does E) → ((e : E) → IsShape (meaning e).shape) → IsDoing meaning project before form does
@@ -164,4 +166,5 @@ pub renders_node : {E : Type 0} (meaning : E → Meaning) (project : Form) (befo
 renders_node meaning project before form (Source pattern first last hold) shapes h = tt
 renders_node meaning project before form (Effect e c clips names optional masks params) shapes h =
     let s = (meaning e).shape in
-    subst (λ f. IsTrue (supports s f.0 f.1)) (sym h.1) (negotiated_supported s (inputs_of before clips masks) project (shapes e))
+    subst (λ f. IsTrue (supports s f.0 f.1)) (sym h.1)
+    (negotiated_supported s (inputs_of before clips masks) project (shapes e))

@@ -75,7 +75,8 @@ abbrev pub param_fault : ℕ → RawParam → Option ParamDef → Option Fault
 param_fault k p None = Some (refusal UnknownParam (param_path k p.name))
 param_fault k p (Some def) =
     let path = param_path k p.name in
-    first_of (where_so (is_refused def p.value) ParamRefused path ∷ where_so (not (is_rising p.value)) KeysNotRising path ∷ [])
+    first_of (where_so (is_refused def p.value) ParamRefused path
+    ∷ where_so (not (is_rising p.value)) KeysNotRising path ∷ [])
 
 abbrev pub def_of : List ParamDef → List ℕ → Option ParamDef
 def_of defs name = find (λ d. bytes_eq d.name name) defs

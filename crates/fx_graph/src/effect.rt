@@ -282,7 +282,8 @@ fn push_form<E>(
     node: Option<&Node<E>>,
     mask: bool,
 ) -> Result<(), Memory>
-    ensures { OnOk result (forms.new.items ≡ forms.old.items ++ form_at (option_map shown (option_copied node.entry)) mask) }
+    ensures { OnOk result
+        (forms.new.items ≡ forms.old.items ++ form_at (option_map shown (option_copied node.entry)) mask) }
 {
     if let Some(node) = node {
         forms.push((node.depth, node.components, mask))?;

@@ -32,7 +32,7 @@ pub struct Graph<E: Catalogue> {
     ghost named: { IsTrue (is_output file) },
     ghost range: { IsRange first last },
     ghost rendered: { HasOutput (length nodes.items) output },
-    ghost kept: { AreNodes E.meaning (depth, components) (map shown nodes.items) } by { nodes_prop E.meaning (depth, components) (map shown nodes.items) },
+    pub ghost kept: { AreNodes E.meaning (depth, components) (map shown nodes.items) } by { nodes_prop E.meaning (depth, components) (map shown nodes.items) },
 }
 
 /// At every frame the values of an effect are lawful in its context.

@@ -280,7 +280,10 @@ fn set_keys(alloc: Global, param: &mut Param, keys: &[RawKey]) -> Result<(), Mem
 }
 
 fn set_key(alloc: Global, param: &mut Param, key: &RawKey) -> Result<(), Memory>
-    ensures { OnOk result (param.new ≡ record param.old { keys = key_put param.old.keys key.now.frame (value_in param.old.def key.now.value) }) }
+    ensures { OnOk result
+        (param.new ≡ record param.old {
+          keys = key_put param.old.keys key.now.frame (value_in param.old.def key.now.value);
+        }) }
 {
     match value_in(param.def(), &key.value) {
         Some(value) => put_key(alloc, param, key.frame, value),
@@ -292,7 +295,10 @@ fn put_key(alloc: Global, param: &mut Param, frame: i64, value: ParamValue) -> R
     requires low { neg_ℤ (pos 999999) ≤ℤ frame }
     requires high { frame ≤ℤ pos 999999 }
     requires taken { refused_by param.old.def value ≡ None }
-    ensures { OnOk result (param.new ≡ record param.old { keys = with_key param.old.keys (record { frame = frame; value = number_of value }) }) }
+    ensures { OnOk result
+        (param.new ≡ record param.old {
+          keys = with_key param.old.keys (record { frame = frame; value = number_of value });
+        }) }
 {
     match param.set_key(alloc, frame, value) {
         Ok(()) => Ok(()),

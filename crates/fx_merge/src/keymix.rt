@@ -205,11 +205,14 @@ impl<'a, 'b> KeyRows<'a, 'b> {
 }
 
 impl<'a, 'b> RowKernel for KeyRows<'a, 'b> {
-    ghost makes = { λ k depth c. ShowsClip k.inputs.now 0 depth c × ShowsClip k.inputs.now 1 depth c × ShowsClip k.inputs.now 2 depth samples.Alpha };
+    ghost makes = { λ k depth c. ShowsClip k.inputs.now 0 depth c × ShowsClip k.inputs.now 1 depth c
+        × ShowsClip k.inputs.now 2 depth samples.Alpha };
 
-    ghost pixel = { λ k depth c x y. let of = row_pixel k.inputs.now in keyed (greatest depth) (of 0 k.frame x y) (of 1 k.frame x y) (of 2 k.frame x y) };
+    ghost pixel = { λ k depth c x y. let of = row_pixel k.inputs.now in
+        keyed (greatest depth) (of 0 k.frame x y) (of 1 k.frame x y) (of 2 k.frame x y) };
 
-    ghost byte_count = { λ k depth c rect. columns rect * pixel_size depth c + columns rect * pixel_size depth samples.Alpha };
+    ghost byte_count = { λ k depth c rect. columns rect * pixel_size depth c
+        + columns rect * pixel_size depth samples.Alpha };
 
     fn fill_row(
         &self,

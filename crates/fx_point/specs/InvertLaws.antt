@@ -16,7 +16,8 @@ use Rattle.fx_effect.specs.declared.action.Safety.TheVariants.{FullySafe}
 use Rattle.fx_point.specs.Invert.{inverted, invert_shape, invert}
 
 inverted_of_depth : (depth : Depth) (p : Pixel) → IsOfDepth depth p → IsOfDepth depth (inverted p)
-inverted_of_depth depth (Rgba r g b a) of_depth = (omega (arith, of_depth.3), omega (arith, of_depth.3), omega (arith, of_depth.3), of_depth.3)
+inverted_of_depth depth (Rgba r g b a) of_depth =
+    (omega (arith, of_depth.3), omega (arith, of_depth.3), omega (arith, of_depth.3), of_depth.3)
 inverted_of_depth depth (Alpha a) of_depth = of_depth
 
 inverted_components : (p : Pixel) → components_of (inverted p) ≡ components_of p

@@ -173,4 +173,5 @@ pub record IsGraph (g : Graph) : Type 0 where
 -- bytes that say the JSON value of a raw graph, however they are laid out, read as that graph
 abbrev pub PrintedReadsBack : Type 0
 PrintedReadsBack =
-    (g : Graph) (bytes : List ℕ) → IsGraph g → value_of bytes ≡ Some (graph_printed g) → read_graph bytes MOST_NODES MOST_SIDE ≡ Ok g
+    (g : Graph) (bytes : List ℕ) → IsGraph g → value_of bytes ≡ Some (graph_printed g)
+    → read_graph bytes MOST_NODES MOST_SIDE ≡ Ok g

@@ -229,7 +229,14 @@ impl Model for RawGraph {
 
     ghost Value = { Graph };
 
-    ghost view = { λ g. record { format = g.format; project = g.project; output = g.output; first = g.first; last = g.last; nodes = g.nodes } };
+    ghost view = { λ g. record {
+      format = g.format;
+      project = g.project;
+      output = g.output;
+      first = g.first;
+      last = g.last;
+      nodes = g.nodes;
+    } };
 
     ghost invariant = { λ g. IsHead g.format g.first g.last };
 }

@@ -12,7 +12,8 @@ abbrev pub number_rule : Text → ℤ → ℤ → Rule
 number_rule id least most = record (new_rule id) { long = Some id; parser = Some (value.Signed least most) }
 
 abbrev pub bare : App
-bare = on_top (λ s. record s { no_binary_name = true; disable_help_flag = true; disable_version_flag = true }) (new_app (codes "ofxr"))
+bare = on_top (λ s. record s { no_binary_name = true; disable_help_flag = true; disable_version_flag = true })
+    (new_app (codes "ofxr"))
 
 abbrev pub ofxr : App
 ofxr =

@@ -61,7 +61,8 @@ graph_text code path = codes "ofxr: graph: " ++ (code_text code ++ (path_text pa
 
 abbrev pub source_text : List ℕ → ℤ → FrameFault → List ℕ
 source_text node t fault =
-    codes "ofxr: frame: " ++ (node ++ (codes " " ++ (signed_decimal t ++ (codes " " ++ (frame_text fault ++ codes "\n")))))
+    codes "ofxr: frame: " ++ (node ++
+    (codes " " ++ (signed_decimal t ++ (codes " " ++ (frame_text fault ++ codes "\n")))))
 
 -- the line of a fault
 abbrev pub fault_text : RunFault → List ℕ
@@ -83,7 +84,8 @@ landed_text landed hits = codes "landed " ++ (decimal landed ++ (codes " hits " 
 
 abbrev pub render_text : ℕ → ℕ → ℕ → ℕ → ℕ → ℕ → ℕ → List ℕ
 render_text frames tiles void passed asked landed hits =
-    codes "frames " ++ (decimal frames ++ (codes "\n" ++ (tiles_text tiles void passed asked ++ landed_text landed hits)))
+    codes "frames " ++ (decimal frames ++
+    (codes "\n" ++ (tiles_text tiles void passed asked ++ landed_text landed hits)))
 
 abbrev pub check_text : ℕ → ℕ → ℕ → List ℕ
 check_text nodes frames wanted =
