@@ -1,0 +1,17 @@
+pub mod TableLemmas
+pub mod Members
+pub mod Places
+pub mod Equations
+pub mod Outside
+pub mod SpanLemmas
+pub mod ReadLemmas
+pub mod ReachLemmas
+pub mod OpenLemmas
+pub mod NearLemmas
+pub mod RankLemmas
+pub mod NodesLemmas
+pub mod GraphLemmas
+pub mod StepLemmas
+pub mod WantLemmas
+pub mod DependLemmas
+pub mod StoreLemmas

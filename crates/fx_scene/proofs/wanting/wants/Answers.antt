@@ -1,0 +1,18 @@
+use Rattle.std.proofs.Common.{rules, ◌≡◌, ℕ, ℤ, pos, subst, w64}
+use Rattle.std.proofs.lemmas.Int.{to_z-of_z}
+use mir.Val.{SFits}
+use Rattle.fx_scene.specs.Reach.{IsReach, has}
+use Rattle.fx_scene.specs.Scenes.{graph_nodes, graph_shown, no_images}
+use Rattle.fx_scene.proofs.wanting.wants.Goals as goal
+
+pub returns-clause-exact : goal.returns-clause-exact
+returns-clause-exact g c =
+    let nodes = graph_nodes g.E.ImageEffect.meaning (graph_shown c.args.graph.now) no_images in
+    let output = c.args.graph.now.output in
+    let moments = c.in_ok-moments.moments in
+    let f1 : SFits w64 c.from.result = search rules in
+    let f2 : SFits w64 c.from-2.result = search rules in
+    let least = simp to_z-of_z at c.in_ok-moments.ensures.least in
+    c.wants_at.ensures.exact output (pos c.args.first) (pos c.args.last)
+    (subst (λ (z : ℤ). IsReach nodes output z (pos c.args.last) (has moments)) c.from.ensures
+    (subst (λ (z : ℤ). IsReach nodes output c.from.result z (has moments)) c.from-2.ensures least))

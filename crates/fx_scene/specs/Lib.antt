@@ -1,0 +1,10 @@
+pub mod Table
+pub mod Nodes
+pub mod Value
+pub mod Frames
+pub mod Areas
+pub mod Reach
+pub mod Wants
+pub mod Depends
+pub mod Scenes
+pub mod Toy

@@ -1,0 +1,23 @@
+//! A graph with its source frames: the value of a node at a place, the picture of a frame, which nodes are
+//! reached at which frames, and which source frames a run wants. What stands in a node list has no type of
+//! effect in it, so all that is known of values and areas is known for every catalogue.
+#![tactic(auto)]
+
+mod key;
+pub mod laws;
+mod reaching;
+mod reads;
+mod scene;
+#[cfg(test)]
+mod tests;
+#[cfg(test)]
+mod toy;
+mod values;
+mod wanting;
+
+pub use key::Key;
+pub use reaching::{Moment, reach};
+pub use reads::frames_read;
+pub use scene::Scene;
+pub use values::use_values;
+pub use wanting::{shown_frame, wants};

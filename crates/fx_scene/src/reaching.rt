@@ -1,0 +1,139 @@
+//! Which nodes of a graph are reached at which frames.
+ghost use Rattle.std.specs.Prelude.{◌≡◌, ◌<◌, ◌≤◌, ◌≤ℤ◌, ℕ, ℤ, pos, neg_ℤ, length, map, slice_index_or, true, Some, None, IfOk, OnOk};
+ghost use Rattle.fx_base.specs.declared.limits.TheConstants.{LAST_FRAME};
+ghost use Rattle.fx_scene.specs.Scenes.{graph_nodes, graph_shown, no_images};
+ghost use Rattle.fx_scene.specs.Frames.{has_frame, items_of};
+ghost use Rattle.fx_scene.specs.Reach.{IsReach, IsReadBy, IsNearFrame, IsPlace, IsClipRead, Adds, has};
+
+use crate::reads::frames_read;
+use crate::values::use_values;
+use fx_base::Memory;
+use fx_effect::Catalogue;
+use fx_graph::{Graph, Work};
+use std::alloc::Global;
+use std::collections::BTreeSet;
+
+/// A node at a frame. They are ordered by node and then frame.
+#[derive(Clone, Copy, Debug, PartialEq, Eq, PartialOrd, Ord, Drop)]
+pub struct Moment {
+    pub node: u32,
+    pub frame: i64,
+}
+
+/// The nodes at frames that the output's node reads, itself included, from a first frame to a last: with each
+/// effect, the nodes of its clips at the frames that it needs of them. They stand by node and then frame, so
+/// all that one reads stands before it. Time grows with what is read, and not with the ways to it. With the
+/// first frame above the last there are none. `Memory` comes where memory is wanting.
+pub fn reach<E: Catalogue>(
+    alloc: Global,
+    graph: &Graph<E>,
+    first: i64,
+    last: i64,
+) -> Result<BTreeSet<Moment>, Memory>
+    requires low { neg_ℤ (pos LAST_FRAME) ≤ℤ first }
+    requires high { last ≤ℤ pos LAST_FRAME }
+    ensures least { let nodes = graph_nodes E.meaning (graph_shown graph.now) no_images in
+        IfOk result (λ moments. IsReach nodes graph.now.output first last (has moments)) }
+    ensures places { IfOk result (λ moments. (n : ℕ) (t : ℤ) → has moments n t ≡ true
+        → IsPlace (length graph.now.nodes.items) n t) }
+{
+    let mut pending = BTreeSet::new(alloc);
+    open_range(graph.output, first, last, &mut pending)?;
+    let mut reached = BTreeSet::new(alloc);
+    while let Some(moment) = pending.pop_last() {
+        open_reads(alloc, graph, moment, &mut pending)?;
+        reached.insert(moment)?;
+    }
+    Ok(reached)
+}
+
+// Opens a node at each frame of a range.
+fn open_range(
+    node: u32,
+    first: i64,
+    last: i64,
+    pending: &mut BTreeSet<Moment>,
+) -> Result<(), Memory>
+    requires low { neg_ℤ (pos LAST_FRAME) ≤ℤ first }
+    requires high { last ≤ℤ pos LAST_FRAME }
+    ensures { OnOk result (Adds (λ n t. (n ≡ node) × (first ≤ℤ t) × (t ≤ℤ last)) pending.old pending.new) }
+{
+    for frame in first..last + 1 {
+        pending.insert(Moment { node, frame })?;
+    }
+    Ok(())
+}
+
+// Opens what a node reads at a frame.
+fn open_reads<E: Catalogue>(
+    alloc: Global,
+    graph: &Graph<E>,
+    moment: Moment,
+    pending: &mut BTreeSet<Moment>,
+) -> Result<(), Memory>
+    requires place { IsPlace (length graph.now.nodes.items) moment.node moment.frame }
+    ensures { let nodes = graph_nodes E.meaning (graph_shown graph.now) no_images in
+        OnOk result (Adds (IsReadBy (nodes moment.node) moment.frame) pending.old pending.new) }
+{
+    match &graph.nodes[moment.node as usize].work {
+        Work::Source { .. } => Ok(()),
+        Work::Effect {
+            effect,
+            clips,
+            names,
+            params,
+            ..
+        } => {
+            let values = use_values(
+                alloc,
+                graph.project,
+                clips.as_slice(),
+                params.as_slice(),
+                moment.frame,
+            )?;
+            let reads = frames_read(alloc, effect, names, &values)?;
+            open_clips(clips.as_slice(), reads.as_slice(), pending)
+        }
+    }
+}
+
+// Opens the node of each clip at its frames.
+fn open_clips(
+    clips: &[Option<u32>],
+    reads: &[Vec<i64>],
+    pending: &mut BTreeSet<Moment>,
+) -> Result<(), Memory>
+    requires { length reads.now ≤ length clips.now }
+    ensures { OnOk result (Adds (IsClipRead clips.now (map items_of reads.now)) pending.old pending.new) }
+{
+    for c in 0..reads.len() {
+        open_clip(clips[c], reads[c].as_slice(), pending)?;
+    }
+    Ok(())
+}
+
+fn open_clip(
+    clip: Option<u32>,
+    frames: &[i64],
+    pending: &mut BTreeSet<Moment>,
+) -> Result<(), Memory>
+    ensures { OnOk result (Adds (λ n t. (clip ≡ Some n) × (has_frame frames.now t ≡ true)) pending.old pending.new) }
+{
+    match clip {
+        None => Ok(()),
+        Some(node) => open_frames(node, frames, pending),
+    }
+}
+
+// Opens a node at each of these frames.
+fn open_frames(node: u32, frames: &[i64], pending: &mut BTreeSet<Moment>) -> Result<(), Memory>
+    ensures { OnOk result (Adds (λ n t. (n ≡ node) × (has_frame frames.now t ≡ true)) pending.old pending.new) }
+{
+    for frame in frames {
+        pending.insert(Moment {
+            node,
+            frame: *frame,
+        })?;
+    }
+    Ok(())
+}

@@ -1,0 +1,126 @@
+//! Which source frames a run of a graph wants.
+ghost use Rattle.std.specs.Prelude.{◌≡◌, ◌<◌, ◌≤◌, ℕ, ℤ, pos, length, map, true, All, AllPairs, IfOk, OnOk};
+ghost use Rattle.std.specs.Option.{option_map};
+ghost use Rattle.fx_base.specs.declared.limits.TheConstants.{LAST_FRAME};
+ghost use Rattle.fx_seq.specs.Filling.{IsApart};
+ghost use Rattle.fx_scene.specs.Reach.{IsPlace, IsReach, has};
+ghost use Rattle.fx_scene.specs.Scenes.{graph_nodes, graph_shown, no_images, shown_frame};
+ghost use Rattle.fx_scene.specs.Wants.{AreWanted, IsNamedIn, WantsIn, is_last, with_entry};
+
+use crate::reaching::{Moment, reach};
+use fx_base::{Memory, Pattern};
+use fx_effect::Catalogue;
+use fx_graph::{Graph, Work};
+use fx_seq::Wanted;
+use std::alloc::Global;
+use std::collections::BTreeSet;
+
+/// The source frames that the frames from `first` to `last` want: those that the sources show which are
+/// reached, each once, by node and then frame, under the names of their files. Outside its frames a source
+/// shows the nearest one where it holds, and else none. With `first` above `last` there are none. `Memory`
+/// comes where memory is wanting.
+pub fn wants<E: Catalogue>(
+    alloc: Global,
+    graph: &Graph<E>,
+    first: u32,
+    last: u32,
+) -> Result<Vec<Wanted>, Memory>
+    requires { last ≤ LAST_FRAME }
+    ensures exact { let nodes = graph_nodes E.meaning (graph_shown graph.now) no_images in
+        IfOk result (λ wanted. AreWanted nodes graph.now.output (pos first) (pos last) wanted.items) }
+    ensures names { IfOk result (λ wanted. All (IsNamedIn (graph_shown graph.now)) wanted.items) }
+    ensures apart { IfOk result (λ wanted. AllPairs IsApart wanted.items) }
+{
+    let moments = reach(alloc, graph, i64::from(first), i64::from(last))?;
+    wants_at(alloc, graph, &moments)
+}
+
+// The frames that sources show at these moments.
+fn wants_at<E: Catalogue>(
+    alloc: Global,
+    graph: &Graph<E>,
+    moments: &BTreeSet<Moment>,
+) -> Result<Vec<Wanted>, Memory>
+    requires { let count = length graph.now.nodes.items in
+        (n : ℕ) (t : ℤ) → has moments.now n t ≡ true → IsPlace count n t }
+    ensures exact { let nodes = graph_nodes E.meaning (graph_shown graph.now) no_images in
+        (output : ℕ) (first last : ℤ) → IsReach nodes output first last (has moments.now)
+        → IfOk result (λ wanted. AreWanted nodes output first last wanted.items) }
+    ensures names { IfOk result (λ wanted. All (IsNamedIn (graph_shown graph.now)) wanted.items) }
+    ensures apart { IfOk result (λ wanted. AllPairs IsApart wanted.items) }
+{
+    let mut wanted = Vec::new(alloc);
+    for moment in moments {
+        want(alloc, graph, *moment, &mut wanted)?;
+    }
+    Ok(wanted)
+}
+
+// Wants what a node shows at a frame, where it is a source.
+fn want<E: Catalogue>(
+    alloc: Global,
+    graph: &Graph<E>,
+    moment: Moment,
+    wanted: &mut Vec<Wanted>,
+) -> Result<(), Memory>
+    requires { moment.node < length graph.now.nodes.items }
+    ensures { OnOk result (WantsIn (graph_shown graph.now) moment wanted.old.items wanted.new.items) }
+{
+    match &graph.nodes[moment.node as usize].work {
+        Work::Effect { .. } => Ok(()),
+        Work::Source {
+            pattern,
+            first,
+            last,
+            hold,
+        } => match shown_frame(*first, *last, *hold, moment.frame) {
+            None => Ok(()),
+            Some(frame) => want_frame(alloc, moment.node, pattern, frame, wanted),
+        },
+    }
+}
+
+// Wants a frame of a source, unless it is the one that was wanted last.
+fn want_frame(
+    alloc: Global,
+    node: u32,
+    pattern: &Pattern,
+    frame: u32,
+    wanted: &mut Vec<Wanted>,
+) -> Result<(), Memory>
+    ensures { OnOk result (wanted.new.items ≡ with_entry wanted.old.items node pattern.now frame) }
+{
+    if is_last(wanted.as_slice(), node, i64::from(frame)) {
+        return Ok(());
+    }
+    wanted.push(Wanted {
+        node,
+        frame: i64::from(frame),
+        name: pattern.name(alloc, frame)?,
+    })?;
+    Ok(())
+}
+
+fn is_last(wanted: &[Wanted], node: u32, frame: i64) -> bool
+    ensures { result ≡ is_last wanted.now node frame }
+{
+    match wanted.last() {
+        Some(w) => w.node == node && w.frame == frame,
+        None => false,
+    }
+}
+
+/// The frame that a source shows at a frame: its own where it has it; else the nearest where it holds, and
+/// else none.
+pub fn shown_frame(first: u32, last: u32, hold: bool, frame: i64) -> Option<u32>
+    requires { first ≤ last }
+    ensures { option_map pos result ≡ shown_frame first last hold frame }
+{
+    if frame < i64::from(first) {
+        if hold { Some(first) } else { None }
+    } else if i64::from(last) < frame {
+        if hold { Some(last) } else { None }
+    } else {
+        Some(frame as u32)
+    }
+}
