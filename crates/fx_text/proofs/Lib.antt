@@ -3,3 +3,4 @@ pub mod Rows
 pub mod Counts
 pub mod Pairs
 pub mod PrintedLaws
+pub mod Rising

@@ -15,7 +15,7 @@ mod tests;
 mod value;
 
 pub use fault::{GraphCode, GraphFault};
-pub use law::printed_graph_reads_back;
+pub use law::{names_rise, printed_graph_reads_back};
 pub use object::read_graph;
 pub use path::GraphPath;
 pub use raw::{

@@ -21,7 +21,6 @@ use crate::raw::{
     RawClips, RawContext, RawGraph, RawNode, RawNodes, RawOutput, RawParams, RawProject, RawRange,
     RawWork,
 };
-use crate::value::{RawClip, RawParam};
 use fx_base::limits::{LAST_FRAME, MOST_FRAMES};
 use fx_pixel::{Components, Depth, Format};
 use serde_json::Value;
@@ -242,23 +241,21 @@ fn effect_of(alloc: Global, path: &str, value: &Value) -> Result<RawNode, GraphF
         work: RawWork::Effect {
             effect,
             context,
-            clips: RawClips::of(clips),
-            params: RawParams::of(params),
+            clips,
+            params,
         },
     })
 }
 
-fn clips_at(alloc: Global, path: &str, value: &Value) -> Result<Vec<RawClip>, GraphFault>
-    ensures ok { IfOk result (λ clips. clips_at path.now (view value.now) ≡ Ok clips.items) }
-    ensures err { Refuses result (clips_at path.now (view value.now)) }
+fn clips_at(alloc: Global, path: &str, value: &Value) -> Result<RawClips, GraphFault>
+    ensures { Answers result (clips_at path.now (view value.now)) }
 {
     let path = joined(alloc, path, "clips")?;
     clips_in(alloc, path.as_str(), value.get("clips"))
 }
 
-fn params_at(alloc: Global, path: &str, value: &Value) -> Result<Vec<RawParam>, GraphFault>
-    ensures ok { IfOk result (λ params. params_at path.now (view value.now) ≡ Ok params.items) }
-    ensures err { Refuses result (params_at path.now (view value.now)) }
+fn params_at(alloc: Global, path: &str, value: &Value) -> Result<RawParams, GraphFault>
+    ensures { Answers result (params_at path.now (view value.now)) }
 {
     let path = joined(alloc, path, "params")?;
     params_in(alloc, path.as_str(), value.get("params"))

@@ -17,6 +17,7 @@ ghost use Rattle.fx_text.specs.Values.{param_of, params_in};
 use crate::fault::{GraphCode, GraphFault};
 use crate::json::{check_object, fault_at, has, list_at, range_at, word_at, wrong_at};
 use crate::path::joined;
+use crate::raw::{RawClips, RawParams};
 use crate::value::{MOST_KEYS, RawClip, RawKey, RawKeys, RawParam, RawScalar, RawValue};
 use fx_base::Name;
 use fx_base::limits::LAST_FRAME;
@@ -35,21 +36,15 @@ fn clip_of(alloc: Global, path: &str, name: &str, value: &Value) -> Result<RawCl
     }
 }
 
-fn clips_of(
-    alloc: Global,
-    path: &str,
-    members: &Map<String, Value>,
-) -> Result<Vec<RawClip>, GraphFault>
-    ensures ok { let wanted = read_members (clip_of path.now) (members_view members.now.entries)
-        in IfOk result (λ clips. wanted ≡ Ok clips.items) }
-    ensures err { Refuses result (read_members (clip_of path.now) (members_view members.now.entries)) }
+fn clips_of(alloc: Global, path: &str, members: &Map<String, Value>) -> Result<RawClips, GraphFault>
+    ensures { Answers result (read_members (clip_of path.now) (members_view members.now.entries)) }
 {
     let mut clips = Vec::new(alloc);
     for (name, value) in members.iter() {
         let clip = clip_of(alloc, path, name.as_str(), value)?;
         clips.push(clip)?;
     }
-    Ok(clips)
+    Ok(RawClips::of(clips))
 }
 
 // The clips of a node, of which there are none where the member is absent.
@@ -57,17 +52,15 @@ pub(crate) fn clips_in(
     alloc: Global,
     path: &str,
     value: Option<&Value>,
-) -> Result<Vec<RawClip>, GraphFault>
-    ensures ok { let wanted = clips_in path.now (option_map (λ v. view v.now) value.entry)
-        in IfOk result (λ clips. wanted ≡ Ok clips.items) }
-    ensures err { Refuses result (clips_in path.now (option_map (λ v. view v.now) value.entry)) }
+) -> Result<RawClips, GraphFault>
+    ensures { Answers result (clips_in path.now (option_map (λ v. view v.now) value.entry)) }
 {
     match value {
         Some(value) => match value.as_object() {
             Some(members) => clips_of(alloc, path, members),
             None => Err(fault_at(GraphCode::WrongForm, path.to_string(alloc)?)),
         },
-        None => Ok(Vec::new(alloc)),
+        None => Ok(RawClips::of(Vec::new(alloc))),
     }
 }
 
@@ -260,17 +253,15 @@ fn params_of(
     alloc: Global,
     path: &str,
     members: &Map<String, Value>,
-) -> Result<Vec<RawParam>, GraphFault>
-    ensures ok { let wanted = read_members (param_of path.now) (members_view members.now.entries)
-        in IfOk result (λ params. wanted ≡ Ok params.items) }
-    ensures err { Refuses result (read_members (param_of path.now) (members_view members.now.entries)) }
+) -> Result<RawParams, GraphFault>
+    ensures { Answers result (read_members (param_of path.now) (members_view members.now.entries)) }
 {
     let mut params = Vec::new(alloc);
     for (name, value) in members.iter() {
         let param = param_of(alloc, path, name.as_str(), value)?;
         params.push(param)?;
     }
-    Ok(params)
+    Ok(RawParams::of(params))
 }
 
 // The parameters of a node, of which there are none where the member is absent.
@@ -278,16 +269,14 @@ pub(crate) fn params_in(
     alloc: Global,
     path: &str,
     value: Option<&Value>,
-) -> Result<Vec<RawParam>, GraphFault>
-    ensures ok { let wanted = params_in path.now (option_map (λ v. view v.now) value.entry)
-        in IfOk result (λ params. wanted ≡ Ok params.items) }
-    ensures err { Refuses result (params_in path.now (option_map (λ v. view v.now) value.entry)) }
+) -> Result<RawParams, GraphFault>
+    ensures { Answers result (params_in path.now (option_map (λ v. view v.now) value.entry)) }
 {
     match value {
         Some(value) => match value.as_object() {
             Some(members) => params_of(alloc, path, members),
             None => Err(fault_at(GraphCode::WrongForm, path.to_string(alloc)?)),
         },
-        None => Ok(Vec::new(alloc)),
+        None => Ok(RawParams::of(Vec::new(alloc))),
     }
 }

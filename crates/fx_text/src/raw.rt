@@ -2,6 +2,7 @@
 //! name, a pattern or a parameter means anything is not known yet. Each type keeps its ranges.
 ghost use Rattle.std.specs.Prelude.{◌≡◌, ◌≤◌, ◌+◌, length};
 ghost use Rattle.fx_base.specs.declared.limits.TheConstants.{MOST_NODES};
+ghost use Rattle.fx_text.specs.Order.{ClipsRise, ParamsRise};
 
 use crate::value::{RawClip, RawParam};
 use fx_base::Name;
@@ -62,15 +63,19 @@ pub struct RawClips {
 impl Model for RawClips {
     ghost use Rattle.std.specs.Prelude.{List};
     ghost use Rattle.fx_text.specs.declared.value.RawClip.{RawClip};
+    ghost use Rattle.fx_text.specs.Order.{ClipsRise};
 
     ghost Value = { List RawClip };
 
     ghost view = { λ c. c.items.items };
+
+    ghost invariant = { λ c. ClipsRise c.items.items };
 }
 
 impl RawClips {
-    /// These clips, in this order.
+    /// These clips, which rise strictly in the byte order of their names.
     pub fn of(items: Vec<RawClip>) -> RawClips
+        requires { ClipsRise items.items }
         ensures { result ≡ items.items }
     {
         RawClips { items }
@@ -78,14 +83,16 @@ impl RawClips {
 
     /// The clips in order.
     pub fn items(&self) -> &[RawClip]
-        ensures { result.now ≡ self.now }
+        ensures value { result.now ≡ self.now }
+        ensures rise { ClipsRise result.now }
     {
         self.items.as_slice()
     }
 
     /// The clips in order, given away.
     pub fn into_items(self) -> Vec<RawClip>
-        ensures { result.items ≡ self }
+        ensures value { result.items ≡ self }
+        ensures rise { ClipsRise result.items }
     {
         self.items
     }
@@ -100,15 +107,19 @@ pub struct RawParams {
 impl Model for RawParams {
     ghost use Rattle.std.specs.Prelude.{List};
     ghost use Rattle.fx_text.specs.declared.value.RawParam.{RawParam};
+    ghost use Rattle.fx_text.specs.Order.{ParamsRise};
 
     ghost Value = { List RawParam };
 
     ghost view = { λ c. c.items.items };
+
+    ghost invariant = { λ c. ParamsRise c.items.items };
 }
 
 impl RawParams {
-    /// These parameters, in this order.
+    /// These parameters, which rise strictly in the byte order of their names.
     pub fn of(items: Vec<RawParam>) -> RawParams
+        requires { ParamsRise items.items }
         ensures { result ≡ items.items }
     {
         RawParams { items }
@@ -116,14 +127,16 @@ impl RawParams {
 
     /// The parameters in order.
     pub fn items(&self) -> &[RawParam]
-        ensures { result.now ≡ self.now }
+        ensures value { result.now ≡ self.now }
+        ensures rise { ParamsRise result.now }
     {
         self.items.as_slice()
     }
 
     /// The parameters in order, given away.
     pub fn into_items(self) -> Vec<RawParam>
-        ensures { result.items ≡ self }
+        ensures value { result.items ≡ self }
+        ensures rise { ParamsRise result.items }
     {
         self.items
     }

@@ -1,6 +1,6 @@
 use crate::{
-    GraphCode, GraphFault, RawContext, RawScalar, RawValue, RawWork, printed_graph_reads_back,
-    read_graph,
+    GraphCode, GraphFault, RawContext, RawScalar, RawValue, RawWork, names_rise,
+    printed_graph_reads_back, read_graph,
 };
 use fx_pixel::{Components, Depth, Format};
 use std::alloc::{AllocError, Global};
@@ -321,6 +321,7 @@ fn is_given(value: &RawValue) -> bool {
 #[test]
 fn a_whole_graph_is_read(rt: HostRuntime) -> Result<(), Fail> {
     let graph = read_graph(rt.alloc(), WHOLE.as_bytes(), 256, 4096)?;
+    names_rise(&graph);
     assert_eq!(rt; (graph.format, graph.first, graph.last), (1, 7, 9));
     assert_eq!(rt; (graph.project.width, graph.project.height), (4, 2));
     assert_eq!(rt; graph.project.depth, Depth::Short);
