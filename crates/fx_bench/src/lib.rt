@@ -1,0 +1,12 @@
+//! Input for measurements: of a number it makes the text of a large valid graph, and the frames of its source, the same
+//! ones at each call.
+#![tactic(auto)]
+
+mod draws;
+mod frames;
+mod graph;
+mod making;
+#[cfg(test)]
+mod tests;
+
+pub use making::{Bench, make};
