@@ -4,6 +4,7 @@ use Rattle.fx_base.specs.declared.limits.TheConstants.{LAST_FRAME, MOST_TILE_SID
 use Rattle.clap.specs.Walk.{Rule, Text}
 use Rattle.clap.specs.Simple.{App, on_top, new_app, new_rule, with_rule}
 use Rattle.clap.specs.declared.builder.value_parser.ValueParser.TheVariants as value
+use Rattle.fx_words.specs.declared.order.TheConstants.{MOST_CACHE, MOST_WORKERS}
 
 abbrev pub word_rule : Text → Rule
 word_rule id = record (new_rule id) { required = true }
@@ -23,5 +24,5 @@ ofxr =
     (number_rule (codes "first") (pos 0) (pos LAST_FRAME)))
     (number_rule (codes "last") (pos 0) (pos LAST_FRAME)))
     (number_rule (codes "tile") (pos 1) (pos MOST_TILE_SIDE)))
-    (number_rule (codes "cache") (pos 0) (pos 65536)))
-    (number_rule (codes "workers") (pos 1) (pos 64))
+    (number_rule (codes "cache") (pos 0) (pos MOST_CACHE)))
+    (number_rule (codes "workers") (pos 1) (pos MOST_WORKERS))

@@ -12,6 +12,7 @@ use Rattle.clap.specs.ValueTests.{is_unsigned_in}
 use Rattle.clap.specs.Simple.{matches_of}
 use Rattle.clap.specs.Faults.{fault_of}
 use Rattle.clap.specs.Kinds.{Kinds}
+use Rattle.fx_words.specs.declared.order.TheConstants.{MOST_CACHE, MOST_WORKERS}
 use Rattle.fx_words.specs.declared.order.Mode.{Mode}
 use Rattle.fx_words.specs.declared.order.Mode.TheVariants.{Render, Check, Bench}
 use Rattle.fx_words.specs.Ordered.{Ordered}
@@ -81,8 +82,8 @@ order_in rows =
     given (option_of (codes "first") 0 LAST_FRAME 0 rows) (λ first.
     given (option_of (codes "last") 0 LAST_FRAME LAST_FRAME rows) (λ last.
     given (option_of (codes "tile") 1 MOST_TILE_SIDE 64 rows) (λ tile.
-    given (option_of (codes "cache") 0 65536 (default_cache tile) rows) (λ cache.
-    given (option_of (codes "workers") 1 64 4 rows) (λ workers.
+    given (option_of (codes "cache") 0 MOST_CACHE (default_cache tile) rows) (λ cache.
+    given (option_of (codes "workers") 1 MOST_WORKERS 4 rows) (λ workers.
     order_with mode graph first last tile cache workers)))))))
 
 -- the order of what clap found, where it found no fault

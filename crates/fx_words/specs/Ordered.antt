@@ -1,6 +1,7 @@
 -- An order, and the ranges of its numbers.
 use Rattle.std.specs.Prelude.{ℕ, ◌*◌, ◌≤◌, ◌^◌, List}
 use Rattle.fx_base.specs.declared.limits.TheConstants.{LAST_FRAME, MOST_TILE_SIDE}
+use Rattle.fx_words.specs.declared.order.TheConstants.{MOST_CACHE, MOST_WORKERS}
 use Rattle.fx_words.specs.declared.order.Mode.{Mode}
 
 pub record Ordered : Type 0 where
@@ -18,7 +19,7 @@ pub record AreInRange (first last tile cache workers : ℕ) : Type 0 where
   pub last_end : last ≤ LAST_FRAME
   pub some_side : 1 ≤ tile
   pub side_end : tile ≤ MOST_TILE_SIDE
-  pub cache_end : cache ≤ 65536
+  pub cache_end : cache ≤ MOST_CACHE
   pub memory : cache * tile * tile * 8 ≤ 2 ^ 31
   pub some_workers : 1 ≤ workers
-  pub workers_end : workers ≤ 64
+  pub workers_end : workers ≤ MOST_WORKERS

@@ -1,10 +1,12 @@
 //! The command as `clap` is told it: two words that are required, and five options with a whole number each.
-ghost use Rattle.std.specs.Prelude.{◌≡◌, ◌≤ℤ◌, false, pos, IfOk};
+ghost use Rattle.std.specs.Prelude.{◌≡◌, ◌≤◌, ◌≤ℤ◌, false, pos, IfOk};
 ghost use Rattle.clap.specs.Simple.{app_of};
 ghost use Rattle.clap.specs.Walk.{rule_of};
 ghost use Rattle.fx_words.specs.Command.{ofxr, word_rule, number_rule};
 
+use crate::order::{MOST_CACHE, MOST_WORKERS};
 use clap::{Arg, Command, value_parser};
+use fx_base::limits::{LAST_FRAME, MOST_TILE_SIDE};
 use std::alloc::{AllocError, Global};
 
 // A word that is required.
@@ -16,7 +18,16 @@ fn word<'a>(alloc: Global, name: &'a str) -> Arg<'a>
 }
 
 // An option whose value is a whole number from the least to the most.
-fn number<'a>(alloc: Global, name: &'a str, least: i64, most: i64) -> Arg<'a>
+fn number<'a>(alloc: Global, name: &'a str, least: u32, most: u32) -> Arg<'a>
+    requires { least ≤ most }
+    ensures rule { rule_of result ≡ number_rule name.entry.now (pos least) (pos most) }
+    ensures local { result.global ≡ false }
+{
+    wide_number(alloc, name, i64::from(least), i64::from(most))
+}
+
+// The same, by the numbers that clap compares.
+fn wide_number<'a>(alloc: Global, name: &'a str, least: i64, most: i64) -> Arg<'a>
     requires low { pos 0 ≤ℤ least }
     requires some { least ≤ℤ most }
     requires high { most ≤ℤ pos 4294967295 }
@@ -38,9 +49,9 @@ pub(crate) fn command<'a>(alloc: Global) -> Result<Command<'a>, AllocError>
         .disable_version_flag(true)
         .arg(word(alloc, "mode"))?
         .arg(word(alloc, "graph"))?
-        .arg(number(alloc, "first", 0, 999_999))?
-        .arg(number(alloc, "last", 0, 999_999))?
-        .arg(number(alloc, "tile", 1, 1024))?
-        .arg(number(alloc, "cache", 0, 65536))?
-        .arg(number(alloc, "workers", 1, 64))
+        .arg(number(alloc, "first", 0, LAST_FRAME))?
+        .arg(number(alloc, "last", 0, LAST_FRAME))?
+        .arg(number(alloc, "tile", 1, MOST_TILE_SIDE))?
+        .arg(number(alloc, "cache", 0, MOST_CACHE))?
+        .arg(number(alloc, "workers", 1, MOST_WORKERS))
 }

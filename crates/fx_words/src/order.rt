@@ -2,6 +2,12 @@
 use fx_base::Name;
 use std::marker::Model;
 
+/// The most tiles that are kept.
+pub const MOST_CACHE: u32 = 65_536;
+
+/// The most threads that render.
+pub const MOST_WORKERS: u32 = 64;
+
 /// What is done with the graph.
 #[derive(Clone, Copy, Debug, PartialEq, Eq)]
 pub enum Mode {

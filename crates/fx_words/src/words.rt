@@ -9,10 +9,11 @@ ghost use Rattle.clap.specs.Walk.{first_of, one_of, rows_of};
 ghost use Rattle.fx_words.specs.Order.{mode_of, is_bench_number, is_graph_for, fits_memory, default_cache, option_of};
 ghost use Rattle.fx_words.specs.Order.{number_or, within, order_in, order_of};
 ghost use Rattle.fx_words.specs.Seen.{is_memory, Reads};
+ghost use Rattle.fx_words.specs.declared.order.TheConstants.{MOST_CACHE};
 ghost use Rattle.fx_words.specs.declared.words.WordFault.TheVariants.{Memory as OutOfMemory};
 
 use crate::command::command;
-use crate::order::{Mode, Order};
+use crate::order::{MOST_CACHE, MOST_WORKERS, Mode, Order};
 use clap::error::ErrorKind;
 use clap::{ArgMatches, Error};
 use fx_base::Name;
@@ -70,7 +71,7 @@ fn is_graph_for(mode: Mode, word: &str) -> bool
 }
 
 fn fits_memory(cache: u32, tile: u32) -> bool
-    requires tiles { cache ≤ 65536 }
+    requires tiles { cache ≤ MOST_CACHE }
     requires side { tile ≤ MOST_TILE_SIDE }
     ensures value { result ≡ fits_memory cache tile }
     ensures fits { IsTrue result → cache * tile * tile * 8 ≤ 2 ^ 31 }
@@ -165,8 +166,8 @@ fn order_in(alloc: Global, matches: &ArgMatches<'_>) -> Result<Order, WordFault>
     let first = option_of(matches, "first", 0, LAST_FRAME, 0)?;
     let last = option_of(matches, "last", 0, LAST_FRAME, LAST_FRAME)?;
     let tile = option_of(matches, "tile", 1, MOST_TILE_SIDE, 64)?;
-    let cache = option_of(matches, "cache", 0, 65536, default_cache(tile))?;
-    let workers = option_of(matches, "workers", 1, 64, 4)?;
+    let cache = option_of(matches, "cache", 0, MOST_CACHE, default_cache(tile))?;
+    let workers = option_of(matches, "workers", 1, MOST_WORKERS, 4)?;
     if !is_graph_for(mode, graph) || !fits_memory(cache, tile) {
         return Err(WordFault::Usage);
     }

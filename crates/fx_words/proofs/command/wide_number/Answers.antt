@@ -3,7 +3,7 @@ use Rattle.clap.specs.Simple.{new_rule}
 use Rattle.clap.specs.Walk.{Rule, rule_of}
 use Rattle.clap.specs.declared.builder.value_parser.ValueParser.{ValueParser}
 use Rattle.clap.specs.declared.builder.value_parser.ValueParser.TheVariants as value
-use Rattle.fx_words.proofs.command.number.Goals as goal
+use Rattle.fx_words.proofs.command.wide_number.Goals as goal
 
 pub returns-clause-rule : goal.returns-clause-rule
 returns-clause-rule c =
