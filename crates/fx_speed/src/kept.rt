@@ -124,6 +124,6 @@ fn ask(alloc: Global, core: &mut Numbers, key: &Arc<u32>) -> Result<(), Memory>
 }
 
 // The number behind this one, in the row of a linear congruence.
-fn next(number: u32) -> u32 {
+pub(crate) fn next(number: u32) -> u32 {
     number.wrapping_mul(1_103_515_245).wrapping_add(12345)
 }

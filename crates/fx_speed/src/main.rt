@@ -5,14 +5,18 @@
 //! too, of r, g, b and a; with `rgb`, `scaled` or `short` behind its name, of other samples. `image` makes
 //! an image of that width, and `write` and `write_rgb` write it too. `graph` makes the text of a graph of 256
 //! nodes with so many keys each, `parse` reads it too, and `accept` reads it and accepts it over the effects that are
-//! shipped. Several such pairs are done in their order.
+//! shipped. Whole frames are rendered under the words of `effects.rt`. Several such pairs are done in their order.
 #![tactic(auto)]
 
+mod effects;
 mod graph;
 mod kept;
+mod noise;
 mod number;
+mod paint;
 mod pam;
 mod pool;
+mod rows;
 mod turns;
 
 use fx_pixel::Format;
@@ -54,7 +58,10 @@ fn main(rt: HostRuntime) -> ExitCode {
             "four" => pool::work_together(&rt, 4, count).ok(),
             what => match pam_work(what) {
                 Some(work) => work.done(rt.alloc(), count).ok(),
-                None => return ExitCode::from(USAGE),
+                None => match effects::render(rt.alloc(), what, count) {
+                    Ok(None) => return ExitCode::from(USAGE),
+                    rendered => rendered.ok().flatten(),
+                },
             },
         };
         match done {

@@ -112,7 +112,7 @@ fn image(alloc: Global, rows: u32) -> Result<Image, Memory>
     Ok(image)
 }
 
-fn sum(p: Pixel) -> u64 {
+pub(crate) fn sum(p: Pixel) -> u64 {
     match p {
         Pixel::Rgba { r, g, b, a } => u64::from(r) + u64::from(g) + u64::from(b) + u64::from(a),
         Pixel::Alpha { a } => u64::from(a),

@@ -1,0 +1,302 @@
+//! What is rendered under a word: frames of 1,920 by 1,080 pixels of r, g, b and a that effects render, the copying of
+//! the same rows, and rows that are read.
+ghost use Rattle.std.specs.Prelude.{◌≡◌, ◌<◌, ◌≤◌, ◌∷◌, [], length, IsTrue, IfOk, IfSome};
+ghost use Rattle.std.specs.List.{AllZip, Contains};
+ghost use Rattle.fx_base.specs.Rect.{IsFrame};
+ghost use Rattle.fx_pixel.specs.declared.Components.TheVariants.{Rgba as RgbaSamples};
+ghost use Rattle.fx_effect.specs.declared.action.Context.{Context as Contexts};
+ghost use Rattle.fx_effect.specs.Shape.{InRange, IsLawful, MayBe, shown_components, supports};
+ghost use Rattle.fx_effect.specs.Placed.{IsPiece};
+ghost use Rattle.fx_shipped.specs.Shipped.{meaning_of};
+
+use crate::noise::{COLUMNS, ROWS, noise};
+use crate::paint::{Copier, NOW, Painter, paint_frames};
+use crate::rows::Strips;
+use fx_base::{Memory, Rect};
+use fx_effect::{Catalogue, Context, Flags, ImageEffect, Inputs, Numbers, Piece, Steps, Values};
+use fx_image::Image;
+use fx_params::ParamDef;
+use fx_pixel::{Components, Depth};
+use fx_shipped::Shipped;
+use std::alloc::Global;
+
+// As many images take turns.
+const MOST_IMAGES: usize = 4;
+
+/// Renders so many frames as the word says: the sum of the samples in the middle of the last one. The
+/// word is the effect's name or `copy`, `byte` or `short`, `whole` or `tiles`, the numbers of the
+/// parameters, and how many frames before and behind the one that is rendered the clips have, as in
+/// `frameblend:byte:whole:1:1:1`. Behind `row:` rows are read. None where it is another word.
+pub(crate) fn render(alloc: Global, word: &str, count: u32) -> Result<Option<u64>, Memory> {
+    if let Some(task) = Task::read(word) {
+        return task.done(alloc, count);
+    }
+    match word.strip_prefix("row:").and_then(Strips::read) {
+        Some(strips) => Ok(Some(strips.done(alloc, count)?)),
+        None => Ok(None),
+    }
+}
+
+// What is rendered; without an effect rows are copied.
+#[derive(Clone, Copy)]
+struct Task<'a> {
+    effect: Option<Shipped>,
+    depth: Depth,
+    tiled: bool,
+    numbers: &'a str,
+    before: u8,
+    behind: u8,
+}
+
+impl<'a> Task<'a> {
+    fn read(word: &'a str) -> Option<Task<'a>> {
+        let mut parts = word.split(':');
+        let effect = match parts.next()? {
+            "copy" => None,
+            name => Some(Shipped::named(name)?),
+        };
+        let depth = match parts.next()? {
+            "byte" => Depth::Byte,
+            "short" => Depth::Short,
+            _ => return None,
+        };
+        let tiled = match parts.next()? {
+            "whole" => false,
+            "tiles" => true,
+            _ => return None,
+        };
+        Some(Task {
+            effect,
+            depth,
+            tiled,
+            numbers: parts.next().unwrap_or(""),
+            before: parts.next().unwrap_or("0").parse::<u8>().ok()?,
+            behind: parts.next().unwrap_or("0").parse::<u8>().ok()?,
+        })
+    }
+
+    fn done(&self, alloc: Global, count: u32) -> Result<Option<u64>, Memory> {
+        match self.effect {
+            Some(effect) => self.by_effect(alloc, effect, count),
+            None => Ok(Some(self.by_copying(alloc, count)?)),
+        }
+    }
+
+    fn by_copying(&self, alloc: Global, count: u32) -> Result<u64, Memory> {
+        let depth = self.depth;
+        let image = noise(alloc, depth, 1)?;
+        let inputs = one_clip(alloc, depth, &image)?;
+        let copier = Copier { inputs: &inputs };
+        paint_frames(alloc, &copier, depth, self.tiled, count)
+    }
+
+    // None where the effect refuses the numbers or the depth.
+    fn by_effect(&self, alloc: Global, effect: Shipped, count: u32) -> Result<Option<u64>, Memory> {
+        let depth = self.depth;
+        if !has_depth(effect, depth) {
+            return Ok(None);
+        }
+        let (shown, connected) = clips_of(alloc, effect)?;
+        let Some(values) = values_of(alloc, effect, connected, self.numbers)? else {
+            return Ok(None);
+        };
+        let images = self.images(alloc, shown.len())?;
+        let inputs = self.inputs(alloc, shown, &images)?;
+        let painter = Painter {
+            effect,
+            values: &values,
+            inputs: &inputs,
+        };
+        let sum = paint_frames(alloc, &painter, depth, self.tiled, count)?;
+        Ok(Some(sum))
+    }
+
+    // How many frames each clip has.
+    fn frames(&self) -> usize
+        ensures { result ≤ 511 }
+    {
+        1 + usize::from(self.before) + usize::from(self.behind)
+    }
+
+    // As many images as the clips have frames, and at most four, which take turns.
+    fn images(&self, alloc: Global, clips: usize) -> Result<Vec<Image>, Memory> {
+        let mut images = Vec::new(alloc);
+        let count = clips.saturating_mul(self.frames()).min(MOST_IMAGES);
+        for number in 0..count as u32 {
+            images.push(noise(alloc, self.depth, number)?)?;
+        }
+        Ok(images)
+    }
+
+    // Each clip at each of its frames.
+    fn inputs<'i>(
+        &self,
+        alloc: Global,
+        shown: Vec<Components>,
+        images: &'i [Image],
+    ) -> Result<Inputs<'i>, Memory>
+        requires { length shown.items ≤ 3 }
+        ensures depth { IfOk result (λ inputs. inputs.depth ≡ self.now.depth) }
+        ensures components { IfOk result (λ inputs. inputs.components ≡ shown.items) }
+    {
+        let clips = shown.len() as u32;
+        let mut inputs = Inputs::new(alloc, self.depth, shown)?;
+        for clip in 0..clips {
+            self.show(alloc, clip, images, &mut inputs)?;
+        }
+        Ok(inputs)
+    }
+
+    fn show<'i>(
+        &self,
+        alloc: Global,
+        clip: u32,
+        images: &'i [Image],
+        inputs: &mut Inputs<'i>,
+    ) -> Result<(), Memory>
+        requires { clip < length inputs.old.components }
+        ensures depth { inputs.new.depth ≡ inputs.old.depth }
+        ensures components { inputs.new.components ≡ inputs.old.components }
+    {
+        if images.is_empty() {
+            return Ok(());
+        }
+        let first = i64::from(NOW) - i64::from(self.before);
+        for k in 0..self.frames() {
+            let image = &images[(clip as usize + k) % images.len()];
+            inputs.push(alloc, clip, first + k as i64, whole(alloc, image)?)?;
+        }
+        Ok(())
+    }
+}
+
+// One clip, which shows the image at the frame that is painted.
+fn one_clip(alloc: Global, depth: Depth, image: &Image) -> Result<Inputs<'_>, Memory>
+    ensures depth { IfOk result (λ inputs. inputs.depth ≡ depth) }
+    ensures components { IfOk result (λ inputs. inputs.components ≡ RgbaSamples ∷ []) }
+{
+    let mut inputs = Inputs::new(alloc, depth, vec![in alloc; Components::Rgba]?)?;
+    inputs.push(alloc, 0, i64::from(NOW), whole(alloc, image)?)?;
+    Ok(inputs)
+}
+
+// A piece that lends the whole of an image.
+fn whole(alloc: Global, image: &Image) -> Result<Piece<'_>, Memory>
+    ensures { IfOk result IsPiece }
+{
+    let through = Steps::of(Vec::new(alloc));
+    let view = image.view(image.rect());
+    Ok(Piece::Frame { view, through })
+}
+
+// ---- what an effect is asked with
+
+// Whether the effect renders images of r, g, b and a of the depth.
+fn has_depth(effect: Shipped, depth: Depth) -> bool
+    ensures { IsTrue result → IsTrue (supports (meaning_of effect).shape depth RgbaSamples) }
+{
+    match effect {
+        Shipped::Posterise => matches!(depth, Depth::Byte),
+        _ => true,
+    }
+}
+
+// A context that the effect supports.
+fn context_of(effect: Shipped) -> Context
+    ensures { Contains (meaning_of effect).shape.contexts result }
+{
+    match effect {
+        Shipped::Dissolve | Shipped::Wipe => Context::Transition,
+        _ => Context::General,
+    }
+}
+
+// In which components each input clip is shown, and that each is connected.
+fn clips_of(alloc: Global, effect: Shipped) -> Result<(Vec<Components>, Vec<bool>), Memory>
+    ensures few { IfOk result (λ clips. length clips.0.items ≤ 3) }
+    ensures shown { (c : Contexts) → let s = (meaning_of effect).shape in
+        IfOk result (λ clips. clips.0.items ≡ shown_components s c RgbaSamples) }
+    ensures connected { (c : Contexts) → let s = (meaning_of effect).shape in
+        IfOk result (λ clips. AllZip MayBe (s.clips c) clips.1.items) }
+{
+    let rgba = Components::Rgba;
+    let clips = match effect {
+        Shipped::Solid | Shipped::Checker | Shipped::Ramp | Shipped::Grain => {
+            (vec![in alloc;]?, vec![in alloc;]?)
+        }
+        Shipped::Dissolve | Shipped::Wipe | Shipped::Merge => {
+            (vec![in alloc; rgba, rgba]?, vec![in alloc; true, true]?)
+        }
+        Shipped::Keymix => (
+            vec![in alloc; rgba, rgba, Components::Alpha]?,
+            vec![in alloc; true, true, true]?,
+        ),
+        _ => (vec![in alloc; rgba]?, vec![in alloc; true]?),
+    };
+    Ok(clips)
+}
+
+// The values that the effect is asked with. None where it refuses the numbers.
+fn values_of(
+    alloc: Global,
+    effect: Shipped,
+    connected: Vec<bool>,
+    text: &str,
+) -> Result<Option<Values>, Memory>
+    requires { (c : Contexts) → AllZip MayBe ((meaning_of effect).shape.clips c) connected.items }
+    ensures frame { IfOk result (λ found. IfSome found (λ values. IsFrame values.frame)) }
+    ensures lawful { IfOk result (λ found. IfSome found (IsLawful (meaning_of effect).shape)) }
+{
+    let defs = defs_of(alloc, effect, context_of(effect))?;
+    let Some(numbers) = numbers_of(alloc, &defs, text)? else {
+        return Ok(None);
+    };
+    Ok(Some(Values {
+        frame: i64::from(NOW),
+        numbers: Numbers::of(numbers),
+        connected: Flags::of(connected),
+        project: Rect::of(0, 0, COLUMNS, ROWS),
+    }))
+}
+
+// The effect's parameters.
+fn defs_of(alloc: Global, effect: Shipped, context: Context) -> Result<Vec<ParamDef>, Memory>
+    requires { Contains (meaning_of effect).shape.contexts context }
+    ensures { IfOk result (λ defs. defs.items ≡ (meaning_of effect).shape.params context) }
+{
+    let mut clips = Vec::new(alloc);
+    let mut defs = Vec::new(alloc);
+    effect.describe_in_context(alloc, context, &mut clips, &mut defs)?;
+    Ok(defs)
+}
+
+// The numbers of a text, and where it has fewer the ones that the parameters start with. None where one
+// is no number or out of its parameter's range.
+fn numbers_of(alloc: Global, defs: &[ParamDef], text: &str) -> Result<Option<Vec<i64>>, Memory>
+    ensures { IfOk result (λ found. IfSome found (λ numbers. AllZip InRange defs.now numbers.items)) }
+{
+    let mut parts = text.split(',');
+    let mut numbers = Vec::new(alloc);
+    for def in defs {
+        let Some(number) = number_of(def, parts.next()) else {
+            return Ok(None);
+        };
+        numbers.push(number)?;
+    }
+    Ok(Some(numbers))
+}
+
+fn number_of(def: &ParamDef, text: Option<&str>) -> Option<i64>
+    ensures { IfSome result (InRange def.now) }
+{
+    let number = match text {
+        Some("") => def.start,
+        Some(text) => text.parse::<i64>().ok()?,
+        None => def.start,
+    };
+    if def.least <= number && number <= def.greatest {
+        Some(number)
+    } else {
+        None
+    }
+}
