@@ -1,0 +1,234 @@
+-- Whole nodes, and the pictures that they show.
+use Rattle.std.proofs.Common.{◌≡◌, ℕ, ◌<◌, ◌+◌, ℤ, List, [], ◌∷◌, ◌++◌, map, length, take, drop, get_or, Bool, true, false, cond, nat_eq, ◌||◌, refl, arith, sym, ap, ◌∙◌, subst, Option, Some, None}
+use Rattle.std.proofs.lemmas.Bool.{and_parts}
+use Rattle.std.proofs.lemmas.List.{drop_more, length-map, map-append, take_more}
+use Rattle.std.proofs.lemmas.List.FromFn.{get_or-map-range_with_len, length-map-range_with_len, map-range_with_len_more}
+use Rattle.std.proofs.lemmas.List.{get_or-map}
+use Rattle.std.proofs.lemmas.List.Elements.{All-nil, All-cons, All-head, All-tail, All-append}
+use Rattle.std.proofs.lemmas.Option.{same_Some}
+use Rattle.std.specs.List.{All, range_with_len}
+use Rattle.std.specs.declared.alloc.Global.{Global}
+use Rattle.std.specs.declared.vec.Vec.{Vec}
+use Rattle.std.specs.Ordering.{int_eq}
+use Rattle.fx_base.specs.Bounds.{Bounds}
+use Rattle.fx_base.specs.Rect.{Holds, hull, within}
+use Rattle.fx_pixel.specs.declared.Depth.{Depth}
+use Rattle.fx_pixel.specs.declared.Components.{Components}
+use Rattle.fx_pixel.specs.declared.Components.TheVariants.{Rgba}
+use Rattle.fx_pixel.specs.declared.Pixel.{Pixel}
+use Rattle.fx_pixel.specs.Pixel.{convert, zero as zero_pixel}
+use Rattle.fx_pam.specs.Laws.{components_for}
+use Rattle.fx_image.specs.Image.{SameImage, pixel_at}
+use Rattle.fx_image.specs.Stored.{Stored, image_of, shown}
+use Rattle.fx_image.specs.declared.part.Part.{Part}
+use Rattle.fx_image.specs.Part.{IsWritten}
+use Rattle.fx_image.proofs.ImageLaws.{place_from}
+use Rattle.fx_effect.specs.Given.{Given, row_pixel}
+use Rattle.fx_effect.specs.Meaning.{Meaning, rendered}
+use Rattle.fx_effect.specs.declared.values.Values.{Values}
+use Rattle.fx_graph.specs.Shown.{GraphShown}
+use Rattle.fx_scene.specs.Nodes.{AreNodes, Effect, EffectNode, Node, Nodes, Source, SourceFrames, clip_node, depth_at, seen}
+use Rattle.fx_scene.specs.Areas.{area, clip_area, clip_areas, hull_all, hull_with, node_area, source_area}
+use Rattle.fx_scene.specs.Frames.{clip_frames, frames_of, has_frame, items_of}
+use Rattle.fx_scene.specs.Scenes.{Images, graph_nodes, picture}
+use Rattle.fx_scene.specs.Value.{value}
+use Rattle.fx_scene.proofs.Equations.{area_is}
+use Rattle.fx_scene.proofs.Members.{all_in, all_from}
+use Rattle.fx_scene.proofs.NearLemmas.{listed_frames}
+use Rattle.fx_eval.specs.declared.whole.Whole.{Whole}
+use Rattle.fx_eval.specs.Cuts.{IsCut}
+use Rattle.fx_eval.specs.Wholes.{AreWhole, HasRegion, IsImageOf, IsReady, IsWhole, is_made, is_of, look, rect_of}
+use Rattle.fx_eval.specs.Inputs.{Adds, AreMade, AreReads, IsOne, Reads, blank}
+use Rattle.fx_eval.specs.Filled.{AreWindows, IsFilled, IsWindowOf}
+use Rattle.fx_eval.proofs.PieceLemmas.{in_has, int_same, nat_same, read_is, source_area_is, window_image}
+
+-- ---- what is made
+
+look_by : (P : Whole → Type 0) (v : Whole) (vs : List Whole) (n : ℕ) (f : ℤ) (w : Whole) (b : Bool) → is_of n f v ≡ b → P v
+    → (look vs n f ≡ Some w → P w × (w.node ≡ n) × (w.frame ≡ f)) → cond b (Some v) (look vs n f) ≡ Some w
+    → P w × (w.node ≡ n) × (w.frame ≡ f)
+look_by P v vs n f w true e p later h =
+    let q = and_parts (nat_eq v.node n) (int_eq v.frame f) e in
+    subst (λ (z : Whole). P z × (z.node ≡ n) × (z.frame ≡ f)) (same_Some v w h) (p, nat_same v.node n q.0, int_same v.frame f q.1)
+look_by P v vs n f w false e p later h = later h
+
+-- what is found is of the node and the frame
+pub look_right : (P : Whole → Type 0) (ws : List Whole) (n : ℕ) (f : ℤ) (w : Whole) → All P ws → look ws n f ≡ Some w
+    → P w × (w.node ≡ n) × (w.frame ≡ f)
+look_right P [] n f w a h = absurd cc
+look_right P (v ∷ vs) n f w a h =
+    look_by P v vs n f w (is_of n f v) refl (All-head P v vs a) (look_right P vs n f w (All-tail P v vs a)) h
+
+pub whole_area : (nodes : Nodes) (ws : List Whole) (n : ℕ) (f : ℤ) (w : Whole) → AreWhole nodes ws → look ws n f ≡ Some w
+    → w.area ≡ area nodes n f
+whole_area nodes ws n f w a h =
+    let right = look_right (IsWhole nodes) ws n f w a h in
+    right.0.area_is ∙ ap (λ (j : ℕ). area nodes j w.frame) right.1 ∙ ap (area nodes n) right.2
+
+made_look_by : (v : Whole) (vs : List Whole) (n : ℕ) (f : ℤ) (b : Bool) → (is_made vs n f ≡ true → look vs n f ≡ None → ⊥)
+    → b || is_made vs n f ≡ true → cond b (Some v) (look vs n f) ≡ None → ⊥
+made_look_by v vs n f true later h e = cc
+made_look_by v vs n f false later h e = later h e
+
+-- what is made is found
+pub made_look : (ws : List Whole) (n : ℕ) (f : ℤ) → is_made ws n f ≡ true → look ws n f ≡ None → ⊥
+made_look [] n f h e = cc
+made_look (v ∷ vs) n f h e = made_look_by v vs n f (is_of n f v) (made_look vs n f) h e
+
+-- ---- lists
+
+pub each_more : {X : Type 0} (P : X → Type 0) (xs ys : List X) (x : X) → ys ≡ xs ++ x ∷ [] → All P xs → P x → All P ys
+each_more P xs ys x e a p = subst (All P) (sym e) (All-append P xs (x ∷ []) a (All-cons P x [] p (All-nil P)))
+
+pub rects_more : (images now : List Stored) (image : Stored) (cuts : List Bounds) (i : ℕ) (r : Bounds) → i < length cuts
+    → now ≡ images ++ image ∷ [] → image.rect ≡ r → r ≡ get_or cuts i r → map rect_of images ≡ take i cuts
+    → map rect_of now ≡ take (i + 1) cuts
+rects_more images now image cuts i r low pushed rect at h =
+    ap (map rect_of) pushed ∙ map-append rect_of images (image ∷ [])
+    ∙ ap (λ (rs : List Bounds). rs ++ image.rect ∷ []) h ∙ ap (λ (q : Bounds). take i cuts ++ q ∷ []) (rect ∙ at)
+    ∙ sym (take_more cuts i r low)
+
+-- ---- areas
+
+pub hull_step : (A : ℤ → Bounds) (fs : List ℤ) (i : ℕ) (d : ℤ) (h a : Bounds) (whole : Bounds) → i < length fs
+    → a ≡ A (get_or fs i d) → hull_with h (map A (drop i fs)) ≡ whole → hull_with (hull h a) (map A (drop (i + 1) fs)) ≡ whole
+hull_step A fs i d h a whole low is e =
+    ap (λ (b : Bounds). hull_with (hull h b) (map A (drop (i + 1) fs))) is
+    ∙ sym (ap (λ (gs : List ℤ). hull_with h (map A gs)) (drop_more fs i d low)) ∙ e
+
+pub clip_area_by : (nodes : Nodes) (m : ℕ) (fs : List ℤ) (spans : List (ℤ × ℤ)) (a : Bounds) → a ≡ hull_all (map (area nodes m) fs)
+    → fs ≡ frames_of spans → a ≡ clip_area (area nodes) spans (Some m)
+clip_area_by nodes m fs spans a is e = is ∙ ap (λ (gs : List ℤ). hull_all (map (area nodes m) gs)) e
+
+-- the area of a clip
+abbrev pub area_at : Nodes → EffectNode → ℤ → ℕ → Bounds
+area_at nodes o t c = clip_area (area nodes) (o.meaning.spans (o.values t) c) (clip_node o c)
+
+pub areas_more : (nodes : Nodes) (o : EffectNode) (t : ℤ) (k : ℕ) (old new : List Bounds) (a : Bounds) (clip : Option ℕ)
+    → new ≡ old ++ a ∷ [] → old ≡ map (area_at nodes o t) (range_with_len 0 k)
+    → a ≡ clip_area (area nodes) (o.meaning.spans (o.values t) k) clip → clip ≡ clip_node o k
+    → new ≡ map (area_at nodes o t) (range_with_len 0 (k + 1))
+areas_more nodes o t k old new a clip pushed so is at =
+    pushed ∙ ap (λ (rs : List Bounds). rs ++ a ∷ []) so
+    ∙ ap (λ (r : Bounds). map (area_at nodes o t) (range_with_len 0 k) ++ r ∷ [])
+    (is ∙ ap (clip_area (area nodes) (o.meaning.spans (o.values t) k)) at)
+    ∙ sym (map-range_with_len_more (area_at nodes o t) 0 k k (omega arith))
+
+pub effect_area : (nodes : Nodes) → AreNodes nodes → (k : ℕ) (o : EffectNode) → nodes k ≡ Effect o → (t : ℤ)
+    → o.meaning.rod o.context (o.values t) (clip_areas (area nodes) o t) ≡ area nodes k t
+effect_area nodes ok k o stands t =
+    sym (ap (λ (a : ℤ → Bounds). a t) (area_is nodes ok k) ∙ ap (λ (q : Node). node_area (area nodes) q t) stands)
+
+-- ---- reads
+
+-- what is read of a clip
+pub reads_at : (o : EffectNode) (t : ℤ) (reads : List (Vec ℤ Global)) (c : ℕ) (v : Vec ℤ Global) → AreReads o t reads
+    → c < length o.clips → c < length reads → v ≡ get_or reads c v → v.items ≡ clip_frames o t c
+reads_at o t reads c v are low within there =
+    ap items_of there
+    ∙ sym (get_or-map items_of reads c v v.items within)
+    ∙ ap (λ (fs : List (List ℤ)). get_or fs c v.items) are
+    ∙ get_or-map-range_with_len (clip_frames o t) 0 (length o.clips) c c v.items low (omega arith)
+
+pub reads_long : (o : EffectNode) (t : ℤ) (reads : List (Vec ℤ Global)) → AreReads o t reads → length reads ≡ length o.clips
+reads_long o t reads are =
+    sym (length-map reads items_of) ∙ ap (λ (fs : List (List ℤ)). length fs) are
+    ∙ length-map-range_with_len (clip_frames o t) 0 (length o.clips)
+
+-- so its node is made there
+pub clip_made : (o : EffectNode) (t : ℤ) (done : List Whole) (c : ℕ) (clip : Option ℕ) (fs : List ℤ) → IsReady (Effect o) t done
+    → clip ≡ clip_node o c → fs ≡ clip_frames o t c → AreMade done clip fs
+clip_made o t done c None fs ready at is = tt
+clip_made o t done c (Some m) fs ready at is =
+    all_from (λ f. is_made done m f ≡ true) fs (λ f i.
+    ready m f (record {
+      clip = c;
+      node = sym at;
+      frame = listed_frames (o.meaning.spans (o.values t) c) f (ap (λ (gs : List ℤ). has_frame gs f) (sym is) ∙ in_has fs f i);
+    }))
+
+-- ---- whole nodes
+
+pub source_whole : (nodes : Nodes) → AreNodes nodes → (s : SourceFrames) (w : Whole) → nodes w.node ≡ Source s
+    → w.area ≡ source_area s (s.named w.frame) → w.images.items ≡ [] → IsWhole nodes w
+source_whole nodes ok s w stands is none =
+    record {
+      area_is = is ∙ sym (source_area_is nodes ok w.node w.frame s stands);
+      right = subst (All (IsImageOf nodes w.node w.frame)) (sym none) (All-nil (IsImageOf nodes w.node w.frame));
+      small = subst (λ (images : List Stored). All IsCut (map rect_of images)) (sym none) (All-nil IsCut);
+      covers = subst (λ (q : Node). HasRegion q w.area w.images.items) (sym stands) tt;
+    }
+
+-- windows of its area are the whole of an effect's node
+pub windows_whole : (nodes : Nodes) → AreNodes nodes → (k : ℕ) (o : EffectNode) → nodes k ≡ Effect o → (t : ℤ)
+    (ks : List Components) (given : Given) (w : Whole)
+    → Adds nodes (clip_node o) (Reads o t (length o.clips)) (blank o.depth ks) given
+    → ((clip : ℕ) → clip < length o.clips → get_or ks clip Rgba ≡ seen o clip)
+    → w.node ≡ k → w.frame ≡ t → w.area ≡ area nodes k t
+    → AreWindows o.meaning (o.values t) given o.depth o.components w.area w.images.items → IsWhole nodes w
+windows_whole nodes ok k o stands t ks given w adds sees at_node at_frame area_is windows =
+    let images = w.images.items in
+    let right = all_from (IsImageOf nodes k t) images (λ image i.
+    window_image nodes ok k o stands t ks given image adds sees
+    (all_in (λ z. IsWindowOf o.meaning (o.values t) given o.depth o.components z.rect z) images image windows.each i)) in
+    record {
+      area_is = area_is ∙ ap (λ (j : ℕ). area nodes j t) (sym at_node) ∙ ap (area nodes w.node) (sym at_frame);
+      right = subst (λ (j : ℕ). All (IsImageOf nodes j w.frame) images) (sym at_node)
+          (subst (λ (g : ℤ). All (IsImageOf nodes k g) images) (sym at_frame) right);
+      small = windows.small;
+      covers = subst (λ (q : Node). HasRegion q w.area images) (sym (ap nodes at_node ∙ stands)) windows.cover;
+    }
+
+-- ---- images that are written
+
+pub written_filled : (s : Stored) (p q : Part) (f : ℤ → ℤ → Pixel) → p.image.now ≡ s → p.rect ≡ s.rect → IsWritten p q f
+    → IsFilled s q.image.now f
+written_filled s p q f is whole written =
+    let frame = written.0.2 in
+    record {
+      rect = frame.rect ∙ ap (λ (i : Stored). i.rect) is;
+      depth = frame.depth ∙ ap (λ (i : Stored). i.depth) is;
+      components = frame.components ∙ ap (λ (i : Stored). i.components) is;
+      pixels = λ x y inside. written.1.inside x y (rw whole inside) (rw whole (place_from s.rect x y inside).top);
+    }
+
+pub filled_window : (s t : Stored) (m : Meaning) (v : Values) (given : Given) (depth : Depth) (c : Components) (region : Bounds)
+    → s.rect ≡ region → s.depth ≡ depth → s.components ≡ c → IsFilled s t (rendered m v given s.depth s.components)
+    → IsWindowOf m v given depth c region t
+filled_window s t m v given depth c region rect deep samples filled =
+    record {
+      rect = filled.rect ∙ rect;
+      depth_is = filled.depth ∙ deep;
+      components_are = filled.components ∙ samples;
+      pixels = λ x y inside.
+          filled.pixels x y (rw rect inside) ∙ ap (λ (e : Depth). rendered m v given e s.components x y) deep
+          ∙ ap (λ (e : Components). rendered m v given depth e x y) samples;
+    }
+
+-- ---- the picture
+
+pub filled_picture : {E : Type 0} (meaning : E → Meaning) (g : GraphShown E) (images : Images) (t : ℤ) (old new : Stored)
+    (given : Given) → AreNodes (graph_nodes meaning g images) → old.rect ≡ g.project → old.depth ≡ g.depth
+    → old.components ≡ components_for g.format
+    → Adds (graph_nodes meaning g images) (λ c. Some g.output) (IsOne 0 t) (blank old.depth (old.components ∷ [])) given
+    → IsFilled old new (row_pixel given 0 t) → SameImage (image_of new) (picture meaning g images t)
+filled_picture meaning g images t old new given ok rect depth components adds filled =
+    let nodes = graph_nodes meaning g images in
+    let shows : (x y : ℤ) → Holds g.project x y → shown new x y ≡ (picture meaning g images t).pixel x y = λ x y inside.
+    filled.pixels x y (subst (λ (r : Bounds). Holds r x y) (sym rect) inside)
+    ∙ read_is nodes ok (λ c. Some g.output) (IsOne 0 t) old.depth (old.components ∷ []) given adds old.components 0 t x y (refl, refl) refl
+    ∙ ap (λ (d : Depth). convert (depth_at nodes g.output) d old.components (value nodes g.output t x y)) depth
+    ∙ ap (λ (c : Components). convert (depth_at nodes g.output) g.depth c (value nodes g.output t x y)) components in
+    record {
+      rect = filled.rect ∙ rect;
+      depth = filled.depth ∙ depth;
+      components = filled.components ∙ components;
+      pixels = λ x y. by_place x y (within g.project x y) refl shows;
+    }
+  where
+    by_place : (x y : ℤ) (b : Bool) → within g.project x y ≡ b
+        → ((x y : ℤ) → Holds g.project x y → shown new x y ≡ (picture meaning g images t).pixel x y)
+        → shown new x y ≡ pixel_at (picture meaning g images t) x y
+    by_place x y true e shows = rw e (shows x y e)
+    by_place x y false e shows =
+        (rw (filled.rect ∙ rect, e) refl) ∙ ap zero_pixel (filled.components ∙ components) ∙ (rw e refl)

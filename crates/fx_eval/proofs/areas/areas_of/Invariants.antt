@@ -1,0 +1,15 @@
+use Rattle.std.proofs.Common.{◌≡◌, length, map}
+use Rattle.std.specs.List.{range_with_len}
+use Rattle.fx_scene.specs.Nodes.{Nodes}
+use Rattle.fx_eval.specs.Sites.{effect_at}
+use Rattle.fx_eval.specs.Wholes.{AreWhole}
+use Rattle.fx_eval.proofs.WholeLemmas.{area_at}
+use Rattle.fx_eval.proofs.areas.areas_of.Given as goal
+
+abbrev pub invariant-loop-c : goal.invariant-loop-c
+invariant-loop-c g l =
+    record {
+      count : l.c-end ≡ length l.node.clips.now;
+      areas : (nodes : Nodes) → AreWhole nodes l.done
+          → l.areas.items ≡ map (area_at nodes (effect_at g.E.ImageEffect.meaning l.fn._project l.node) l.frame) (range_with_len 0 l.c);
+    }

@@ -1,0 +1,71 @@
+use Rattle.std.proofs.Common.{◌∙◌, ap, sym, subst, w64, to_z, of_z, length, map, arith}
+use Rattle.std.proofs.lemmas.Int.{to_z-of_z, ints}
+use Rattle.std.proofs.lemmas.List.{length-map}
+use mir.Val.{SFits}
+use Rattle.fx_image.specs.Image.{SameImage}
+use Rattle.fx_image.specs.Stored.{image_of}
+use Rattle.fx_seq.specs.declared.store.Store.{Store}
+use Rattle.fx_graph.specs.Shown.{GraphShown, shown}
+use Rattle.fx_scene.specs.Scenes.{graph_nodes, graph_shown, images_in, no_images, picture}
+use Rattle.fx_scene.proofs.NodesLemmas.{are_nodes}
+use Rattle.fx_scene.proofs.StoreLemmas.{store_images}
+use Rattle.fx_eval.specs.Sites.{HasLife}
+use Rattle.fx_eval.specs.Wholes.{moment_of}
+use Rattle.fx_eval.proofs.OrderLemmas.{has_made, reach_order, reads_same}
+use Rattle.fx_eval.proofs.picture.frame.Goals as goal
+
+pub wholes-requires-clause-site : goal.wholes-requires-clause-site
+wholes-requires-clause-site g c =
+    let m = g.E.ImageEffect.meaning in
+    let graph = c.graph.result.now in
+    let store = c.store.result.now in
+    let few = graph.rendered.few in
+    let long = length-map graph.nodes.items shown in
+    let bound = g.met.E.ImageEffect in
+    record {
+      nodes = are_nodes m graph.project (graph.depth, graph.components) (graph_shown graph).nodes (images_in store) bound.laws graph.extent (omega (arith, few, long))
+          (store_images store store.sound) graph.kept;
+      life = subst (λ (s : GraphShown _). HasLife g.E.Catalogue.number_of s c.args.life.now) (sym c.graph.ensures.shown) c.requires.life;
+    }
+
+pub wholes-requires-clause-order : goal.wholes-requires-clause-order
+wholes-requires-clause-order g c =
+    let m = g.E.ImageEffect.meaning in
+    let graph = c.graph.result.now in
+    let shown = graph_shown graph in
+    let images = images_in c.store.result.now in
+    let fits : SFits w64 c.args.frame = c.ranges.frame in
+    let least = simp to_z-of_z at c.in_ok-moments.ensures.least in
+    reach_order (graph_nodes m shown no_images) (graph_nodes m shown images) graph.output (length graph.nodes.items) c.args.frame c.args.frame c.in_ok-moments.moments
+    (λ n t k f. reads_same m shown images no_images n t k f) least c.in_ok-moments.ensures.places
+
+pub show-requires-clause-site : goal.show-requires-clause-site
+show-requires-clause-site g c =
+    let m = g.E.ImageEffect.meaning in
+    let graph = c.graph.result.now in
+    let store = c.store.result.now in
+    let few = graph.rendered.few in
+    let long = length-map graph.nodes.items shown in
+    let bound = g.met.E.ImageEffect in
+    record {
+      nodes = are_nodes m graph.project (graph.depth, graph.components) (graph_shown graph).nodes (images_in store) bound.laws graph.extent (omega (arith, few, long))
+          (store_images store store.sound) graph.kept;
+      life = subst (λ (s : GraphShown _). HasLife g.E.Catalogue.number_of s c.args.life.now) (sym c.graph.ensures.shown) c.requires.life;
+    }
+
+pub show-requires-clause-made : goal.show-requires-clause-made
+show-requires-clause-made g c =
+    let graph = c.graph.result.now in
+    let t = to_z w64 (of_z w64 c.args.frame) in
+    let all = ap (map moment_of) c.as_slice.ensures.value ∙ c.in_ok-done.ensures.all in
+    has_made c.in_ok-moments.moments c.as_slice.result.now graph.output t all
+    (c.in_ok-moments.ensures.least.all graph.output t (λ s closed. closed.start t (omega (arith, ints)) (omega (arith, ints))))
+
+pub returns : goal.returns
+returns g c =
+    let m = g.E.ImageEffect.meaning in
+    let fits : SFits w64 c.args.frame = c.ranges.frame in
+    let image = image_of c.show.new.image in
+    let same = simp to_z-of_z at c.in_ok-show.ensures in
+    subst (λ (s : GraphShown _). SameImage image (picture m s (images_in c.args.scene.now.store) c.args.frame)) c.graph.ensures.shown
+    (subst (λ (s : Store). SameImage image (picture m (graph_shown c.graph.result.now) (images_in s) c.args.frame)) c.store.ensures same)

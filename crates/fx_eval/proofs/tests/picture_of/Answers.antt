@@ -1,0 +1,19 @@
+use Rattle.std.proofs.Common.{ℕ, refl, sym, subst, ap, List, arith, length, map}
+use Rattle.std.specs.List.{Contains}
+use Rattle.fx_scene.specs.Scenes.{Shot}
+use Rattle.fx_eval.specs.declared.toy.Toy.{Toy}
+use Rattle.fx_eval.proofs.LifeLemmas.{started_life}
+use Rattle.fx_eval.proofs.tests.picture_of.Goals as goal
+
+pub start-requires-clause-numbers : goal.start-requires-clause-numbers
+start-requires-clause-numbers c i j d before inside =
+    let one = ap (λ (toys : List Toy). length toys) c.in_ok-toys.ensures in absurd (omega (arith, before, inside, one))
+
+pub start-requires-clause-among : goal.start-requires-clause-among
+start-requires-clause-among c k used at =
+    subst (λ (toys : List Toy). Contains {X = ℕ} (map (λ t. 0) toys) 0) (sym c.in_ok-toys.ensures) (0, omega arith, refl)
+
+pub frame-picture-requires-clause-life : goal.frame-picture-requires-clause-life
+frame-picture-requires-clause-life c =
+    started_life (λ e. 0) c.args.graph.nodes.items 0 9 c.new-scene.result.0.graph c.in_ok-life.life
+    (sym (ap (λ (s : Shot Toy). s.graph.nodes) c.new-scene.ensures.scene)) c.in_ok-life.ensures.life

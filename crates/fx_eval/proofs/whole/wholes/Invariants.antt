@@ -1,0 +1,11 @@
+use Rattle.fx_eval.specs.Sites.{site_nodes}
+use Rattle.fx_eval.specs.Wholes.{AreWhole}
+use Rattle.fx_eval.proofs.OrderLemmas.{IsFront}
+use Rattle.fx_eval.proofs.whole.wholes.Given as goal
+
+abbrev pub invariant-loop-moment : goal.invariant-loop-moment
+invariant-loop-moment g l =
+    record {
+      whole : AreWhole (site_nodes g.E.ImageEffect.meaning l.site) l.done.items;
+      front : IsFront l.moments l.moment-iterator l.done.items;
+    }

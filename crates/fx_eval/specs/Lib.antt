@@ -1,0 +1,6 @@
+pub mod Sites
+pub mod Cuts
+pub mod Wholes
+pub mod Inputs
+pub mod Filled
+pub mod Toy

@@ -1,0 +1,188 @@
+//! What the render of a node reads: pieces over what is made of the nodes that its clips are.
+ghost use Rattle.std.specs.Prelude.{◌≡◌, ◌<◌, ◌++◌, ◌∷◌, [], ℕ, Option, Some, length, map, true, All, IfOk, IfSome, OnOk};
+ghost use Rattle.fx_scene.specs.Nodes.{Effect, clip_node};
+ghost use Rattle.fx_scene.specs.Scenes.{graph_shown};
+ghost use Rattle.fx_eval.specs.Sites.{IsSite, StandsIn, effect_at, site_nodes, seen_in};
+ghost use Rattle.fx_eval.specs.Wholes.{AreWhole, IsReady, is_made};
+ghost use Rattle.fx_eval.specs.Inputs.{Adds, AreMade, AreReads, IsOne, IsSomeOf, Reads, blank, piece_of};
+
+use crate::areas::made_of;
+use crate::site::{EffectNode, Site, image_shown, seen_components};
+use crate::whole::Whole;
+use fx_base::Memory;
+use fx_effect::{Catalogue, Inputs, Piece, Step, Steps};
+use fx_graph::Work;
+use fx_image::Image;
+use fx_pixel::{Components, Depth};
+use std::alloc::Global;
+
+/// For each clip and each frame that is read, its node's images or its source's frame.
+pub(crate) fn inputs_of<'s, E: Catalogue>(
+    alloc: Global,
+    site: &'s Site<'s, E>,
+    done: &'s [Whole],
+    node: &EffectNode<'_, E>,
+    frame: i64,
+    reads: &[Vec<i64>],
+) -> Result<Inputs<'s>, Memory>
+    requires site { IsSite E.meaning E.number_of site.now }
+    requires there { StandsIn (graph_shown site.now.graph.now) node.now }
+    requires done { AreWhole (site_nodes E.meaning site.now) done.now }
+    requires ready { IsReady (Effect (effect_at E.meaning site.now.graph.now.project node.now)) frame done.now }
+    requires reads { AreReads (effect_at E.meaning site.now.graph.now.project node.now) frame reads.now }
+    ensures { let o = effect_at E.meaning site.now.graph.now.project node.now in
+        let seen = map (seen_in node.now.components) node.now.masks.now in
+        IfOk result (Adds (site_nodes E.meaning site.now) (clip_node o) (Reads o frame (length o.clips))
+        (blank node.now.depth seen)) }
+{
+    let components = seen_components(alloc, node.masks, node.components)?;
+    let mut inputs = Inputs::new(alloc, node.depth, components)?;
+    for c in 0..reads.len() {
+        let frames = reads[c].as_slice();
+        add_clip(
+            alloc,
+            site,
+            done,
+            c as u32,
+            node.clips[c],
+            frames,
+            &mut inputs,
+        )?;
+    }
+    Ok(inputs)
+}
+
+fn add_clip<'s, E: Catalogue>(
+    alloc: Global,
+    site: &'s Site<'s, E>,
+    done: &'s [Whole],
+    c: u32,
+    clip: Option<u32>,
+    frames: &[i64],
+    inputs: &mut Inputs<'s>,
+) -> Result<(), Memory>
+    requires site { IsSite E.meaning E.number_of site.now }
+    requires there { IfSome clip (λ m. m < length site.now.graph.now.nodes.items) }
+    requires done { AreWhole (site_nodes E.meaning site.now) done.now }
+    requires made { AreMade done.now clip frames.now }
+    requires clip { c < length inputs.old.components }
+    ensures { (node : ℕ → Option ℕ) → node c ≡ clip
+        → OnOk result (Adds (site_nodes E.meaning site.now) node (IsSomeOf c frames.now) inputs.old inputs.new) }
+{
+    match clip {
+        None => Ok(()),
+        Some(m) => add_frames(alloc, site, done, c, m, frames, inputs),
+    }
+}
+
+fn add_frames<'s, E: Catalogue>(
+    alloc: Global,
+    site: &'s Site<'s, E>,
+    done: &'s [Whole],
+    c: u32,
+    m: u32,
+    frames: &[i64],
+    inputs: &mut Inputs<'s>,
+) -> Result<(), Memory>
+    requires site { IsSite E.meaning E.number_of site.now }
+    requires there { m < length site.now.graph.now.nodes.items }
+    requires done { AreWhole (site_nodes E.meaning site.now) done.now }
+    requires made { All (λ f. is_made done.now m f ≡ true) frames.now }
+    requires clip { c < length inputs.old.components }
+    ensures { (node : ℕ → Option ℕ) → node c ≡ Some m
+        → OnOk result (Adds (site_nodes E.meaning site.now) node (IsSomeOf c frames.now) inputs.old inputs.new) }
+{
+    for f in frames {
+        add_frame(alloc, site, done, c, m, *f, inputs)?;
+    }
+    Ok(())
+}
+
+/// Adds what stands for a node at a frame, as a clip.
+pub(crate) fn add_frame<'s, E: Catalogue>(
+    alloc: Global,
+    site: &'s Site<'s, E>,
+    done: &'s [Whole],
+    c: u32,
+    m: u32,
+    f: i64,
+    inputs: &mut Inputs<'s>,
+) -> Result<(), Memory>
+    requires site { IsSite E.meaning E.number_of site.now }
+    requires there { m < length site.now.graph.now.nodes.items }
+    requires done { AreWhole (site_nodes E.meaning site.now) done.now }
+    requires made { is_made done.now m f ≡ true }
+    requires clip { c < length inputs.old.components }
+    ensures { (node : ℕ → Option ℕ) → node c ≡ Some m
+        → OnOk result (Adds (site_nodes E.meaning site.now) node (IsOne c f) inputs.old inputs.new) }
+{
+    let node = &site.graph.nodes[m as usize];
+    match &node.work {
+        Work::Source {
+            first,
+            last,
+            hold,
+            ..
+        } => match image_shown(site.store, m, *first, *last, *hold, f) {
+            None => Ok(()),
+            Some(image) => add_source(alloc, image, node.depth, node.components, c, f, inputs),
+        },
+        Work::Effect { .. } => {
+            let images = made_of(done, m, f).images.as_slice();
+            add_images(alloc, images, c, f, inputs)
+        }
+    }
+}
+
+// Adds the frame of a source, which is seen at the source's depth and components first.
+fn add_source<'s>(
+    alloc: Global,
+    image: &'s Image,
+    depth: Depth,
+    components: Components,
+    c: u32,
+    f: i64,
+    inputs: &mut Inputs<'s>,
+) -> Result<(), Memory>
+    requires { c < length inputs.old.components }
+    ensures { let through = record { depth = depth; components = components } ∷ [] in
+        OnOk result (inputs.new
+        ≡ record inputs.old { pieces = inputs.old.pieces ++ piece_of c f through image.now ∷ [] }) }
+{
+    let step = Step { depth, components };
+    let through = Steps::of(vec![in alloc; step]?);
+    push_image(alloc, c, f, image, through, inputs)
+}
+
+fn add_images<'s>(
+    alloc: Global,
+    images: &'s [Image],
+    c: u32,
+    f: i64,
+    inputs: &mut Inputs<'s>,
+) -> Result<(), Memory>
+    requires { c < length inputs.old.components }
+    ensures { OnOk result (inputs.new
+        ≡ record inputs.old { pieces = inputs.old.pieces ++ map (piece_of c f []) images.now }) }
+{
+    for image in images {
+        push_image(alloc, c, f, image, Steps::of(Vec::new(alloc)), inputs)?;
+    }
+    Ok(())
+}
+
+fn push_image<'s>(
+    alloc: Global,
+    c: u32,
+    f: i64,
+    image: &'s Image,
+    through: Steps,
+    inputs: &mut Inputs<'s>,
+) -> Result<(), Memory>
+    requires { c < length inputs.old.components }
+    ensures { OnOk result (inputs.new
+        ≡ record inputs.old { pieces = inputs.old.pieces ++ piece_of c f through image.now ∷ [] }) }
+{
+    let view = image.view(image.rect());
+    inputs.push(alloc, c, f, Piece::Frame { view, through })
+}

@@ -1,0 +1,19 @@
+//! The picture of a frame of a graph, by whole frames on one thread. Each node that the output reads is made
+//! once at each frame at which it is read, as images that together have its region of definition; what a node
+//! reads is made before it.
+#![tactic(auto)]
+
+mod areas;
+mod copy;
+mod cuts;
+mod inputs;
+mod picture;
+mod render;
+mod site;
+#[cfg(test)]
+mod tests;
+#[cfg(test)]
+mod toy;
+mod whole;
+
+pub use picture::frame;

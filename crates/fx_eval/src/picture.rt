@@ -1,0 +1,111 @@
+//! The picture of a frame.
+ghost use Rattle.std.specs.Prelude.{◌≡◌, ◌∷◌, [], ◌≤ℤ◌, ℤ, pos, neg_ℤ, true, IfOk, OnOk};
+ghost use Rattle.fx_base.specs.declared.limits.TheConstants.{LAST_FRAME};
+ghost use Rattle.fx_pam.specs.Laws.{components_for};
+ghost use Rattle.fx_image.specs.Image.{SameImage};
+ghost use Rattle.fx_image.specs.Stored.{image_of};
+ghost use Rattle.fx_effect.specs.Shape.{IsProject};
+ghost use Rattle.fx_effect.specs.Given.{row_pixel};
+ghost use Rattle.fx_scene.specs.Scenes.{graph_shown, images_in, picture};
+ghost use Rattle.fx_eval.specs.Sites.{HasLife, IsSite, site_nodes};
+ghost use Rattle.fx_eval.specs.Wholes.{AreWhole, is_made};
+ghost use Rattle.fx_eval.specs.Filled.{IsFilled};
+
+use crate::copy::copy_frame;
+use crate::inputs::add_frame;
+use crate::site::Site;
+use crate::whole::{Whole, wholes};
+use fx_base::{Memory, Rect};
+use fx_effect::{Catalogue, Inputs};
+use fx_image::Image;
+use fx_life::Life;
+use fx_pixel::{Components, Depth, Format};
+use fx_scene::{Scene, reach};
+use std::alloc::Global;
+
+/// The picture of a frame: the value of the output's node over the project's extent, at the project's depth,
+/// with Alpha for grey files and RGBA for all others. The life is that of a graph of these nodes. Each node is
+/// rendered by its own instance, once at each frame at which the output reads it, over its region of definition
+/// in pieces of at most 4,096 by 4,096 pixels. `Memory` comes where memory is wanting.
+pub fn frame<E: Catalogue + Drop>(
+    alloc: Global,
+    scene: &Scene<E>,
+    life: &Life<E>,
+    frame: i64,
+) -> Result<Image, Memory>
+    requires life { HasLife E.number_of scene.now.graph life.now }
+    requires low { neg_ℤ (pos LAST_FRAME) ≤ℤ frame }
+    requires high { frame ≤ℤ pos LAST_FRAME }
+    ensures { let picture = picture E.meaning scene.now.graph (images_in scene.now.store) frame in
+        IfOk result (λ image. SameImage (image_of image) picture) }
+{
+    let site = Site {
+        graph: scene.graph(),
+        store: scene.store(),
+        number: scene.number(),
+        life,
+    };
+    let moments = reach(alloc, site.graph, frame, frame)?;
+    let done = wholes(alloc, &site, &moments)?;
+    let mut image = blank(
+        alloc,
+        site.graph.project,
+        site.graph.depth,
+        site.graph.format,
+    )?;
+    show(alloc, &site, done.as_slice(), frame, &mut image)?;
+    Ok(image)
+}
+
+fn blank(alloc: Global, project: Rect, depth: Depth, format: Format) -> Result<Image, Memory>
+    requires { IsProject project }
+    ensures rect { IfOk result (λ image. image.rect ≡ project) }
+    ensures depth { IfOk result (λ image. image.depth ≡ depth) }
+    ensures components { IfOk result (λ image. image.components ≡ components_for format) }
+{
+    let components = components_for(format);
+    let row_bytes = (project.x2 - project.x1) as u32 * components.count() * depth.size();
+    Image::new(alloc, project, depth, components, row_bytes)
+}
+
+fn components_for(format: Format) -> Components
+    ensures { result ≡ components_for format }
+{
+    match format {
+        Format::Grayscale => Components::Alpha,
+        Format::Rgb | Format::RgbAlpha => Components::Rgba,
+    }
+}
+
+// Shows the output's node at a frame.
+fn show<E: Catalogue>(
+    alloc: Global,
+    site: &Site<'_, E>,
+    done: &[Whole],
+    frame: i64,
+    image: &mut Image,
+) -> Result<(), Memory>
+    requires site { IsSite E.meaning E.number_of site.now }
+    requires done { AreWhole (site_nodes E.meaning site.now) done.now }
+    requires made { is_made done.now site.now.graph.now.output frame ≡ true }
+    requires rect { image.old.rect ≡ site.now.graph.now.project }
+    requires depth { image.old.depth ≡ site.now.graph.now.depth }
+    requires components { image.old.components ≡ components_for site.now.graph.now.format }
+    ensures { let picture = picture E.meaning (graph_shown site.now.graph.now) (images_in site.now.store.now) frame in
+        OnOk result (SameImage (image_of image.new) picture) }
+{
+    let mut inputs = Inputs::new(alloc, image.depth(), vec![in alloc; image.components()]?)?;
+    add_frame(alloc, site, done, 0, site.graph.output, frame, &mut inputs)?;
+    copy_whole(&inputs, frame, image);
+    Ok(())
+}
+
+fn copy_whole(inputs: &Inputs<'_>, frame: i64, image: &mut Image)
+    requires depth { inputs.now.depth ≡ image.old.depth }
+    requires components { inputs.now.components ≡ image.old.components ∷ [] }
+    ensures { IsFilled image.old image.new (row_pixel inputs.now 0 frame) }
+{
+    let window = image.rect();
+    let mut part = image.part(window);
+    copy_frame(inputs, frame, &mut part);
+}

@@ -1,0 +1,235 @@
+//! Nodes at frames, each as images that together have its whole region of definition.
+ghost use Rattle.std.specs.Prelude.{◌≡◌, ◌<◌, ◌≤◌, ◌*◌, length, map, IfOk};
+ghost use Rattle.fx_base.specs.Rect.{IsNear, columns};
+ghost use Rattle.fx_image.specs.Stored.{pixel_size};
+ghost use Rattle.fx_effect.specs.Asked.{IsWindow};
+ghost use Rattle.fx_scene.specs.Reach.{IsNearFrame, IsPlace};
+ghost use Rattle.fx_graph.specs.Kept.{use_values};
+ghost use Rattle.fx_eval.specs.Sites.{IsSite, StandsIn, effect_at, site_nodes, area_shown, image_shown, seen_in};
+ghost use Rattle.fx_eval.specs.Cuts.{IsCut};
+ghost use Rattle.fx_eval.specs.Wholes.{AreWhole, IsOrder, IsReady, IsWhole, moment_of};
+ghost use Rattle.fx_eval.specs.Filled.{AreWindows, IsWindowOf};
+ghost use Rattle.fx_scene.specs.Nodes.{Effect};
+ghost use Rattle.fx_seq.specs.Held.{held};
+ghost use Rattle.fx_scene.specs.Scenes.{graph_shown, shown_frame};
+
+use crate::areas::areas_of;
+use crate::cuts::cut;
+use crate::inputs::inputs_of;
+use crate::render::render_whole;
+use crate::site::{EffectNode, Site, image_shown};
+use fx_actions::region_of_definition;
+use fx_base::{Memory, Rect};
+use fx_effect::{Catalogue, Inputs, Values};
+use fx_graph::Work;
+use fx_image::Image;
+use fx_pixel::{Components, Depth};
+use fx_scene::{Moment, frames_read, use_values};
+use fx_seq::Store;
+use std::alloc::Global;
+use std::collections::BTreeSet;
+
+/// A node at a frame: its region of definition, and for an effect images that together have it. A source
+/// has none, since its frame is held by the store.
+#[derive(Drop)]
+pub(crate) struct Whole {
+    pub node: u32,
+    pub frame: i64,
+    pub area: Rect,
+    pub images: Vec<Image>,
+}
+
+/// Each of these nodes at frames, in their order, so that what one reads is made before it.
+pub(crate) fn wholes<E: Catalogue + Drop>(
+    alloc: Global,
+    site: &Site<'_, E>,
+    moments: &BTreeSet<Moment>,
+) -> Result<Vec<Whole>, Memory>
+    requires site { IsSite E.meaning E.number_of site.now }
+    requires order { IsOrder (site_nodes E.meaning site.now) (length site.now.graph.now.nodes.items) moments.now }
+    ensures whole { IfOk result (λ done. AreWhole (site_nodes E.meaning site.now) done.items) }
+    ensures all { IfOk result (λ done. map moment_of done.items ≡ moments.now.keys) }
+{
+    let mut done = Vec::new(alloc);
+    for moment in moments {
+        let whole = whole_of(alloc, site, done.as_slice(), *moment)?;
+        done.push(whole)?;
+    }
+    Ok(done)
+}
+
+fn whole_of<E: Catalogue + Drop>(
+    alloc: Global,
+    site: &Site<'_, E>,
+    done: &[Whole],
+    moment: Moment,
+) -> Result<Whole, Memory>
+    requires site { IsSite E.meaning E.number_of site.now }
+    requires place { IsPlace (length site.now.graph.now.nodes.items) moment.node moment.frame }
+    requires done { AreWhole (site_nodes E.meaning site.now) done.now }
+    requires ready { IsReady (site_nodes E.meaning site.now moment.node) moment.frame done.now }
+    ensures whole { IfOk result (λ w. IsWhole (site_nodes E.meaning site.now) w) }
+    ensures moment { IfOk result (λ w. moment_of w ≡ moment) }
+{
+    let Moment { node: n, frame } = moment;
+    let node = &site.graph.nodes[n as usize];
+    match &node.work {
+        Work::Source {
+            first,
+            last,
+            hold,
+            ..
+        } => Ok(Whole {
+            node: n,
+            frame,
+            area: area_shown(site.store, n, *first, *last, *hold, frame),
+            images: Vec::new(alloc),
+        }),
+        Work::Effect {
+            effect,
+            context,
+            clips,
+            names,
+            optional,
+            masks,
+            params,
+        } => {
+            let used = EffectNode {
+                place: n,
+                depth: node.depth,
+                components: node.components,
+                effect,
+                context: *context,
+                clips: clips.as_slice(),
+                names,
+                optional,
+                masks,
+                params: params.as_slice(),
+            };
+            effect_whole(alloc, site, done, &used, frame)
+        }
+    }
+}
+
+// The rectangle of the frame that a source shows.
+fn area_shown(store: &Store, n: u32, first: u32, last: u32, hold: bool, frame: i64) -> Rect
+    requires { first ≤ last }
+    ensures { result ≡ area_shown (image_shown (held store.now n) (shown_frame first last hold frame)) }
+{
+    match image_shown(store, n, first, last, hold, frame) {
+        None => Rect::of(0, 0, 0, 0),
+        Some(image) => image.rect(),
+    }
+}
+
+fn effect_whole<E: Catalogue + Drop>(
+    alloc: Global,
+    site: &Site<'_, E>,
+    done: &[Whole],
+    node: &EffectNode<'_, E>,
+    frame: i64,
+) -> Result<Whole, Memory>
+    requires site { IsSite E.meaning E.number_of site.now }
+    requires there { StandsIn (graph_shown site.now.graph.now) node.now }
+    requires near { IsNearFrame node.now.place frame }
+    requires done { AreWhole (site_nodes E.meaning site.now) done.now }
+    requires ready { IsReady (Effect (effect_at E.meaning site.now.graph.now.project node.now)) frame done.now }
+    ensures whole { IfOk result (λ w. IsWhole (site_nodes E.meaning site.now) w) }
+    ensures node { IfOk result (λ w. w.node ≡ node.now.place) }
+    ensures frame { IfOk result (λ w. w.frame ≡ frame) }
+{
+    let project = site.graph.project;
+    let values = use_values(alloc, project, node.clips, node.params, frame)?;
+    let reads = frames_read(alloc, node.effect, node.names, &values)?;
+    let frames = reads.as_slice();
+    let areas = areas_of(alloc, done, node, project, frame, frames)?;
+    let area = region_of_definition(
+        alloc,
+        node.effect,
+        node.context,
+        node.optional,
+        &values,
+        areas.as_slice(),
+    )?;
+    let inputs = inputs_of(alloc, site, done, node, frame, frames)?;
+    let images = images_of(alloc, site, node, area, &values, &inputs)?;
+    Ok(Whole {
+        node: node.place,
+        frame,
+        area,
+        images,
+    })
+}
+
+// Images that together are a region of a node.
+fn images_of<E: Catalogue + Drop>(
+    alloc: Global,
+    site: &Site<'_, E>,
+    node: &EffectNode<'_, E>,
+    area: Rect,
+    values: &Values,
+    inputs: &Inputs<'_>,
+) -> Result<Vec<Image>, Memory>
+    requires site { IsSite E.meaning E.number_of site.now }
+    requires there { StandsIn (graph_shown site.now.graph.now) node.now }
+    requires near { IsNearFrame node.now.place values.now.frame }
+    requires values { let v = values.now in
+        v ≡ use_values site.now.graph.now.project v.frame node.now.clips.now node.now.params.now }
+    requires area { IsWindow area }
+    requires depth { inputs.now.depth ≡ node.now.depth }
+    requires components { inputs.now.components ≡ map (seen_in node.now.components) node.now.masks.now }
+    ensures { let m = E.meaning node.now.effect.now in let depth = node.now.depth in
+        IfOk result (λ images.
+        AreWindows m values.now inputs.now depth node.now.components area images.items) }
+{
+    let cuts = cut(alloc, area)?;
+    let mut images = Vec::new(alloc);
+    for region in &cuts {
+        let image = window_of(alloc, site, node, *region, values, inputs)?;
+        images.push(image)?;
+    }
+    Ok(images)
+}
+
+// A window of a node, rendered into an image of its own.
+fn window_of<E: Catalogue + Drop>(
+    alloc: Global,
+    site: &Site<'_, E>,
+    node: &EffectNode<'_, E>,
+    region: Rect,
+    values: &Values,
+    inputs: &Inputs<'_>,
+) -> Result<Image, Memory>
+    requires site { IsSite E.meaning E.number_of site.now }
+    requires there { StandsIn (graph_shown site.now.graph.now) node.now }
+    requires near { IsNearFrame node.now.place values.now.frame }
+    requires values { let v = values.now in
+        v ≡ use_values site.now.graph.now.project v.frame node.now.clips.now node.now.params.now }
+    requires region { IsCut region }
+    requires depth { inputs.now.depth ≡ node.now.depth }
+    requires components { inputs.now.components ≡ map (seen_in node.now.components) node.now.masks.now }
+    ensures { let m = E.meaning node.now.effect.now in
+        IfOk result (IsWindowOf m values.now inputs.now node.now.depth node.now.components region) }
+{
+    let row_bytes = row_bytes_of(region, node.depth, node.components);
+    let mut image = Image::new(alloc, region, node.depth, node.components, row_bytes)?;
+    render_whole(
+        alloc,
+        site.life,
+        site.number,
+        node.place,
+        values,
+        inputs,
+        &mut image,
+    )?;
+    Ok(image)
+}
+
+fn row_bytes_of(region: Rect, depth: Depth, components: Components) -> u32
+    requires near { IsNear region }
+    requires wide { columns region ≤ 4096 }
+    ensures value { result ≡ columns region * pixel_size depth components }
+    ensures small { result ≤ 32768 }
+{
+    (region.x2 - region.x1) as u32 * components.count() * depth.size()
+}
