@@ -1,7 +1,6 @@
-pub mod JsonLemmas
-pub mod NameLemmas
+pub mod WordLemmas
+pub mod GraphLemmas
+pub mod EffectLemmas
+pub mod WantedLemmas
 pub mod FilesLemmas
-pub mod FillLemmas
 pub mod StepsLemmas
-pub mod PictureLemmas
-mod EffectLemmas

@@ -1,9 +1,6 @@
 pub mod Words
-pub mod Json
-pub mod GraphFile
-pub mod Run
-pub mod Nodes
+pub mod Graphs
 pub mod Texts
+pub mod Files
+pub mod Run
 pub mod Steps
-pub mod Picture
-pub mod Ready

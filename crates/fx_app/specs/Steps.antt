@@ -1,116 +1,128 @@
--- What the steps of a run may end with, and what they leave.
-use Rattle.std.specs.Prelude.{◌≡◌, ℕ, ◌+◌, ◌≤◌, ◌<◌, ◌⊎◌, List, option_map, Contains, Some}
-use Rattle.fx_outside.specs.Outside.{Files, HasRisen, SameFiles, SameBut}
-use Rattle.fx_image.specs.Stored.{image_of}
+-- The failures of a run's steps: which fault of the run each is, what it shows of the outside, and what it leaves.
+use Rattle.std.specs.Prelude.{◌≡◌, ℕ, ◌+◌, ◌≤◌, ◌<◌, List, Some, None, Err}
+use Rattle.fx_app.specs.declared.graph.TheConstants.{GRAPH_SIDE}
+use Rattle.fx_outside.specs.Outside.{Files, HasRisen, SameFiles, SameBut, AddsPrefix}
 use Rattle.fx_seq.specs.declared.wanted.Wanted.{Wanted}
 use Rattle.fx_seq.specs.declared.fault.SeqFault.{SeqFault}
 use Rattle.fx_seq.specs.declared.fault.SeqFault.TheVariants as seq
-use Rattle.fx_seq.specs.declared.store.Store.{Store}
-use Rattle.fx_seq.specs.Held.{held}
-use Rattle.fx_chain.specs.Graph.{Graph}
-use Rattle.fx_chain.specs.Scene.{Frames}
-use Rattle.fx_chain.specs.Wants.{wanted_of}
-use Rattle.fx_app.specs.declared.texts.RunFault.{RunFault}
-use Rattle.fx_app.specs.declared.texts.RunFault.TheVariants as run
-use Rattle.fx_app.specs.Run.{IsRefused, AreFrames, frame_refused, Tells, frame_count, file_name, HasGained, HasGainedBut}
+use Rattle.fx_seq.specs.Filling.{ComesTo, IsQuiet}
+use Rattle.fx_graph.specs.Refusal.{refusal}
+use Rattle.fx_scene.specs.Scenes.{Images}
+use Rattle.fx_words.specs.declared.fault.RunFault.{RunFault}
+use Rattle.fx_words.specs.declared.fault.RunFault.TheVariants as run
+use Rattle.fx_app.specs.declared.graph.GraphFailure.{GraphFailure}
+use Rattle.fx_app.specs.declared.graph.GraphFailure.TheVariants as graph
+use Rattle.fx_app.specs.declared.sources.SourceFailure.{SourceFailure}
+use Rattle.fx_app.specs.declared.sources.SourceFailure.TheVariants as source
+use Rattle.fx_app.specs.declared.sources.TheConstants.{MOST_BYTES}
+use Rattle.fx_app.specs.declared.frames.PutFailure.{PutFailure}
+use Rattle.fx_app.specs.declared.frames.PutFailure.TheVariants as put
+use Rattle.fx_app.specs.declared.report.ReportFailure.{ReportFailure}
+use Rattle.fx_app.specs.declared.report.ReportFailure.TheVariants as report
+use Rattle.fx_app.specs.Graphs.{Graph, graph_under}
+use Rattle.fx_app.specs.Files.{AreWantedBy, AreImages, frame_refused, file_name, HasGained, HasGainedBut}
+use Rattle.fx_app.specs.Run.{IsToldAs}
+use Rattle.fx_app.specs.Texts.{report_of}
 
--- the images that a store holds for the first node
-abbrev pub frames_of : Store → Frames
-frames_of store t = option_map image_of (held store 0 t)
+-- ---- the fault of the run that each is
 
--- a fetch of this name failed, or memory was wanting
-abbrev pub IsReadFault : List ℕ → RunFault → Type 0
-IsReadFault name (run.Read other) = other ≡ name
-IsReadFault name run.Memory = Unit {0}
-IsReadFault name fault = ⊥
+abbrev pub graph_fault : GraphFailure → RunFault
+graph_fault (graph.Read name) = run.Read name
+graph_fault (graph.Refused code path) = run.Graph code path
+graph_fault graph.Memory = run.Memory
 
--- What ends a run before anything is put: where a fetch failed, the library's count of faults rose, and the name is the last that failed.
-abbrev pub FetchRose : ℕ → ℕ → List ℕ → RunFault → Type 0
-FetchRose before now last (run.Read name) = HasRisen before now × (last ≡ name)
-FetchRose before now last run.Usage = ⊥
-FetchRose before now last (run.Write name) = ⊥
-FetchRose before now last run.Report = ⊥
-FetchRose before now last fault = Unit {0}
+abbrev pub source_fault : SourceFailure → RunFault
+source_fault (source.Read name) = run.Read name
+source_fault (source.Refused node t why) = run.Frame node t why
+source_fault source.Memory = run.Memory
 
--- the graph's bytes are of another form, or no bytes were fetched
-abbrev pub IsGraphFault : Files → List ℕ → RunFault → Type 0
-IsGraphFault library name run.Graph = IsRefused library name
-IsGraphFault library name (run.Read other) = other ≡ name
-IsGraphFault library name run.Memory = Unit {0}
-IsGraphFault library name fault = ⊥
+abbrev pub put_fault : PutFailure → RunFault
+put_fault (put.Write name) = run.Write name
+put_fault put.Memory = run.Memory
 
--- a wanted frame is refused, or was not fetched
-abbrev pub IsFramesFault : Files → Graph → RunFault → Type 0
-IsFramesFault library g (run.Frame node t why) =
-    (refusal : SeqFault) × (frame_refused library g ≡ Some refusal) × Tells g refusal (run.Frame node t why)
-IsFramesFault library g (run.Read name) = (w : Wanted) × Contains (wanted_of g) w × (w.name ≡ name)
-IsFramesFault library g run.Memory = Unit {0}
-IsFramesFault library g fault = ⊥
+abbrev pub report_fault : ReportFailure → RunFault
+report_fault report.Report = run.Report
+report_fault report.Memory = run.Memory
 
--- the fault of a run that ends the fetching of its frames
-abbrev pub IsFillFault : Graph → SeqFault → RunFault → Type 0
-IsFillFault g (seq.Fetch node t name) f = f ≡ run.Read name
-IsFillFault g seq.Memory f = f ≡ run.Memory
-IsFillFault g (seq.Frame node t fault) f = Tells g (seq.Frame node t fault) f ⊎ (f ≡ run.Memory)
-IsFillFault g (seq.TooLarge node t sum) f = Tells g (seq.TooLarge node t sum) f ⊎ (f ≡ run.Memory)
+-- ---- the graph
 
--- a file of the range was not put: the depot's count rose, and the name is the last that failed
-abbrev pub IsPutFault : Graph → ℕ → ℕ → List ℕ → RunFault → Type 0
-IsPutFault g before now last (run.Write name) =
-    HasRisen before now × (last ≡ name) × (k : ℕ) × (k < frame_count g) × (file_name g (g.first + k) ≡ name)
-IsPutFault g before now last run.Memory = Unit {0}
-IsPutFault g before now last fault = ⊥
+-- a graph that was not fetched has the last name that failed
+abbrev pub GraphFetch : List ℕ → (before now : ℕ) (was last : List ℕ) → GraphFailure → Type 0
+GraphFetch name before now was last (graph.Read other) = HasRisen before now × (last ≡ other) × (name ≡ other)
+GraphFetch name before now was last (graph.Refused code path) = IsQuiet before now was last
+GraphFetch name before now was last graph.Memory = Unit {0}
 
--- the same of one file
-abbrev pub IsPutFaultOf : List ℕ → ℕ → ℕ → List ℕ → RunFault → Type 0
-IsPutFaultOf file before now last (run.Write name) = HasRisen before now × (last ≡ name) × (file ≡ name)
-IsPutFaultOf file before now last run.Memory = Unit {0}
-IsPutFaultOf file before now last fault = ⊥
+abbrev pub GraphCause : Files → List ℕ → GraphFailure → Type 0
+GraphCause library name (graph.Refused code path) = graph_under library name ≡ Some (Err (refusal code path))
+GraphCause library name (graph.Read other) = Unit {0}
+GraphCause library name graph.Memory = Unit {0}
 
--- what a file that was not put leaves
-abbrev pub LeavesFile : List ℕ → RunFault → Files → Files → Type 0
-LeavesFile file (run.Write name) old new = SameBut file old new
-LeavesFile file fault old new = SameFiles old new
+-- ---- the source frames
 
--- what the frames leave where one was not put
-abbrev pub LeavesFrames : Graph → Frames → RunFault → Files → Files → Type 0
-LeavesFrames g frames (run.Write name) old new =
-    (k : ℕ) × (k < frame_count g) × (name ≡ file_name g (g.first + k)) × HasGainedBut g frames k old new
-LeavesFrames g frames run.Memory old new = (k : ℕ) × (k ≤ frame_count g) × HasGained g frames k old new
-LeavesFrames g frames fault old new = ⊥
+-- none of the frames that are wanted from a to b is refused, and the images are those of their files
+pub record HasSources (library : Files) (g : Graph) (a b : ℕ) (images : Images) : Type 0 where
+  pub wanted : List Wanted
+  pub are : AreWantedBy g a b wanted
+  pub accepted : frame_refused library wanted ≡ None
+  pub shown : AreImages library wanted images
 
--- what ends a run whose frames are held: a file that was not put, or the report
-abbrev pub IsEndFault : Graph → (depot : ℕ × ℕ) → List ℕ → (out : ℕ × ℕ) → RunFault → Type 0
-IsEndFault g depot last out (run.Write name) = IsPutFault g depot.0 depot.1 last (run.Write name)
-IsEndFault g depot last out run.Memory = Unit {0}
-IsEndFault g depot last out run.Report = HasRisen out.0 out.1
-IsEndFault g depot last out fault = ⊥
+abbrev pub SourceFetch : (before now : ℕ) (was last : List ℕ) → SourceFailure → Type 0
+SourceFetch before now was last (source.Read name) = HasRisen before now × (last ≡ name)
+SourceFetch before now was last (source.Refused node t why) = IsQuiet before now was last
+SourceFetch before now was last source.Memory = Unit {0}
 
--- and what it leaves in the depot
-abbrev pub LeavesEnd : Graph → Frames → RunFault → Files → Files → Type 0
-LeavesEnd g frames (run.Write name) old new = LeavesFrames g frames (run.Write name) old new
-LeavesEnd g frames run.Report old new = HasGained g frames (frame_count g) old new
-LeavesEnd g frames run.Memory old new = (k : ℕ) × (k ≤ frame_count g) × HasGained g frames k old new
-LeavesEnd g frames fault old new = ⊥
+-- the frame of this name is wanted, and none before it is refused; or the first refusal is this one
+abbrev pub SourceCause : Files → Graph → ℕ → ℕ → SourceFailure → Type 0
+SourceCause library g a b (source.Read name) =
+    (wanted : List Wanted) × AreWantedBy g a b wanted
+    × (w : Wanted) × ComesTo library GRAPH_SIDE MOST_BYTES wanted w × (w.name ≡ name)
+SourceCause library g a b (source.Refused node t why) =
+    (wanted : List Wanted) × AreWantedBy g a b wanted
+    × (first : SeqFault) × (frame_refused library wanted ≡ Some first) × IsToldAs g first node t why
+SourceCause library g a b source.Memory = Unit {0}
 
--- what ends a run of a graph, by what the library tells
-abbrev pub GraphCause : Files → Graph → List ℕ → List ℕ → RunFault → Type 0
-GraphCause library g last_fetch last_put (run.Frame node t why) = IsFramesFault library g (run.Frame node t why)
-GraphCause library g last_fetch last_put (run.Read name) = (last_fetch ≡ name) × IsFramesFault library g (run.Read name)
-GraphCause library g last_fetch last_put (run.Write name) =
-    (last_put ≡ name) × (k : ℕ) × (k < frame_count g) × (file_name g (g.first + k) ≡ name)
-GraphCause library g last_fetch last_put run.Memory = Unit {0}
-GraphCause library g last_fetch last_put run.Report = Unit {0}
-GraphCause library g last_fetch last_put fault = ⊥
+-- the refusal of a frame by the name of its node, where memory is there for that
+abbrev pub IsRefusedAs : Graph → SeqFault → SourceFailure → Type 0
+IsRefusedAs g first (source.Refused node t why) = IsToldAs g first node t why
+IsRefusedAs g first (source.Read name) = ⊥
+IsRefusedAs g first source.Memory = Unit {0}
 
--- and what it leaves in the depot
-pub record GraphLeaves (library : Files) (g : Graph) (fault : RunFault) (old new : Files) : Type 0 where
-  pub frames : Frames
-  pub are : AreFrames library g frames
-  pub leaves : LeavesEnd g frames fault old new
+-- how the source frames failed, by how their store did
+abbrev pub IsSourceFailure : Graph → SeqFault → SourceFailure → Type 0
+IsSourceFailure g (seq.Fetch node t name) failure = failure ≡ source.Read name
+IsSourceFailure g (seq.Frame node t fault) failure = IsRefusedAs g (seq.Frame node t fault) failure
+IsSourceFailure g (seq.TooLarge node t sum) failure = IsRefusedAs g (seq.TooLarge node t sum) failure
+IsSourceFailure g seq.Memory failure = failure ≡ source.Memory
 
-abbrev pub LeavesGraph : Files → Graph → RunFault → Files → Files → Type 0
-LeavesGraph library g (run.Write name) old new = GraphLeaves library g (run.Write name) old new
-LeavesGraph library g run.Report old new = GraphLeaves library g run.Report old new
-LeavesGraph library g run.Memory old new = SameFiles old new ⊎ GraphLeaves library g run.Memory old new
-LeavesGraph library g fault old new = SameFiles old new
+-- ---- the files
+
+-- a file that was not put has the last name that failed
+abbrev pub FilePut : List ℕ → (before now : ℕ) (was last : List ℕ) → PutFailure → Type 0
+FilePut file before now was last (put.Write name) = HasRisen before now × (last ≡ name) × (file ≡ name)
+FilePut file before now was last put.Memory = IsQuiet before now was last
+
+abbrev pub LeavesFile : List ℕ → PutFailure → Files → Files → Type 0
+LeavesFile file (put.Write name) old new = SameBut file old new
+LeavesFile file put.Memory old new = SameFiles old new
+
+-- the same of one of the files of n frames from a on
+abbrev pub FilesPut : Graph → ℕ → ℕ → (before now : ℕ) (was last : List ℕ) → PutFailure → Type 0
+FilesPut g a n before now was last (put.Write name) =
+    HasRisen before now × (last ≡ name) × (k : ℕ) × (k < n) × (file_name g (a + k) ≡ name)
+FilesPut g a n before now was last put.Memory = IsQuiet before now was last
+
+-- the files of the frames before it were put
+abbrev pub LeavesFiles : Graph → Images → ℕ → ℕ → PutFailure → Files → Files → Type 0
+LeavesFiles g images a n (put.Write name) old new =
+    (k : ℕ) × (k < n) × (name ≡ file_name g (a + k)) × HasGainedBut g images a k old new
+LeavesFiles g images a n put.Memory old new = (k : ℕ) × (k ≤ n) × HasGained g images a k old new
+
+-- ---- the report
+
+abbrev pub ReportRose : ℕ → ℕ → ReportFailure → Type 0
+ReportRose before now report.Report = HasRisen before now
+ReportRose before now report.Memory = Unit {0}
+
+abbrev pub BeginsReport : ℕ → ReportFailure → List ℕ → List ℕ → Type 0
+BeginsReport count report.Report old new = AddsPrefix (report_of count) old new
+BeginsReport count report.Memory old new = new ≡ old

@@ -1,168 +1,162 @@
-//! From a graph to its source frames, and to the files of its frames.
-ghost use Rattle.std.specs.Prelude.{◌≡◌, ◌≤◌, ◌+◌, pos, Some, None, IfOk, IfErr, OnOk};
+//! The files of the frames.
+ghost use Rattle.std.specs.Prelude.{◌≡◌, ◌≤◌, IfOk, IfErr, OnOk};
+ghost use Rattle.fx_base.specs.declared.limits.TheConstants.{LAST_FRAME};
 ghost use Rattle.fx_outside.specs.Outside.{SameFiles};
-ghost use Rattle.fx_pixel.specs.declared.Format.TheVariants.{RgbAlpha};
-ghost use Rattle.fx_pam.specs.Text.{pam_text};
-ghost use Rattle.fx_chain.specs.Scene.{picture};
-ghost use Rattle.fx_app.specs.Run.{AreFrames, frame_refused, fault_of, source_name, frame_count, file_name, with_file, HasGained};
-ghost use Rattle.fx_app.specs.Ready.{AreReady};
-ghost use Rattle.fx_app.specs.Steps.{frames_of, FetchRose, IsFillFault, IsFramesFault, IsPutFault, IsPutFaultOf, LeavesFile, LeavesFrames};
-ghost use Rattle.fx_app.specs.declared.texts.RunFault.TheVariants.{Memory as OutOfMemory};
+ghost use Rattle.fx_seq.specs.Filling.{IsQuiet};
+ghost use Rattle.fx_scene.specs.Scenes.{graph_shown, images_in};
+ghost use Rattle.fx_shipped.specs.Shipped.{number_of};
+ghost use Rattle.fx_eval.specs.Sites.{HasLife};
+ghost use Rattle.fx_app.specs.Graphs.{frame_count};
+ghost use Rattle.fx_app.specs.Files.{file_name, file_text, with_file, HasGained};
+ghost use Rattle.fx_app.specs.Steps.{put_fault, FilePut, FilesPut, LeavesFile, LeavesFiles};
 
-use crate::picture::picture_text;
-use crate::plugins::Plugins;
-use crate::texts::{FrameFault, RunFault};
+use crate::effects::all_effects;
 use fx_base::{Memory, Name};
-use fx_chain::{Graph, Start, wants};
-use fx_outside::{Depot, Library, PutFault};
-use fx_pam::PamFault;
-use fx_seq::{SeqFault, Store};
+use fx_eval::frame;
+use fx_graph::Graph;
+use fx_life::Life;
+use fx_outside::{Depot, PutFault};
+use fx_pam::write;
+use fx_scene::Scene;
+use fx_seq::Store;
+use fx_shipped::Shipped;
+use fx_words::RunFault;
 use std::alloc::Global;
 
-// The greatest side of a source frame, in pixels.
-const MOST_SIDE: u32 = 4096;
+/// Why not every frame was put.
+#[derive(Debug, Drop)]
+pub(crate) enum PutFailure {
+    /// The file of this name could not be written.
+    Write(Name),
+    /// Memory was wanting.
+    Memory,
+}
 
-// As many bytes as the pixels of all source frames may have together.
-const MOST_BYTES: u64 = 1 << 31;
+impl From<Memory> for PutFailure {
+    ghost use Rattle.fx_app.specs.declared.frames.PutFailure.TheVariants.{Memory as OutOfMemory};
 
-/// Fetches and reads the source frames that the range needs.
-pub fn store_of<L: Library>(
-    alloc: Global,
-    graph: &Graph,
-    library: &mut L,
-) -> Result<Store, RunFault>
-    ensures frames { L.tells → IfOk result (λ store. AreFrames (L.file library.old) graph.now (frames_of store)) }
-    ensures accepted { L.tells → OnOk result (frame_refused (L.file library.old) graph.now ≡ None) }
-    ensures fault { L.tells → IfErr result (λ e. IsFramesFault (L.file library.old) graph.now e) }
-    ensures fetch { IfErr result (λ e. FetchRose (L.faults library.old) (L.faults library.new) (L.last library.new) e) }
-    ensures later { L.faults library.old ≤ L.faults library.new }
-{
-    let wanted = wants(alloc, graph)?;
-    match Store::fill(alloc, library, &wanted, MOST_BYTES, MOST_SIDE) {
-        Ok(store) => Ok(store),
-        Err(fault) => Err(fill_fault(alloc, graph, fault)),
+    ghost from_gives = { λ _ e. e ≡ OutOfMemory };
+
+    fn from(_: Memory) -> PutFailure {
+        PutFailure::Memory
     }
 }
 
-// What ends a run whose frames were not all held.
-fn fill_fault(alloc: Global, graph: &Graph, fault: SeqFault) -> RunFault
-    ensures { IsFillFault graph.now fault result }
-{
-    match fault {
-        SeqFault::Fetch(_, _, name) => RunFault::Read(name),
-        SeqFault::Frame(_, frame, fault) => match (source_name(alloc, graph), fault_of(fault)) {
-            (Ok(name), Some(why)) => RunFault::Frame(name, frame, why),
-            _ => RunFault::Memory,
-        },
-        SeqFault::TooLarge(_, frame, sum) => match source_name(alloc, graph) {
-            Ok(name) => RunFault::Frame(name, frame, FrameFault::TooLarge(sum)),
-            Err(Memory) => RunFault::Memory,
-        },
-        SeqFault::Memory => RunFault::Memory,
-    }
-}
+impl From<PutFailure> for RunFault {
+    ghost from_gives = { λ failure fault. fault ≡ put_fault failure };
 
-// The name of the source, as a copy.
-fn source_name(alloc: Global, graph: &Graph) -> Result<Name, Memory>
-    ensures { IfOk result (λ name. name ≡ source_name graph.now.start) }
-{
-    let text = match graph.start() {
-        Start::Solid(_) => String::new(alloc),
-        Start::Source(source) => String::from_str(alloc, source.name.text())?,
-    };
-    Ok(Name::of(text))
-}
-
-fn fault_of(fault: PamFault) -> Option<FrameFault>
-    ensures { result ≡ fault_of fault }
-{
-    match fault {
-        PamFault::NotPam => Some(FrameFault::NotPam),
-        PamFault::HeaderWrong(line) => Some(FrameFault::HeaderWrong(line)),
-        PamFault::SizeOutOfRange(field) => Some(FrameFault::SizeOutOfRange(field)),
-        PamFault::Truncated(wanted, had) => Some(FrameFault::Truncated(wanted, had)),
-        PamFault::SampleAboveMaxval(place, value) => {
-            Some(FrameFault::SampleAboveMaxval(place, value))
+    fn from(failure: PutFailure) -> RunFault {
+        match failure {
+            PutFailure::Write(name) => RunFault::Write(name),
+            PutFailure::Memory => RunFault::Memory,
         }
-        PamFault::Memory => None,
     }
 }
 
-/// How many frames the range has.
-pub fn frame_count(graph: &Graph) -> u64
-    ensures { result ≡ frame_count graph.now }
-{
-    u64::from(graph.last()) + 1 - u64::from(graph.first())
-}
-
-/// Takes the graph's effects through their order of life, and renders and puts each frame of the range
-/// meanwhile. Every sequence is ended and every instance destroyed, whatever failed.
-pub fn put_frames<D: Depot>(
+/// Takes the effects of the program through their order of life, and renders and puts each frame from the
+/// first to the last meanwhile. Every sequence is ended and every instance destroyed, whatever failed. With no
+/// frame there is no sequence.
+pub(crate) fn put_frames<D: Depot>(
     alloc: Global,
-    graph: &Graph,
-    store: &Store,
+    graph: Graph<Shipped>,
+    store: Store,
+    first: u32,
+    last: u32,
     depot: &mut D,
-) -> Result<(), RunFault>
-    ensures ok { D.tells
-        → OnOk result (HasGained graph.now (frames_of store.now) (frame_count graph.now) (D.file depot.old) (D.file depot.new)) }
-    ensures fault { IfErr result
-        (λ e. IsPutFault graph.now (D.faults depot.old) (D.faults depot.new) (D.last depot.new) e) }
-    ensures leaves { D.tells
-        → IfErr result (λ e. LeavesFrames graph.now (frames_of store.now) e (D.file depot.old) (D.file depot.new)) }
+) -> Result<(), PutFailure>
+    requires first { first ≤ LAST_FRAME }
+    requires last { last ≤ LAST_FRAME }
+    ensures ok { let g = graph_shown graph in let images = images_in store in let n = frame_count first last in
+        D.tells → OnOk result (HasGained g images first n (D.file depot.old) (D.file depot.new)) }
+    ensures fault { let g = graph_shown graph in let n = frame_count first last in let at = D.last depot.new in
+        IfErr result (λ e. FilesPut g first n (D.faults depot.old) (D.faults depot.new) (D.last depot.old) at e) }
+    ensures leaves { let g = graph_shown graph in let images = images_in store in let n = frame_count first last in
+        D.tells → IfErr result (λ e. LeavesFiles g images first n e (D.file depot.old) (D.file depot.new)) }
+    ensures quiet { let at = D.last depot.new in
+        OnOk result (IsQuiet (D.faults depot.old) (D.faults depot.new) (D.last depot.old) at) }
 {
-    let plugins = Plugins::start(alloc, graph)?;
-    let put = put_each(alloc, graph, store, &plugins, depot);
-    plugins.finish();
+    if last < first {
+        return Ok(());
+    }
+    let (scene, _permit) = Scene::new(graph, store, 0);
+    let life = Life::start(alloc, scene.graph(), all_effects(alloc)?, first, last)?;
+    let put = put_each(alloc, &scene, &life, first, last, depot);
+    life.finish();
     put
 }
 
 fn put_each<D: Depot>(
     alloc: Global,
-    graph: &Graph,
-    store: &Store,
-    plugins: &Plugins,
+    scene: &Scene<Shipped>,
+    life: &Life<Shipped>,
+    first: u32,
+    last: u32,
     depot: &mut D,
-) -> Result<(), RunFault>
-    requires ready { AreReady graph.now plugins.now }
-    ensures ok { D.tells
-        → OnOk result (HasGained graph.now (frames_of store.now) (frame_count graph.now) (D.file depot.old) (D.file depot.new)) }
-    ensures fault { IfErr result
-        (λ e. IsPutFault graph.now (D.faults depot.old) (D.faults depot.new) (D.last depot.new) e) }
-    ensures leaves { D.tells
-        → IfErr result (λ e. LeavesFrames graph.now (frames_of store.now) e (D.file depot.old) (D.file depot.new)) }
+) -> Result<(), PutFailure>
+    requires life { HasLife number_of scene.now.graph life.now }
+    requires order { first ≤ last }
+    requires last { last ≤ LAST_FRAME }
+    ensures ok { let images = images_in scene.now.store in let n = frame_count first last in
+        D.tells → OnOk result (HasGained scene.now.graph images first n (D.file depot.old) (D.file depot.new)) }
+    ensures fault { let n = frame_count first last in let at = D.last depot.new in
+        IfErr result
+        (λ e. FilesPut scene.now.graph first n (D.faults depot.old) (D.faults depot.new) (D.last depot.old) at e) }
+    ensures leaves { let images = images_in scene.now.store in let n = frame_count first last in
+        D.tells → IfErr result (λ e. LeavesFiles scene.now.graph images first n e (D.file depot.old) (D.file depot.new)) }
+    ensures quiet { let at = D.last depot.new in
+        OnOk result (IsQuiet (D.faults depot.old) (D.faults depot.new) (D.last depot.old) at) }
 {
-    for frame in graph.first()..graph.last() + 1 {
-        match put_frame(alloc, graph, store, plugins, frame, depot) {
+    for frame in first..last + 1 {
+        match put_frame(alloc, scene, life, frame, depot) {
             Ok(()) => {}
-            Err(fault) => return Err(fault),
+            Err(failure) => return Err(failure),
         }
     }
     Ok(())
 }
 
+// The picture and its text end with the call.
 fn put_frame<D: Depot>(
     alloc: Global,
-    graph: &Graph,
-    store: &Store,
-    plugins: &Plugins,
+    scene: &Scene<Shipped>,
+    life: &Life<Shipped>,
     frame: u32,
     depot: &mut D,
-) -> Result<(), RunFault>
-    requires ready { AreReady graph.now plugins.now }
-    requires frame { frame ≤ 999999 }
-    ensures ok { D.tells
-        → OnOk result (SameFiles (with_file (file_name graph.now frame) (pam_text RgbAlpha (picture graph.now (frames_of store.now) (pos frame))) (D.file depot.old)) (D.file depot.new)) }
-    ensures fault { IfErr result
-        (λ e. IsPutFaultOf (file_name graph.now frame) (D.faults depot.old) (D.faults depot.new) (D.last depot.new) e) }
-    ensures leaves { D.tells
-        → IfErr result (λ e. LeavesFile (file_name graph.now frame) e (D.file depot.old) (D.file depot.new)) }
+) -> Result<(), PutFailure>
+    requires life { HasLife number_of scene.now.graph life.now }
+    requires frame { frame ≤ LAST_FRAME }
+    ensures ok { let g = scene.now.graph in let text = file_text g (images_in scene.now.store) frame in
+        D.tells → OnOk result (SameFiles (with_file (file_name g frame) text (D.file depot.old)) (D.file depot.new)) }
+    ensures fault { let name = file_name scene.now.graph frame in let at = D.last depot.new in
+        IfErr result (λ e. FilePut name (D.faults depot.old) (D.faults depot.new) (D.last depot.old) at e) }
+    ensures leaves { let name = file_name scene.now.graph frame in
+        D.tells → IfErr result (λ e. LeavesFile name e (D.file depot.old) (D.file depot.new)) }
+    ensures quiet { let at = D.last depot.new in
+        OnOk result (IsQuiet (D.faults depot.old) (D.faults depot.new) (D.last depot.old) at) }
     ensures later { D.faults depot.old ≤ D.faults depot.new }
 {
-    let name = graph.file().name(alloc, frame)?;
-    let text = picture_text(alloc, graph, store, plugins, frame)?;
+    let name = scene.graph().file.name(alloc, frame)?;
+    let text = text_of(alloc, scene, life, frame)?;
     match depot.put(alloc, name.text(), &text) {
         Ok(()) => Ok(()),
-        Err(PutFault::Failed) => Err(RunFault::Write(name)),
-        Err(PutFault::Memory) => Err(RunFault::Memory),
+        Err(PutFault::Failed) => Err(PutFailure::Write(name)),
+        Err(PutFault::Memory) => Err(PutFailure::Memory),
     }
+}
+
+// The text of a frame's picture. The picture itself ends with the call.
+fn text_of(
+    alloc: Global,
+    scene: &Scene<Shipped>,
+    life: &Life<Shipped>,
+    number: u32,
+) -> Result<Vec<u8>, Memory>
+    requires life { HasLife number_of scene.now.graph life.now }
+    requires frame { number ≤ LAST_FRAME }
+    ensures { IfOk result (λ bytes. bytes.items ≡ file_text scene.now.graph (images_in scene.now.store) number) }
+{
+    let image = frame(alloc, scene, life, i64::from(number))?;
+    let mut text = Vec::new(alloc);
+    write(alloc, &image, scene.graph().format, &mut text)?;
+    Ok(text)
 }

@@ -4,17 +4,13 @@
 //! graph's value.
 #![tactic(auto)]
 
-mod copy;
+mod effects;
 mod frames;
 mod graph;
-mod graph_under;
-mod json;
-mod picture;
-mod plugins;
+mod order;
+mod report;
+mod sources;
 mod steps;
 mod tell;
-mod texts;
-mod whole;
-mod words;
 
 pub use steps::run;

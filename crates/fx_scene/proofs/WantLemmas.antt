@@ -187,7 +187,7 @@ natural : (z : ℤ) → pos 0 ≤ℤ z → (k : ℕ) × (z ≡ pos k)
 natural (pos k) h = (k, refl)
 natural (negsuc k) h = absurd (omega (arith, ints))
 
-shown_natural : (first last : ℕ) (hold : Bool) (t f : ℤ) → shown_frame first last hold t ≡ Some f → (k : ℕ) × (f ≡ pos k)
+pub shown_natural : (first last : ℕ) (hold : Bool) (t f : ℤ) → shown_frame first last hold t ≡ Some f → (k : ℕ) × (f ≡ pos k)
 shown_natural first last hold t f e =
     let is = shown_is first last hold t f e in
     natural f (subst (λ (z : ℤ). pos 0 ≤ℤ z) is (omega (arith, ints, clamps)))

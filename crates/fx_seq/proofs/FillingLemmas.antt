@@ -12,7 +12,7 @@ use Rattle.fx_pam.proofs.FileImage.{gap_none}
 use Rattle.fx_seq.specs.declared.wanted.Wanted.{Wanted}
 use Rattle.fx_seq.specs.declared.fault.SeqFault.{SeqFault}
 use Rattle.fx_seq.specs.declared.fault.SeqFault.TheVariants.{Fetch, Frame, TooLarge, Memory}
-use Rattle.fx_seq.specs.Filling.{refusal, refusal_of, refusal_read, size_under, first_refused, IsApart, IsTold, IsFetchOf, IsFirstFetch}
+use Rattle.fx_seq.specs.Filling.{refusal, refusal_of, refusal_read, size_under, first_refused, IsApart, IsTold, IsFetchOf, IsFirstFetch, IsQuiet, IsQuietAt}
 use Rattle.fx_seq.specs.Frames.{IsPicture, image_size}
 
 -- what is told of the bytes is told of the name that they stand under
@@ -91,3 +91,13 @@ apart_before ws i w apart low is v inside =
     let there : get_or ws i v ≡ w = get_or_default ws i v w low ∙ sym is in
     let pair : IsApart (get_or ws k v) (get_or ws i v) = apart k i v below low in
     rw (here, there) at pair
+
+-- one call after the other failed at no fetch
+pub quiet_more : {a b c : ℕ} {x y z : List ℕ} → IsQuiet a b x y → IsQuiet b c y z → IsQuiet a c x z
+quiet_more p q = record { count = q.count ∙ p.count; last_one = q.last_one ∙ p.last_one }
+
+pub quiet_at_more : (a b c : ℕ) (x y z : List ℕ) (e : SeqFault) → IsQuiet a b x y → IsQuietAt b c y z e → IsQuietAt a c x z e
+quiet_at_more a b c x y z (Fetch node frame name) p q = tt
+quiet_at_more a b c x y z (Frame node frame fault) p q = quiet_more p q
+quiet_at_more a b c x y z (TooLarge node frame sum) p q = quiet_more p q
+quiet_at_more a b c x y z Memory p q = tt

@@ -48,6 +48,18 @@ first_refused files side limit sum [] = None
 first_refused files side limit sum (w ∷ ws) =
     option_or (refusal files side limit sum w) (first_refused files side limit (sum + size_under files w.name) ws)
 
+-- no call failed: the count of faults and the last name that failed are as before
+pub record IsQuiet (before now : ℕ) (was last : List ℕ) : Type 0 where
+  pub count : now ≡ before
+  pub last_one : last ≡ was
+
+-- a fault of a file, or of the sum, is answered only where no fetch failed
+abbrev pub IsQuietAt : ℕ → ℕ → List ℕ → List ℕ → SeqFault → Type 0
+IsQuietAt before now was last (Fetch node frame name) = Unit {0}
+IsQuietAt before now was last (Frame node frame fault) = IsQuiet before now was last
+IsQuietAt before now was last (TooLarge node frame sum) = IsQuiet before now was last
+IsQuietAt before now was last Memory = Unit {0}
+
 -- an answered fault of a file, or of the sum, is the one told
 abbrev pub IsTold : Option SeqFault → SeqFault → Type 0
 IsTold told (Fetch node frame name) = Unit {0}

@@ -5,7 +5,7 @@ ghost use Rattle.std.specs.Int.{int_gap};
 ghost use Rattle.fx_outside.specs.Outside.{SameFiles};
 ghost use Rattle.fx_image.specs.Stored.{image_of};
 ghost use Rattle.fx_pam.specs.Reading.{IsPam, pam_fault};
-ghost use Rattle.fx_seq.specs.Filling.{refusal, refusal_read, IsTold, IsFetchOf};
+ghost use Rattle.fx_seq.specs.Filling.{refusal, refusal_read, IsTold, IsFetchOf, IsQuiet, IsQuietAt};
 ghost use Rattle.fx_seq.specs.Frames.{image_size, IsSide, IsSourceFrame, IsPicture};
 ghost use Rattle.fx_seq.specs.declared.fault.SeqFault.TheVariants.{Fetch, TooLarge, Memory as OutOfMemory};
 ghost use Rattle.fx_seq.specs.declared.fault.SeqFault.{SeqFault};
@@ -27,7 +27,10 @@ pub fn read_frame<L: Library>(
     requires { most_side ≤ MOST_SIDE }
     ensures picture { L.tells → IfOk result (λ image. IsPicture (L.file library.old) most_side wanted.now.name image) }
     ensures frame { IfOk result (λ image. IsSourceFrame image) }
-    ensures quiet { OnOk result (L.faults library.new ≡ L.faults library.old) }
+    ensures quiet { let last = L.last library.new in
+        OnOk result (IsQuiet (L.faults library.old) (L.faults library.new) (L.last library.old) last) }
+    ensures quiet_refusal { let last = L.last library.new in
+        IfErr result (λ e. IsQuietAt (L.faults library.old) (L.faults library.new) (L.last library.old) last e) }
     ensures refused { L.tells
         → IfErr result (λ e. (limit sum : ℕ) → IsTold (refusal (L.file library.old) most_side limit sum wanted.now) e) }
     ensures fetch { let last = L.last library.new in
@@ -47,6 +50,8 @@ fn image_in(alloc: Global, bytes: &[u8], wanted: &Wanted, most_side: u32) -> Res
     ensures fault { let fault = pam_fault bytes.now most_side in
         IfErr result (λ e. (limit sum : ℕ) → IsTold (refusal_read limit wanted.now sum fault) e) }
     ensures no_fetch { IfErr result (λ e. (before now : ℕ) (last : List ℕ) → IsFetchOf before now last wanted.now e) }
+    ensures quiet { IfErr result (λ e. (before now : ℕ) (was last : List ℕ) → IsQuiet before now was last
+        → IsQuietAt before now was last e) }
 {
     match read(alloc, bytes, most_side) {
         Ok(image) => {
@@ -62,7 +67,9 @@ fn image_in(alloc: Global, bytes: &[u8], wanted: &Wanted, most_side: u32) -> Res
 fn fetch<L: Library>(alloc: Global, library: &mut L, wanted: &Wanted) -> Result<Vec<u8>, SeqFault>
     ensures bytes { L.tells → IfOk result (λ bytes. L.file library.old wanted.now.name ≡ Some bytes.items) }
     ensures no_refusal { IfErr result (λ e. (told : Option SeqFault) → IsTold told e) }
-    ensures quiet { OnOk result (L.faults library.new ≡ L.faults library.old) }
+    ensures quiet { let last = L.last library.new in
+        OnOk result (IsQuiet (L.faults library.old) (L.faults library.new) (L.last library.old) last) }
+    ensures not_quiet { IfErr result (λ e. (before now : ℕ) (was last : List ℕ) → IsQuietAt before now was last e) }
     ensures failed { let last = L.last library.new in
         IfErr result (λ e. IsFetchOf (L.faults library.old) (L.faults library.new) last wanted.now e) }
     ensures later { L.faults library.old ≤ L.faults library.new }

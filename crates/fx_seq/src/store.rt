@@ -42,7 +42,7 @@ impl Store {
     ghost use Rattle.std.specs.Prelude.{◌≡◌, ◌≤◌, ◌+◌, ◌^◌, None, IfOk, IfErr, IfSome, OnOk, AllPairs};
     ghost use Rattle.std.specs.Option.{option_copied};
     ghost use Rattle.fx_outside.specs.Outside.{SameFiles};
-    ghost use Rattle.fx_seq.specs.Filling.{IsApart, first_refused, IsTold, IsFetchIn, IsFirstFetch};
+    ghost use Rattle.fx_seq.specs.Filling.{IsApart, first_refused, IsTold, IsFetchIn, IsFirstFetch, IsQuiet, IsQuietAt};
     ghost use Rattle.fx_seq.specs.Frames.{image_size, IsSourceFrame, Gains, HoldsPictures, HoldsOnly};
     ghost use Rattle.fx_seq.specs.Held.{held, held_size};
     ghost use Rattle.fx_seq.specs.declared.fault.SeqFault.TheVariants.{Memory as OutOfMemory};
@@ -70,11 +70,14 @@ impl Store {
             → IfOk result (λ store. HoldsPictures (L.file library.old) most_side wanted.now (held store)) }
         ensures only { IfOk result (λ store. HoldsOnly wanted.now (held store)) }
         ensures size { IfOk result (λ store. held_size store ≤ limit) }
-        ensures quiet { OnOk result (L.faults library.new ≡ L.faults library.old) }
+        ensures quiet { let last = L.last library.new in
+            OnOk result (IsQuiet (L.faults library.old) (L.faults library.new) (L.last library.old) last) }
 
         // A fault of a file or of the sum is the first refusal.
         ensures refused { let told = first_refused (L.file library.old) most_side limit 0 wanted.now in
             L.tells → IfErr result (λ e. IsTold told e) }
+        ensures quiet_refusal { let last = L.last library.new in
+            IfErr result (λ e. IsQuietAt (L.faults library.old) (L.faults library.new) (L.last library.old) last e) }
         // A fetch that failed is of a wanted frame, and no frame before it is refused.
         ensures fetch { let last = L.last library.new in
             IfErr result (λ e. IsFetchIn (L.faults library.old) (L.faults library.new) last wanted.now e) }

@@ -1,14 +1,16 @@
 use Rattle.std.proofs.Common.{◌≡◌, ◌≤◌, ◌+◌, ◌-◌}
-use Rattle.fx_app.specs.Run.{HasGained}
-use Rattle.fx_app.specs.Steps.{frames_of}
+use Rattle.fx_seq.specs.Filling.{IsQuiet}
+use Rattle.fx_scene.specs.Scenes.{images_in}
+use Rattle.fx_app.specs.Files.{HasGained}
 use Rattle.fx_app.proofs.frames.put_each.Given as goal
 
 abbrev pub invariant-loop-frame : goal.invariant-loop-frame
 invariant-loop-frame g l =
+    let depot = g.D.Depot in
     record {
-      from : l.graph.first ≤ l.frame;
+      from : l.first ≤ l.frame;
       up_to : l.frame ≤ l.frame-end;
-      until : l.frame-end ≡ l.graph.last + 1;
-      gained : g.D.Depot.tells → HasGained l.graph (frames_of l.store) (l.frame - l.graph.first) (g.D.Depot.file l.fn.depot) (g.D.Depot.file l.depot);
-      later : g.D.Depot.faults l.fn.depot ≤ g.D.Depot.faults l.depot;
+      until : l.frame-end ≡ l.last + 1;
+      gained : depot.tells → HasGained l.scene.graph (images_in l.scene.store) l.first (l.frame - l.first) (depot.file l.fn.depot) (depot.file l.depot);
+      quiet : IsQuiet (depot.faults l.fn.depot) (depot.faults l.depot) (depot.last l.fn.depot) (depot.last l.depot);
     }

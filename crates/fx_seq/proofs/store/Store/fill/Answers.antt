@@ -6,7 +6,7 @@ use Rattle.fx_seq.specs.Filling.{IsTold, first_refused}
 use Rattle.fx_seq.specs.Frames.{image_size, IsPicture, HoldsPictures, HoldsOnly}
 use Rattle.fx_seq.specs.Held.{held}
 use Rattle.fx_seq.proofs.HeldLemmas.{picture_same, pictures_more, only_more}
-use Rattle.fx_seq.proofs.FillingLemmas.{Accepts, accepts_more, accepts_all, told_first, refusal_same, too_large, fetch_comes, split_at, read_more, apart_before}
+use Rattle.fx_seq.proofs.FillingLemmas.{Accepts, accepts_more, accepts_all, told_first, refusal_same, too_large, fetch_comes, split_at, read_more, apart_before, quiet_more, quiet_at_more}
 use Rattle.fx_seq.proofs.store.Store.fill.Goals as goal
 
 pub add-requires-clause-free : goal.add-requires-clause-free
@@ -40,7 +40,7 @@ loop-frame-preserved g c =
       size = omega (arith, c.in_ok-add.ensures.size, so_far.size, sum);
       fits = c.in_ok-sum.ensures.fits;
       later = omega (arith, so_far.later, c.read_frame.ensures.later);
-      quiet = c.in_ok-image.ensures.quiet ∙ so_far.quiet;
+      quiet = quiet_more so_far.quiet c.in_ok-image.ensures.quiet;
       same = λ tells name. c.read_frame.ensures.same tells name ∙ so_far.same tells name;
     }
 
@@ -57,6 +57,16 @@ returns-in_err-image-clause-refused g c = λ tells.
     let told : IsTold _ e = subst (λ o. IsTold o e) (refusal_same files now c.args.most_side c.args.limit c.loop-frame.sum w (so_far.same tells w.name)) (c.in_err-image.ensures.refused tells c.args.limit c.loop-frame.sum) in
     let p = err_from_is_err_and c.from_residual.result c.from_residual.ensures.1 in
     rw (p.1, p.2) (told_first files c.args.most_side c.args.limit ws (take i ws) (drop (i + 1) ws) c.loop-frame.sum w e (so_far.accepts tells) (split_at ws i w c.loop-frame-test.true c.frame-item.is) told)
+
+pub returns-in_err-image-clause-quiet_refusal : goal.returns-in_err-image-clause-quiet_refusal
+returns-in_err-image-clause-quiet_refusal g c =
+    let p = err_from_is_err_and c.from_residual.result c.from_residual.ensures.1 in
+    rw (p.1, p.2) (quiet_at_more _ _ _ _ _ _ c.in_err-image.field-0.0 c.loop-frame.invariant.quiet c.in_err-image.ensures.quiet_refusal)
+
+pub returns-in_err-sum-clause-quiet_refusal : goal.returns-in_err-sum-clause-quiet_refusal
+returns-in_err-sum-clause-quiet_refusal g c =
+    let p = err_from_is_err_and c.from_residual-in_err-sum.result c.from_residual-in_err-sum.ensures.1 in
+    rw (p.1, p.2, c.in_err-sum.ensures.fault) (quiet_more c.loop-frame.invariant.quiet c.in_ok-image.ensures.quiet)
 
 pub returns-in_err-image-clause-fetch_first : goal.returns-in_err-image-clause-fetch_first
 returns-in_err-image-clause-fetch_first g c = λ tells.

@@ -1,5 +1,6 @@
 use Rattle.std.proofs.Common.{◌≡◌, ◌≤◌, take}
 use Rattle.fx_outside.specs.Outside.{SameFiles}
+use Rattle.fx_seq.specs.Filling.{IsQuiet}
 use Rattle.fx_seq.specs.Frames.{HoldsPictures, HoldsOnly}
 use Rattle.fx_seq.specs.Held.{held, held_size}
 use Rattle.fx_seq.proofs.FillingLemmas.{Accepts}
@@ -17,6 +18,6 @@ invariant-loop-frame g l =
       size : held_size l.store ≡ l.sum;
       fits : l.sum ≤ l.limit;
       later : library.faults l.fn.library ≤ library.faults l.library;
-      quiet : library.faults l.library ≡ library.faults l.fn.library;
+      quiet : IsQuiet (library.faults l.fn.library) (library.faults l.library) (library.last l.fn.library) (library.last l.library);
       same : library.tells → SameFiles (library.file l.fn.library) (library.file l.library);
     }

@@ -1,0 +1,48 @@
+//! What the words order, and which frames of a graph that is.
+ghost use Rattle.std.specs.Prelude.{◌≡◌, ◌≤◌, map, string_bytes};
+ghost use Rattle.fx_base.specs.declared.limits.TheConstants.{LAST_FRAME};
+ghost use Rattle.fx_scene.specs.Scenes.{graph_shown};
+ghost use Rattle.fx_words.specs.Seen.{Reads};
+ghost use Rattle.fx_app.specs.Words.{order_of};
+ghost use Rattle.fx_app.specs.Graphs.{first_of, last_of, frame_count};
+
+use fx_graph::Graph;
+use fx_shipped::Shipped;
+use fx_words::{Mode, Order, WordFault, read_words};
+use std::alloc::Global;
+
+/// The render that the words order. `Usage` comes where they are no use of the command, and where they ask
+/// for another mode.
+pub(crate) fn order_of(alloc: Global, words: &[String]) -> Result<Order, WordFault>
+    ensures { Reads result (order_of (map string_bytes words.now)) }
+{
+    let order = read_words(alloc, words)?;
+    match order.mode {
+        Mode::Render => Ok(order),
+        Mode::Check => Err(WordFault::Usage),
+        Mode::Bench => Err(WordFault::Usage),
+    }
+}
+
+/// The first frame that is rendered: that of the graph's range, or a later one that is ordered.
+pub(crate) fn first_of(graph: &Graph<Shipped>, order: &Order) -> u32
+    ensures value { result ≡ first_of (graph_shown graph.now) order.now }
+    ensures small { result ≤ LAST_FRAME }
+{
+    graph.first.max(order.first)
+}
+
+/// The last frame that is rendered. There are none where it is below the first.
+pub(crate) fn last_of(graph: &Graph<Shipped>, order: &Order) -> u32
+    ensures value { result ≡ last_of (graph_shown graph.now) order.now }
+    ensures small { result ≤ LAST_FRAME }
+{
+    graph.last.min(order.last)
+}
+
+/// How many frames there are from the first to the last.
+pub(crate) fn frame_count(first: u32, last: u32) -> u64
+    ensures { result ≡ frame_count first last }
+{
+    (u64::from(last) + 1).saturating_sub(u64::from(first))
+}

@@ -1,4 +1,0 @@
-pub mod TableLemmas
-pub mod ValueLemmas
-pub mod WantsLemmas
-pub mod ChainLemmas
