@@ -1,11 +1,13 @@
 #!/usr/bin/env bash
-# frames.sh: how many HD frames a second a render makes on one core, and how much memory it takes at
-# most: 24 frames of 1,920 by 1,080 pixels, r, g, b and a in bytes, through one invert and through five.
-# The frames are read from and written to files in memory. It works in a folder of its own there.
+# frames.sh: what a render of HD frames costs on one core: 24 frames of 1,920 by 1,080 pixels, r, g, b and a in bytes.
+# It renders one invert and five, and a graph of seven effects up to each of its nodes, and prints milliseconds a frame
+# (what one node adds is its share) and the peak of memory. The frames are read from and written to files in memory.
+# It works in a folder of its own there.
 set -eu
 here=$(cd "$(dirname "${BASH_SOURCE[0]}")/.." && pwd)
 program=$here/crates/ofxr/out/ofxr
 frames=24
+runs=${1:-3}
 
 if [ ! -x "$program" ]; then
   echo "frames.sh: build the program first: rt run, in crates/ofxr" >&2
@@ -25,35 +27,60 @@ for ((frame = 0; frame < frames; frame++)); do
 done
 rm noise
 
-# graph COUNT: a graph of so many inverts over the frames.
+# graph OUTPUT NODES: a graph of these nodes over the frames, rendered at one of them.
 graph() {
-  local node before=plate
+  local last=$((frames - 1))
   echo '{"ofxr":1,"project":{"width":1920,"height":1080,"depth":"byte","components":"RGBA"},'
-  echo "\"output\":{\"node\":\"i$1\",\"file\":\"out.#.pam\",\"format\":\"RGB_ALPHA\"},"
-  echo "\"range\":{\"first\":0,\"last\":$((frames - 1))},\"nodes\":["
-  echo "{\"name\":\"plate\",\"source\":\"plate.#.pam\",\"first\":0,\"last\":$((frames - 1))}"
-  for ((node = 1; node <= $1; node++)); do
-    echo ",{\"name\":\"i$node\",\"effect\":\"invert\",\"clips\":{\"Source\":\"$before\"}}"
-    before=i$node
-  done
-  echo ']}'
+  echo "\"output\":{\"node\":\"$1\",\"file\":\"out.#.pam\",\"format\":\"RGB_ALPHA\"},\"range\":{\"first\":0,\"last\":$last},"
+  echo "\"nodes\":[{\"name\":\"plate\",\"source\":\"plate.#.pam\",\"first\":0,\"last\":$last,\"outside\":\"hold\"}$2]}"
 }
 
-# measure COUNT: the best of five renders.
+# node NAME EFFECT CLIPS PARAMS: the text of a node.
+node() {
+  echo ",{\"name\":\"$1\",\"effect\":\"$2\",\"clips\":{$3},\"params\":{$4}}"
+}
+
+# measure WHAT: the best of some renders of g.json, and the memory of one.
 measure() {
-  local least=0 from to
-  graph "$1" >g.json
-  for _ in 1 2 3 4 5; do
+  local least=0 from to run
+  for ((run = 0; run < runs; run++)); do
     from=$(date +%s%N)
     "$program" render g.json >/dev/null
     to=$(date +%s%N)
     if [ $least -eq 0 ] || [ $((to - from)) -lt $least ]; then least=$((to - from)); fi
   done
-  echo "$1 inverts: $((frames * 1000000000 / least)) HD frames a second, $((least / frames / 1000)) microseconds a frame"
+  printf '%-24s %8d microseconds a frame' "$1" $((least / frames / 1000))
   if [ -x /usr/bin/time ]; then
-    echo "$1 inverts: $(/usr/bin/time -f %M "$program" render g.json 2>&1 >/dev/null) KB at most"
+    printf ', %d MB at most' $(($(/usr/bin/time -f %M "$program" render g.json 2>&1 >/dev/null) / 1000))
   fi
+  echo
 }
 
-measure 1
-measure 5
+inverts() {
+  local k before=plate
+  for ((k = 1; k <= $1; k++)); do
+    node i$k invert "\"Source\":\"$before\"" ''
+    before=i$k
+  done
+}
+
+graph plate '' >g.json
+measure 'the frames alone'
+for count in 1 5; do
+  graph i$count "$(inverts $count)" >g.json
+  measure "$count inverts"
+done
+
+nodes=$(
+  node blur boxblur '"Source":"plate"' '"rx":2,"ry":2'
+  node gain gain '"Source":"blur"' '"gain":"1.2"'
+  node colour saturation '"Source":"gain"' '"amount":"1.5"'
+  node blend frameblend '"Source":"plate"' '"radius":1'
+  node fade dissolve '"SourceFrom":"colour","SourceTo":"blend"' "\"Transition\":{\"keys\":[[0,0],[$((frames - 1)),1]]}"
+  node moved translate '"Source":"fade"' '"dx":"10.25"'
+  node over merge '"A":"moved","B":"plate"' ''
+)
+for output in blur gain colour blend fade moved over; do
+  graph $output "$nodes" >g.json
+  measure "up to $output"
+done

@@ -128,7 +128,7 @@ fn empty_texts_are_refused(rt: HostRuntime) -> Result<(), Fail> {
     assert_eq!(rt; left.told(), ended(3, b"ofxr: frame: src 0 P1\n"));
     assert_eq!(rt; left.depot.get("o0.pam"), None);
     let left = run_surely(&rt, alloc, "", &[])?;
-    assert_eq!(rt; left.told(), ended(2, b"ofxr: graph: G0\n"));
+    assert_eq!(rt; left.told(), ended(2, b"ofxr: graph: G1\n"));
     assert_eq!(rt; left.depot.get("o0.pam"), None);
     Ok(())
 }

@@ -51,6 +51,16 @@ const FAULTY: &[&[&str]] = &[
     &["render ", "g.json"],
     &["render", "g.json", "g.json"],
     &["g.json", "render"],
+    &["render", "g.json", "--first"],
+    &["render", "g.json", "--first", "-1"],
+    &["render", "g.json", "--last", "1000000"],
+    &["render", "g.json", "--tile", "0"],
+    &["render", "g.json", "--tile", "1025"],
+    &["render", "g.json", "--cache", "65536", "--tile", "65"],
+    &["render", "g.json", "--workers", "65"],
+    &["render", "g.json", "--speed", "1"],
+    &["render", "--first", "0", "--first", "0", "g.json"],
+    &["bench", "g.json"],
 ];
 
 // Every fetch would fail: none is made.

@@ -8,145 +8,165 @@ use std::test::Fail;
 const CHAIN: &str =
     r#"{"ofxr":1,"project":{"width":1,"height":1,"depth":"byte","components":"RGBA"},"output":{"node":"n2","file":"o#.pam","format":"RGB_ALPHA"},"range":{"first":3,"last":5},"nodes":[{"name":"src","source":"f#.pam","first":0,"last":9},{"name":"n1","effect":"invert","clips":{"Source":"src"}},{"name":"n2","effect":"invert","clips":{"Source":"n1"}}]}"#;
 
-// Texts of no object.
-const OTHERS: &[&str] = &["", "{", "[]", "1"];
+// Texts that are no graph, and the line of each.
+const OTHERS: &[(&str, &[u8])] = &[
+    ("", b"ofxr: graph: G1\n"),
+    ("{", b"ofxr: graph: G1\n"),
+    ("[]", b"ofxr: graph: G2\n"),
+    ("1", b"ofxr: graph: G2\n"),
+    ("{}", b"ofxr: graph: G2 ofxr\n"),
+];
 
-// What is replaced in the graph of a solid, and by what: none of these is of the form that is built.
-const REFUSED_SOLIDS: &[(&str, &str)] = &[
-    // The whole.
-    (r#""ofxr":1"#, r#""ofxr":2"#),
-    (r#""ofxr":1"#, r#""ofxr":"1""#),
-    (r#""ofxr":1"#, r#""ofxr":1.0"#),
-    (r#""ofxr":1,"#, ""),
-    (r#""ofxr":1"#, r#""note":1,"ofxr":1"#),
-    (r#"{"ofxr""#, r#"[{"ofxr""#),
-    ("}}]}", ""),
-    ("}}]}", "}}]}}"),
-    // The project.
-    (r#""width":2"#, r#""width":0"#),
-    (r#""width":2"#, r#""width":4097"#),
-    (r#""width":2"#, r#""width":-2"#),
-    (r#""width":2"#, r#""width":2.0"#),
-    (r#""width":2"#, r#""width":2e0"#),
-    (r#""width":2"#, r#""width":4294967298"#),
-    (r#""width":2,"#, ""),
-    (r#""height":1"#, r#""height":0"#),
-    (r#""height":1"#, r#""height":4097"#),
-    (r#""height":1"#, r#""height":"1""#),
-    (r#""byte""#, r#""short""#),
-    (r#""RGBA""#, r#""Alpha""#),
-    (r#","components":"RGBA""#, ""),
-    (r#""RGBA""#, r#""RGBA","rate":24"#),
-    // The output.
-    (r#""node":"s""#, r#""node":"t""#),
-    (r#""node":"s","#, ""),
-    ("o#.pam", "o.pam"),
-    ("o#.pam", "a#b#"),
-    ("o#.pam", ""),
-    ("o#.pam", r"o#\u0000"),
-    ("RGB_ALPHA", "RGB"),
-    ("RGB_ALPHA", "GRAYSCALE"),
-    (r#","format":"RGB_ALPHA""#, ""),
-    // The range.
-    (r#""first":0,"#, ""),
-    (r#""first":0"#, r#""first":1"#),
-    // The solid.
-    (r#""effect":"solid""#, r#""effect":"ramp""#),
-    (r#","effect":"solid""#, ""),
-    (r#""effect":"solid""#, r#""effect":"solid","clips":{}"#),
-    (r#""r":1"#, r#""r":2"#),
-    (r#""r":1"#, r#""r":-1"#),
-    (r#""r":1"#, r#""r":0.5"#),
-    (r#""r":1"#, r#""r":true"#),
-    (r#""r":1"#, r#""red":1"#),
-    (r#""0.5""#, r#""1.000008""#),
-    (r#""0.5""#, r#""-0.5""#),
-    (r#""0.5""#, r#""1.0000000""#),
-    (r#""0.5""#, r#""""#),
-    (r#""0.5""#, r#""half""#),
-    ("}}]", "}},{}]"),
-    (r#"[{"name""#, r#"[[],{"name""#),
+// What is replaced in the graph of a solid, and by what, and the line.
+const REFUSED_SOLIDS: &[(&str, &str, &[u8])] = &[
+    ("}}]}", "", b"ofxr: graph: G1\n"),
+    (r#"{"ofxr""#, r#"[{"ofxr""#, b"ofxr: graph: G1\n"),
+    (r#""ofxr":1"#, r#""ofxr":2"#, b"ofxr: graph: G3 ofxr\n"),
+    (r#""ofxr":1"#, r#""ofxr":"1""#, b"ofxr: graph: G2 ofxr\n"),
+    (
+        r#""ofxr":1"#,
+        r#""ofxr":1,"note":1"#,
+        b"ofxr: graph: G2 note\n",
+    ),
+    (
+        r#""width":2"#,
+        r#""width":2.0"#,
+        b"ofxr: graph: G2 project.width\n",
+    ),
+    (
+        r#""width":2"#,
+        r#""width":4097"#,
+        b"ofxr: graph: G3 project.width\n",
+    ),
+    (
+        r#""height":1"#,
+        r#""height":0"#,
+        b"ofxr: graph: G3 project.height\n",
+    ),
+    (
+        r#""byte""#,
+        r#""float""#,
+        b"ofxr: graph: G2 project.depth\n",
+    ),
+    (
+        r#""node":"s""#,
+        r#""node":"t""#,
+        b"ofxr: graph: G13 output.node\n",
+    ),
+    ("o#.pam", "o.pam", b"ofxr: graph: G14 output.file\n"),
+    (
+        r#""first":0"#,
+        r#""first":1"#,
+        b"ofxr: graph: G3 range.last\n",
+    ),
+    (r#""name":"s","#, "", b"ofxr: graph: G2 nodes[0].name\n"),
+    (
+        r#""name":"s""#,
+        r#""name":"""#,
+        b"ofxr: graph: G3 nodes[0].name\n",
+    ),
+    (
+        r#""effect":"solid""#,
+        r#""effect":"glow""#,
+        b"ofxr: graph: G5 nodes[0].effect\n",
+    ),
+    (
+        r#""effect":"solid""#,
+        r#""effect":"solid","context":"filter""#,
+        b"ofxr: graph: G6 nodes[0].context\n",
+    ),
+    (
+        r#""effect":"solid""#,
+        r#""effect":"solid","clips":{"Source":"s"}"#,
+        b"ofxr: graph: G7 nodes[0].clips.Source\n",
+    ),
+    (
+        r#""r":1"#,
+        r#""r":0.5"#,
+        b"ofxr: graph: G2 nodes[0].params.r\n",
+    ),
+    (
+        r#""r":1"#,
+        r#""red":1"#,
+        b"ofxr: graph: G10 nodes[0].params.red\n",
+    ),
+    (
+        r#""r":1"#,
+        r#""r":2"#,
+        b"ofxr: graph: G11 nodes[0].params.r\n",
+    ),
+    (
+        r#""r":1"#,
+        r#""r":true"#,
+        b"ofxr: graph: G11 nodes[0].params.r\n",
+    ),
+    (
+        r#""r":1"#,
+        r#""r":{"keys":[[1,0],[1,1]]}"#,
+        b"ofxr: graph: G12 nodes[0].params.r\n",
+    ),
+    // The first in the order of the format, not in that of the text.
+    (
+        r#""r":1,"g":"0.5""#,
+        r#""red":1,"g":"half""#,
+        b"ofxr: graph: G11 nodes[0].params.g\n",
+    ),
 ];
 
 // The same in the chain.
-const REFUSED_CHAINS: &[(&str, &str)] = &[
-    // The range.
-    (r#""first":3"#, r#""first":6"#),
-    (r#""first":3"#, r#""first":-1"#),
-    (r#""first":3"#, r#""first":"3""#),
-    (r#""last":5"#, r#""last":100003"#),
-    (r#""last":5"#, r#""last":5.0"#),
-    (r#""last":5"#, r#""last":5,"step":1"#),
-    (r#""first":3,"last":5"#, r#""first":999999,"last":1000000"#),
-    // The source.
-    ("f#.pam", "f.pam"),
-    ("f#.pam", "f#g#.pam"),
-    ("f#.pam", ""),
-    (r#""source":"f#.pam""#, r#""source":1"#),
-    (r#""source":"f#.pam""#, r#""source":null"#),
-    (r#""first":0,"last":9"#, r#""first":9,"last":0"#),
-    (r#""first":0"#, r#""first":-1"#),
-    (r#""last":9"#, r#""last":1000000"#),
-    (r#""first":0,"#, ""),
-    (r#","last":9"#, ""),
-    (r#""last":9"#, r#""last":9,"outside":"black""#),
-    (r#""last":9"#, r#""last":9,"depth":"byte""#),
-    (r#""last":9"#, r#""last":9,"effect":"solid""#),
-    (r#""name":"src","#, ""),
-    // The inverts.
-    (r#""node":"n2""#, r#""node":"n1""#),
-    (r#""node":"n2""#, r#""node":"src""#),
-    (r#""Source":"n1""#, r#""Source":"src""#),
-    (r#""Source":"src""#, r#""Source":"n1""#),
-    (r#""Source":"src""#, r#""Source":"n2""#),
-    (r#""Source":"src""#, r#""source":"src""#),
-    (r#""Source":"src""#, r#""Source":"src","Mask":"src""#),
-    (r#"{"Source":"src"}"#, "{}"),
-    (r#"{"Source":"src"}"#, r#""src""#),
-    (r#","clips":{"Source":"src"}"#, ""),
-    (r#""invert""#, r#""gain""#),
-    (r#""effect":"invert","#, ""),
-    (r#""invert""#, r#""invert","params":{}"#),
-    (r#""invert""#, r#""invert","context":"filter""#),
+const REFUSED_CHAINS: &[(&str, &str, &[u8])] = &[
+    ("f#.pam", "f.pam", b"ofxr: graph: G14 nodes[0].source\n"),
     (
-        r#"{"name":"src","source":"f#.pam","first":0,"last":9},"#,
-        "",
+        r#""first":0,"last":9"#,
+        r#""first":9,"last":0"#,
+        b"ofxr: graph: G3 nodes[0].last\n",
     ),
     (
-        r#""effect":"invert","clips":{"Source":"src"}"#,
-        r#""source":"f#.pam","first":0,"last":9"#,
-    ),
-    // Two nodes of one name, side by side and apart, and a name that is empty.
-    (
-        r#""n1","effect":"invert","clips":{"Source":"src"}},{"name":"n2","effect":"invert","clips":{"Source":"n1""#,
-        r#""src","effect":"invert","clips":{"Source":"src"}},{"name":"n2","effect":"invert","clips":{"Source":"src""#,
+        r#""name":"n1""#,
+        r#""name":"src""#,
+        b"ofxr: graph: G4 nodes[1].name\n",
     ),
     (
-        r#"{"name":"n2","effect":"invert","clips":{"Source":"n1"}}"#,
-        r#"{"name":"src","effect":"invert","clips":{"Source":"n1"}},{"name":"n2","effect":"invert","clips":{"Source":"src"}}"#,
+        r#"{"Source":"src"}"#,
+        r#"{"source":"src"}"#,
+        b"ofxr: graph: G7 nodes[1].clips.source\n",
     ),
     (
-        r#""n1","effect":"invert","clips":{"Source":"src"}},{"name":"n2","effect":"invert","clips":{"Source":"n1""#,
-        r#""","effect":"invert","clips":{"Source":"src"}},{"name":"n2","effect":"invert","clips":{"Source":"""#,
+        r#"{"Source":"src"}"#,
+        "{}",
+        b"ofxr: graph: G8 nodes[1].clips.Source\n",
+    ),
+    (
+        r#""Source":"src""#,
+        r#""Source":"n1""#,
+        b"ofxr: graph: G9 nodes[1].clips.Source\n",
+    ),
+    // A later node's own fault is not told.
+    (
+        r#""Source":"src"}},{"name":"n2","effect":"invert""#,
+        r#""Source":"n2"}},{"name":"n2","effect":"invert","params":{"a":1}"#,
+        b"ofxr: graph: G9 nodes[1].clips.Source\n",
     ),
 ];
 
 #[test]
-fn other_graphs_are_refused(rt: HostRuntime) -> Result<(), Fail> {
+fn texts_are_refused(rt: HostRuntime) -> Result<(), Fail> {
     let alloc = rt.alloc();
-    for text in OTHERS {
-        let left = run_with(&rt, alloc, RENDER, *text, SOUND)?;
-        assert_eq!(rt; left.told(), ended(2, b"ofxr: graph: G0\n"), "at {text}");
+    for &(text, line) in OTHERS {
+        let left = run_with(&rt, alloc, RENDER, text, SOUND)?;
+        assert_eq!(rt; left.told(), ended(2, line), "at {text}");
     }
+    Ok(())
+}
+
+#[test]
+fn graphs_are_refused(rt: HostRuntime) -> Result<(), Fail> {
+    let alloc = rt.alloc();
     for (text, edits) in [(SOLID, REFUSED_SOLIDS), (CHAIN, REFUSED_CHAINS)] {
-        for (old, new) in edits {
-            let graph = edited(alloc, text, *old, *new)?;
+        for &(old, new, line) in edits {
+            let graph = edited(alloc, text, old, new)?;
             let left = run_with(&rt, alloc, RENDER, graph.as_str(), SOUND)?;
-            assert_eq!(rt;
-                left.told(),
-                ended(2, b"ofxr: graph: G0\n"),
-                "at {old} {new}"
-            );
+            assert_eq!(rt; left.told(), ended(2, line), "at {old} {new}");
             assert_eq!(rt; left.depot.get("o0.pam"), None, "at {old} {new}");
         }
     }
@@ -162,7 +182,6 @@ const TAKEN: &[(&str, &str, &[u8])] = &[
         r#""height":4096,"width":4096"#,
         b"ofxr: read: f3.pam\n",
     ),
-    (r#""last":5"#, r#""last":100002"#, b"ofxr: read: f3.pam\n"),
     (
         r#""first":3,"last":5},"nodes":[{"name":"src","source":"f#.pam","first":0,"last":9}"#,
         r#""first":999999,"last":999999},"nodes":[{"name":"src","source":"f#.pam","first":999999,"last":999999}"#,
@@ -240,19 +259,18 @@ const TOO_LONG: &str = "0123456789abcdef0123456789abcdef0123456789abcdef01234567
 #[test]
 fn limits_are_kept(rt: HostRuntime) -> Result<(), Fail> {
     let alloc = rt.alloc();
-    for (graph, is_taken) in [
-        (inverts(alloc, 255)?, true),
-        (inverts(alloc, 256)?, false),
-        (named(alloc, LONGEST)?, true),
-        (named(alloc, TOO_LONG)?, false),
+    for (graph, status, line) in [
+        (inverts(alloc, 255)?, 4, b"ofxr: read: f0.pam\n".as_slice()),
+        (inverts(alloc, 256)?, 2, b"ofxr: graph: G3 nodes\n"),
+        (named(alloc, LONGEST)?, 4, b"ofxr: read: f0.pam\n"),
+        (
+            named(alloc, TOO_LONG)?,
+            2,
+            b"ofxr: graph: G3 nodes[0].name\n",
+        ),
     ] {
         let left = run_with(&rt, alloc, RENDER, graph.as_str(), SOUND)?;
-        let told = if is_taken {
-            ended(4, b"ofxr: read: f0.pam\n")
-        } else {
-            ended(2, b"ofxr: graph: G0\n")
-        };
-        assert_eq!(rt; left.told(), told, "at {graph}");
+        assert_eq!(rt; left.told(), ended(status, line), "at {graph}");
     }
     Ok(())
 }

@@ -34,3 +34,5 @@ mod rows;
 mod times;
 #[cfg(test)]
 mod toy;
+#[cfg(test)]
+mod worked;
