@@ -4,5 +4,6 @@ pub mod SourceLemmas
 pub mod PieceLemmas
 pub mod WholeLemmas
 pub mod OrderLemmas
+pub mod ReaderLemmas
 pub mod LifeLemmas
 pub mod PictureLemmas

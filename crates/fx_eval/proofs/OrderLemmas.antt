@@ -1,16 +1,14 @@
 -- What is read stands before, where nodes at frames are made in their order.
-use Rattle.std.proofs.Common.{◌≡◌, ℕ, ◌≤◌, ℤ, List, [], ◌∷◌, ◌++◌, map, Bool, true, ◌&&◌, ◌||◌, nat_eq, refl, sym, ap, ◌∙◌, subst, arith, ◌⊎◌, inl, inr, Option, Some, None, slice_get, Result, Ok, Err, IfOk}
-use Rattle.std.proofs.lemmas.Bool.{or_right}
-use Rattle.std.proofs.lemmas.Bool.Decides.{nat_tests, Decides-int_eq}
+use Rattle.std.proofs.Common.{◌≡◌, ℕ, ◌<◌, ◌≤◌, ℤ, pos, ◌≤ℤ◌, List, [], ◌∷◌, ◌++◌, true, refl, sym, ap, ◌∙◌, subst, arith, ◌⊎◌, inl, inr, Option, Some, None, slice_get, IsSome}
 use Rattle.std.proofs.lemmas.Int.{ints}
-use Rattle.std.proofs.lemmas.List.{append-nil, map-append}
 use Rattle.std.proofs.lemmas.Map.Keys.{sorted_head, sorted_tail}
+use Rattle.std.proofs.lemmas.Option.{same_Some}
+use Rattle.std.specs.Int.Signed.{le_z}
 use Rattle.std.specs.List.{AllByRecursion}
 use Rattle.std.specs.List.Sorted.{IsStrictlySortedBy}
 use Rattle.std.specs.declared.cmp.Ordering.TheVariants.{Less}
-use Rattle.std.specs.Ordering.{int_eq}
+use Rattle.std.specs.BTreeMap.{BTreeMap, get}
 use Rattle.std.specs.BTreeSet.{BTreeSet}
-use Rattle.fx_base.specs.declared.memory.Memory.{Memory}
 use Rattle.fx_pixel.specs.declared.Depth.{Depth}
 use Rattle.fx_pixel.specs.declared.Components.{Components}
 use Rattle.fx_effect.specs.Meaning.{Meaning}
@@ -19,38 +17,22 @@ use Rattle.fx_graph.specs.Shown as does
 use Rattle.fx_scene.specs.Scenes.{Images, graph_nodes, node_in, node_of, nodes_of}
 use Rattle.fx_base.specs.declared.limits.TheConstants.{MOST_NODES}
 use Rattle.fx_scene.specs.declared.reaching.Moment.{Moment}
-use Rattle.fx_scene.specs.Nodes.{AreNodes, Nodes}
+use Rattle.fx_scene.specs.Nodes.{AreNodes, Effect, IsNode, Node, Nodes, Source}
 use Rattle.fx_scene.specs.Reach.{IsPlace, IsReach, IsReadBy, has, moment, moment_cmp}
-use Rattle.fx_scene.proofs.Members.{In}
+use Rattle.fx_scene.proofs.Members.{In, in_left, in_right}
 use Rattle.fx_scene.proofs.NearLemmas.{read_place}
 use Rattle.fx_scene.proofs.RankLemmas.{has_key, is_lower, key_of}
 use Rattle.fx_eval.specs.declared.whole.Whole.{Whole}
-use Rattle.fx_eval.specs.Wholes.{IsOrder, IsReady, is_made, is_of, moment_of}
+use Rattle.fx_eval.specs.Readers.{AreLast, Makes}
+use Rattle.fx_eval.specs.Wholes.{IsOrder, IsReady, KeepsUnread}
 
-same_nat : (a b : ℕ) → a ≡ b → nat_eq a b ≡ true
-same_nat a b e = grind (arith, nat_tests)
+le_to : (a b : ℤ) → a ≤ℤ b → le_z a b ≡ true
+le_to a b h = grind (arith, ints)
 
-same_int : (a b : ℤ) → a ≡ b → int_eq a b ≡ true
-same_int a b e = grind (arith, ints, Decides-int_eq)
+le_from : (a b : ℤ) → le_z a b ≡ true → a ≤ℤ b
+le_from a b e = grind (arith, ints)
 
-both : (a b : Bool) → a ≡ true → b ≡ true → a && b ≡ true
-both a b p q = rw (p, q) refl
-
-or_left : (a b : Bool) → a ≡ true → a || b ≡ true
-or_left a b p = rw p refl
-
--- what is listed is made
-pub made_in : (ws : List Whole) (m : ℕ) (f : ℤ) → In (map moment_of ws) (moment m f) → is_made ws m f ≡ true
-made_in [] m f i = absurd i
-made_in (w ∷ ws) m f i = elim i [
-  | inl e ↦
-      or_left (is_of m f w) (is_made ws m f)
-      (both (nat_eq w.node m) (int_eq w.frame f) (same_nat w.node m (ap (λ (p : Moment). p.node) e))
-      (same_int w.frame f (ap (λ (p : Moment). p.frame) e)))
-  | inr j ↦ or_right (is_of m f w) (is_made ws m f) (made_in ws m f j)
-]
-
-in_split : {X : Type 0} (xs ys : List X) (x : X) → In (xs ++ ys) x → In xs x ⊎ In ys x
+pub in_split : {X : Type 0} (xs ys : List X) (x : X) → In (xs ++ ys) x → In xs x ⊎ In ys x
 in_split [] ys x i = inr i
 in_split (z ∷ xs) ys x i = elim i [
   | inl e ↦ inl (inl e)
@@ -73,62 +55,121 @@ below_head m (j ∷ ks) k a i = elim i [
   | inr l ↦ below_head m ks k a.1 l
 ]
 
--- The moments of `rest` are left, and those before them are made.
-pub record IsFront (moments : BTreeSet Moment) (rest : List Moment) (done : List Whole) : Type 0 where
-  pub split : map moment_of done ++ rest ≡ moments.keys
+-- ---- the moments in their order
+
+-- those of a list that are done, and those that are left
+pub record IsSplit (keys front rest : List Moment) : Type 0 where
+  pub split : front ++ rest ≡ keys
   pub sorted : IsStrictlySortedBy moment_cmp rest
+  pub below : (m r : Moment) → In front m → In rest r → moment_cmp m r ≡ Less
 
-pub front_start : (moments : BTreeSet Moment) → IsStrictlySortedBy moment_cmp moments.keys → IsFront moments moments.keys []
-front_start moments sorted = record { split = refl; sorted = sorted }
+pub split_start : (keys : List Moment) → IsStrictlySortedBy moment_cmp keys → IsSplit keys [] keys
+split_start keys sorted = record { split = refl; sorted = sorted; below = λ m r i j. absurd i }
 
-pub front_end : (moments : BTreeSet Moment) (done : List Whole) → IsFront moments [] done → map moment_of done ≡ moments.keys
-front_end moments done front = sym (append-nil (map moment_of done)) ∙ front.split
-
--- the first that is left is one of the moments
-pub front_has : (moments : BTreeSet Moment) (m : Moment) (rest : List Moment) (done : List Whole) → IsFront moments (m ∷ rest) done
-    → has moments m.node m.frame ≡ true
-front_has moments m rest done front =
-    has_key moments m (subst (λ (ks : List Moment). In ks m) front.split (in_front (map moment_of done) rest m))
-
-pub one_moment : (w : Whole) (m : Moment) → w.node ≡ m.node → w.frame ≡ m.frame → moment_of w ≡ m
-one_moment w m n f = ap (λ (k : ℕ). moment k w.frame) n ∙ ap (λ (t : ℤ). moment m.node t) f
-
-pub ok_moment : (r : Result Whole Memory) (m : Moment) (n : ℕ) (t : ℤ) → n ≡ m.node → t ≡ m.frame → IfOk r (λ w. w.node ≡ n)
-    → IfOk r (λ w. w.frame ≡ t) → IfOk r (λ w. moment_of w ≡ m)
-ok_moment (Ok w) m n t e f a b = one_moment w m (a ∙ e) (b ∙ f)
-ok_moment (Err x) m n t e f a b = a
-
--- it is made
-pub front_step : (moments : BTreeSet Moment) (m : Moment) (rest : List Moment) (done new : List Whole) (w : Whole)
-    → IsFront moments (m ∷ rest) done → new ≡ done ++ w ∷ [] → moment_of w ≡ m → IsFront moments rest new
-front_step moments m rest done new w front pushed is =
+pub split_step : (keys front : List Moment) (m : Moment) (rest : List Moment) → IsSplit keys front (m ∷ rest)
+    → IsSplit keys (front ++ m ∷ []) rest
+split_step keys front m rest s =
     record {
-      split =
-          ap (λ (ws : List Whole). map moment_of ws ++ rest) pushed
-          ∙ ap (λ (ms : List Moment). ms ++ rest) (map-append moment_of done (w ∷ []))
-          ∙ one_more (map moment_of done) rest (moment_of w)
-          ∙ ap (λ (k : Moment). map moment_of done ++ k ∷ rest) is ∙ front.split;
-      sorted = sorted_tail moment_cmp m rest front.sorted;
+      split = one_more front rest m ∙ s.split;
+      sorted = sorted_tail moment_cmp m rest s.sorted;
+      below = λ k r i j. elim (in_split front (m ∷ []) k i) [
+        | inl a ↦ s.below k r a (inr j)
+        | inr a ↦ elim a [
+          | inl e ↦ subst (λ (x : Moment). moment_cmp x r ≡ Less) e (below_head m rest r (sorted_head moment_cmp m rest s.sorted) j)
+          | inr c ↦ absurd c
+        ]
+      ];
     }
 
--- all that it reads is made
-pub front_ready : (nodes : Nodes) (count : ℕ) (moments : BTreeSet Moment) (m : Moment) (rest : List Moment) (done : List Whole)
-    → AreNodes nodes → count ≤ MOST_NODES → IsOrder nodes count moments → IsFront moments (m ∷ rest) done
-    → IsReady (nodes m.node) m.frame done
-front_ready nodes count moments m rest done are few order front k f r =
-    let here = front_has moments m rest done front in
-    let lower = (read_place nodes count m.node m.frame k f are few (order.places m.node m.frame here) r).0 in
-    let there = key_of moments k f (order.reads m.node m.frame here k f r) in
-    elim (in_split (map moment_of done) (m ∷ rest) (moment k f) (subst (λ (ks : List Moment). In ks (moment k f)) (sym front.split) there)) [
-      | inl i ↦ made_in done k f i
-      | inr i ↦ elim i [
-        | inl e ↦ let same = ap (λ (p : Moment). p.node) e in absurd (omega (arith, lower, same))
-        | inr j ↦ elim (is_lower m (moment k f) (below_head m rest (moment k f) (sorted_head moment_cmp m rest front.sorted) j)) [
-          | inl low ↦ absurd (omega (arith, lower, low))
-          | inr e ↦ let same = e.0 in absurd (omega (arith, lower, same))
+-- the first that is left is one of them
+pub split_here : (keys front : List Moment) (m : Moment) (rest : List Moment) → IsSplit keys front (m ∷ rest) → In keys m
+split_here keys front m rest s = subst (λ (ks : List Moment). In ks m) s.split (in_front front rest m)
+
+-- those that are done are among them
+pub split_done : (keys front rest : List Moment) (k : Moment) → IsSplit keys front rest → In front k → In keys k
+split_done keys front rest k s i = subst (λ (ks : List Moment). In ks k) s.split (in_left front rest k i)
+
+-- in the end all are done
+pub split_end : (keys front : List Moment) (k : Moment) → IsSplit keys front [] → In keys k → In front k
+split_end keys front k s i =
+    elim (in_split front [] k (subst (λ (ks : List Moment). In ks k) (sym s.split) i)) [ inl a ↦ a | inr a ↦ absurd a ]
+
+-- one of an earlier node is done
+pub split_lower : (keys front : List Moment) (m : Moment) (rest : List Moment) (k : Moment) → IsSplit keys front (m ∷ rest)
+    → In keys k → k.node < m.node → In front k
+split_lower keys front m rest k s i low =
+    elim (in_split front (m ∷ rest) k (subst (λ (ks : List Moment). In ks k) (sym s.split) i)) [
+      | inl a ↦ a
+      | inr a ↦ elim a [
+        | inl e ↦ let same = ap (λ (p : Moment). p.node) e in absurd (omega (arith, low, same))
+        | inr j ↦ elim (is_lower m k (below_head m rest k (sorted_head moment_cmp m rest s.sorted) j)) [
+          | inl l ↦ absurd (omega (arith, low, l))
+          | inr e ↦ let same = e.0 in absurd (omega (arith, low, same))
         ]
       ]
     ]
+
+-- ---- those that are made
+
+-- The moments of `rest` are left, and of those before them each is kept until its last reader is made.
+pub record IsFront (moments : BTreeSet Moment) (last : BTreeMap Moment Moment) (rest : List Moment)
+    (made : BTreeMap Moment Whole) : Type 0 where
+  pub front : List Moment
+  pub parts : IsSplit moments.keys front rest
+  pub kept :
+      (k : Moment) → In front k → ((r : Moment) → In front r → get moment_cmp last k ≡ Some r → ⊥)
+      → IsSome (get moment_cmp made k)
+
+pub front_start : (moments : BTreeSet Moment) (last : BTreeMap Moment Moment) (made : BTreeMap Moment Whole)
+    → IsStrictlySortedBy moment_cmp moments.keys → IsFront moments last moments.keys made
+front_start moments last made sorted =
+    record { front = []; parts = split_start moments.keys sorted; kept = λ k i none. absurd i }
+
+-- the first that is left is one of the moments
+pub front_has : (moments : BTreeSet Moment) (last : BTreeMap Moment Moment) (m : Moment) (rest : List Moment)
+    (made : BTreeMap Moment Whole) → IsFront moments last (m ∷ rest) made → has moments m.node m.frame ≡ true
+front_has moments last m rest made f = has_key moments m (split_here moments.keys f.front m rest f.parts)
+
+-- it is made
+pub front_step : (moments : BTreeSet Moment) (last : BTreeMap Moment Moment) (m : Moment) (rest : List Moment)
+    (old new : BTreeMap Moment Whole) → IsFront moments last (m ∷ rest) old → Makes last m old new
+    → IsFront moments last rest new
+front_step moments last m rest old new f makes =
+    record {
+      front = f.front ++ m ∷ [];
+      parts = split_step moments.keys f.front m rest f.parts;
+      kept = λ k i none.
+          let apart : get moment_cmp last k ≡ Some m → ⊥ = λ e. none m (in_right f.front (m ∷ []) m (inl refl)) e in
+          elim (in_split f.front (m ∷ []) k i) [
+            | inl a ↦ makes.keeps k apart (f.kept k a (λ r j e. none r (in_left f.front (m ∷ []) r j) e))
+            | inr a ↦ elim a [
+              | inl e ↦ subst (λ (x : Moment). IsSome (get moment_cmp new x)) e
+                  (makes.here (subst (λ (x : Moment). get moment_cmp last x ≡ Some m → ⊥) (sym e) apart))
+              | inr c ↦ absurd c
+            ]
+          ];
+    }
+
+-- all that it reads is kept
+pub front_ready : (nodes : Nodes) (count : ℕ) (moments : BTreeSet Moment) (last : BTreeMap Moment Moment) (m : Moment)
+    (rest : List Moment) (made : BTreeMap Moment Whole) → AreNodes nodes → count ≤ MOST_NODES → IsOrder nodes count moments
+    → AreLast nodes moments last → IsFront moments last (m ∷ rest) made → IsReady (nodes m.node) m.frame made
+front_ready nodes count moments last m rest made are few order lasts f k g r =
+    let here = front_has moments last m rest made f in
+    let lower = (read_place nodes count m.node m.frame k g are few (order.places m.node m.frame here) r).0 in
+    let there = key_of moments k g (order.reads m.node m.frame here k g r) in
+    let done = split_lower moments.keys f.front m rest (moment k g) f.parts there lower in
+    let by = lasts.all m.node m.frame here k g r in
+    f.kept (moment k g) done (λ q i e.
+    let same : by.by ≡ q = same_Some by.by q (sym by.there ∙ e) in
+    by.later (subst (λ (x : Moment). moment_cmp x m ≡ Less) (sym same) (f.parts.below q m i (inl refl))))
+
+-- what none of them reads is kept in the end
+pub front_end : (nodes : Nodes) (moments : BTreeSet Moment) (last : BTreeMap Moment Moment) (made : BTreeMap Moment Whole)
+    → AreLast nodes moments last → IsFront moments last [] made → KeepsUnread nodes moments made
+front_end nodes moments last made lasts f n t there unread =
+    f.kept (moment n t) (split_end moments.keys f.front (moment n t) f.parts (key_of moments n t there)) (λ r i e.
+    let is = lasts.only (moment n t) r e in unread r.node r.frame is.0 is.1)
 
 -- a least set is such an order
 pub reach_order : (a b : Nodes) (output count : ℕ) (first last : ℤ) (moments : BTreeSet Moment)
@@ -141,10 +182,25 @@ reach_order a b output count first last moments same reach places =
       reads = λ n t h m f r. reach.all m f (λ s closed. closed.reads n t (reach.only n t h s closed) m f (same n t m f r));
     }
 
--- so each moment of it is made in the end
-pub has_made : (moments : BTreeSet Moment) (done : List Whole) (n : ℕ) (t : ℤ) → map moment_of done ≡ moments.keys
-    → has moments n t ≡ true → is_made done n t ≡ true
-has_made moments done n t all h = made_in done n t (subst (λ (ks : List Moment). In ks (moment n t)) (sym all) (key_of moments n t h))
+-- what is read is of an earlier node
+read_lower : (k : ℕ) (node : Node) (t : ℤ) (m : ℕ) (f : ℤ) → IsNode k node → IsReadBy node t m f → m < k
+read_lower k (Source s) t m f i r = absurd r
+read_lower k (Effect o) t m f i r = i.earlier r.clip m r.node
+
+-- none of it reads the output
+pub unread_output : (a b : Nodes) (output : ℕ) (first last : ℤ) (moments : BTreeSet Moment) → AreNodes b
+    → ((n : ℕ) (t : ℤ) (m : ℕ) (f : ℤ) → IsReadBy (a n) t m f → IsReadBy (b n) t m f) → IsReach a output first last (has moments) → (n : ℕ) (t : ℤ) → has moments n t ≡ true → (f : ℤ)
+    → IsReadBy (b n) t output f → ⊥
+unread_output a b output first last moments are same reach n t h f r =
+    let low = le_from (pos n) (pos output) (reach.only n t h (λ k u. le_z (pos k) (pos output)) (record {
+      start = λ u p q. le_to (pos output) (pos output) (omega (arith, ints));
+      reads = λ k u e m g s.
+          let here = le_from (pos k) (pos output) e in
+          let below = read_lower k (b k) u m g (are k) (same k u m g s) in
+          le_to (pos m) (pos output) (omega (arith, ints, here, below));
+    })) in
+    let below = read_lower n (b n) t output f (are n) r in
+    omega (arith, ints, low, below)
 
 -- what is read is read over all images
 pub reads_same : {E : Type 0} (meaning : E → Meaning) (g : GraphShown E) (a b : Images) (n : ℕ) (t : ℤ) (m : ℕ) (f : ℤ)

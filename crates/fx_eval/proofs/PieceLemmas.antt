@@ -192,22 +192,19 @@ area_here nodes node c m d j f g x y is at e inside =
     subst (λ (z : ℕ). Holds (area nodes z f) x y) same (subst (λ (z : ℤ). Holds (area nodes j z) x y) at.1 inside)
 
 pub images_add : (nodes : Nodes) (node : ℕ → Option ℕ) (c m : ℕ) (f : ℤ) (o : EffectNode) (w : Whole) (old new : Given)
-    → node c ≡ Some m → nodes m ≡ Effect o → IsWhole nodes w → w.node ≡ m → w.frame ≡ f
+    → node c ≡ Some m → nodes m ≡ Effect o → IsWhole nodes m f w
     → new ≡ record old { pieces = old.pieces ++ map (piece_of c f []) w.images.items } → Adds nodes node (IsOne c f) old new
-images_add nodes node c m f o w old new is stands h n t made =
+images_add nodes node c m f o w old new is stands h made =
     let images = w.images.items in
-    let right : All (IsImageOf nodes m f) images =
-    subst (λ (j : ℕ). All (IsImageOf nodes j f) images) n (subst (λ (g : ℤ). All (IsImageOf nodes w.node g) images) t h.right) in
-    let region : HasRegion (Effect o) w.area images = subst (λ (q : Node). HasRegion q w.area images) (ap nodes n ∙ stands) h.covers in
-    let there : w.area ≡ area nodes m f = h.area_is ∙ ap (λ (j : ℕ). area nodes j w.frame) n ∙ ap (area nodes m) t in
+    let region : HasRegion (Effect o) w.area images = subst (λ (q : Node). HasRegion q w.area images) stands h.covers in
     record {
       added = map (piece_of c f []) images;
       is = made;
       right = All-map (IsTruePiece nodes node) (piece_of c f []) images
           (all_from (λ i. IsTruePiece nodes node (piece_of c f [] i)) images
-          (λ i j. true_piece nodes node c m f i is (all_in (IsImageOf nodes m f) images i right j)));
+          (λ i j. true_piece nodes node c m f i is (all_in (IsImageOf nodes m f) images i h.right j)));
       covers = λ d j g at e x y inside.
-          let here : Holds w.area x y = subst (λ (a : Bounds). Holds a x y) (sym there) (area_here nodes node c m d j f g x y is at e inside) in
+          let here : Holds w.area x y = subst (λ (a : Bounds). Holds a x y) (sym h.area_is) (area_here nodes node c m d j f g x y is at e inside) in
           ap (λ (z : ℕ). has_piece (map (piece_of c f []) images) z g x y) at.0
           ∙ ap (λ (z : ℤ). has_piece (map (piece_of c f []) images) c z x y) at.1
           ∙ place_same images c f x y ∙ region x y here;

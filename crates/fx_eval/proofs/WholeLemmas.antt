@@ -1,15 +1,13 @@
 -- Whole nodes, and the pictures that they show.
-use Rattle.std.proofs.Common.{◌≡◌, ℕ, ◌<◌, ◌+◌, ℤ, List, [], ◌∷◌, ◌++◌, map, length, take, drop, get_or, Bool, true, false, cond, nat_eq, ◌||◌, refl, arith, sym, ap, ◌∙◌, subst, Option, Some, None}
-use Rattle.std.proofs.lemmas.Bool.{and_parts}
+use Rattle.std.proofs.Common.{◌≡◌, ℕ, ◌<◌, ◌+◌, ℤ, List, [], ◌∷◌, ◌++◌, map, length, take, drop, get_or, Bool, true, false, refl, arith, sym, ap, ◌∙◌, subst, Option, Some, None}
 use Rattle.std.proofs.lemmas.List.{drop_more, length-map, map-append, take_more}
 use Rattle.std.proofs.lemmas.List.FromFn.{get_or-map-range_with_len, length-map-range_with_len, map-range_with_len_more}
 use Rattle.std.proofs.lemmas.List.{get_or-map}
-use Rattle.std.proofs.lemmas.List.Elements.{All-nil, All-cons, All-head, All-tail, All-append}
-use Rattle.std.proofs.lemmas.Option.{same_Some}
+use Rattle.std.proofs.lemmas.List.Elements.{All-nil, All-cons, All-append}
 use Rattle.std.specs.List.{All, range_with_len}
+use Rattle.std.specs.BTreeMap.{BTreeMap}
 use Rattle.std.specs.declared.alloc.Global.{Global}
 use Rattle.std.specs.declared.vec.Vec.{Vec}
-use Rattle.std.specs.Ordering.{int_eq}
 use Rattle.fx_base.specs.Bounds.{Bounds}
 use Rattle.fx_base.specs.Rect.{Holds, hull, within}
 use Rattle.fx_pixel.specs.declared.Depth.{Depth}
@@ -32,48 +30,22 @@ use Rattle.fx_scene.specs.Areas.{area, clip_area, clip_areas, hull_all, hull_wit
 use Rattle.fx_scene.specs.Frames.{clip_frames, frames_of, has_frame, items_of}
 use Rattle.fx_scene.specs.Scenes.{Images, graph_nodes, picture}
 use Rattle.fx_scene.specs.Value.{value}
+use Rattle.fx_scene.specs.declared.reaching.Moment.{Moment}
 use Rattle.fx_scene.proofs.Equations.{area_is}
 use Rattle.fx_scene.proofs.Members.{all_in, all_from}
 use Rattle.fx_scene.proofs.NearLemmas.{listed_frames}
 use Rattle.fx_eval.specs.declared.whole.Whole.{Whole}
 use Rattle.fx_eval.specs.Cuts.{IsCut}
-use Rattle.fx_eval.specs.Wholes.{AreWhole, HasRegion, IsImageOf, IsReady, IsWhole, is_made, is_of, look, rect_of}
+use Rattle.fx_eval.specs.Wholes.{AreWhole, HasRegion, IsImageOf, IsMade, IsReady, IsWhole, look, rect_of}
 use Rattle.fx_eval.specs.Inputs.{Adds, AreMade, AreReads, IsOne, Reads, blank}
 use Rattle.fx_eval.specs.Filled.{AreWindows, IsFilled, IsWindowOf}
-use Rattle.fx_eval.proofs.PieceLemmas.{in_has, int_same, nat_same, read_is, source_area_is, window_image}
+use Rattle.fx_eval.proofs.PieceLemmas.{in_has, read_is, source_area_is, window_image}
 
--- ---- what is made
+-- ---- what is kept
 
-look_by : (P : Whole → Type 0) (v : Whole) (vs : List Whole) (n : ℕ) (f : ℤ) (w : Whole) (b : Bool) → is_of n f v ≡ b → P v
-    → (look vs n f ≡ Some w → P w × (w.node ≡ n) × (w.frame ≡ f)) → cond b (Some v) (look vs n f) ≡ Some w
-    → P w × (w.node ≡ n) × (w.frame ≡ f)
-look_by P v vs n f w true e p later h =
-    let q = and_parts (nat_eq v.node n) (int_eq v.frame f) e in
-    subst (λ (z : Whole). P z × (z.node ≡ n) × (z.frame ≡ f)) (same_Some v w h) (p, nat_same v.node n q.0, int_same v.frame f q.1)
-look_by P v vs n f w false e p later h = later h
-
--- what is found is of the node and the frame
-pub look_right : (P : Whole → Type 0) (ws : List Whole) (n : ℕ) (f : ℤ) (w : Whole) → All P ws → look ws n f ≡ Some w
-    → P w × (w.node ≡ n) × (w.frame ≡ f)
-look_right P [] n f w a h = absurd cc
-look_right P (v ∷ vs) n f w a h =
-    look_by P v vs n f w (is_of n f v) refl (All-head P v vs a) (look_right P vs n f w (All-tail P v vs a)) h
-
-pub whole_area : (nodes : Nodes) (ws : List Whole) (n : ℕ) (f : ℤ) (w : Whole) → AreWhole nodes ws → look ws n f ≡ Some w
-    → w.area ≡ area nodes n f
-whole_area nodes ws n f w a h =
-    let right = look_right (IsWhole nodes) ws n f w a h in
-    right.0.area_is ∙ ap (λ (j : ℕ). area nodes j w.frame) right.1 ∙ ap (area nodes n) right.2
-
-made_look_by : (v : Whole) (vs : List Whole) (n : ℕ) (f : ℤ) (b : Bool) → (is_made vs n f ≡ true → look vs n f ≡ None → ⊥)
-    → b || is_made vs n f ≡ true → cond b (Some v) (look vs n f) ≡ None → ⊥
-made_look_by v vs n f true later h e = cc
-made_look_by v vs n f false later h e = later h e
-
--- what is made is found
-pub made_look : (ws : List Whole) (n : ℕ) (f : ℤ) → is_made ws n f ≡ true → look ws n f ≡ None → ⊥
-made_look [] n f h e = cc
-made_look (v ∷ vs) n f h e = made_look_by v vs n f (is_of n f v) (made_look vs n f) h e
+pub whole_area : (nodes : Nodes) (made : BTreeMap Moment Whole) (n : ℕ) (f : ℤ) (w : Whole) → AreWhole nodes made
+    → look made n f ≡ Some w → w.area ≡ area nodes n f
+whole_area nodes made n f w are there = (are n f w there).area_is
 
 -- ---- lists
 
@@ -136,11 +108,11 @@ reads_long o t reads are =
     ∙ length-map-range_with_len (clip_frames o t) 0 (length o.clips)
 
 -- so its node is made there
-pub clip_made : (o : EffectNode) (t : ℤ) (done : List Whole) (c : ℕ) (clip : Option ℕ) (fs : List ℤ) → IsReady (Effect o) t done
-    → clip ≡ clip_node o c → fs ≡ clip_frames o t c → AreMade done clip fs
-clip_made o t done c None fs ready at is = tt
-clip_made o t done c (Some m) fs ready at is =
-    all_from (λ f. is_made done m f ≡ true) fs (λ f i.
+pub clip_made : (o : EffectNode) (t : ℤ) (made : BTreeMap Moment Whole) (c : ℕ) (clip : Option ℕ) (fs : List ℤ)
+    → IsReady (Effect o) t made → clip ≡ clip_node o c → fs ≡ clip_frames o t c → AreMade made clip fs
+clip_made o t made c None fs ready at is = tt
+clip_made o t made c (Some m) fs ready at is =
+    all_from (IsMade made m) fs (λ f i.
     ready m f (record {
       clip = c;
       node = sym at;
@@ -149,12 +121,12 @@ clip_made o t done c (Some m) fs ready at is =
 
 -- ---- whole nodes
 
-pub source_whole : (nodes : Nodes) → AreNodes nodes → (s : SourceFrames) (w : Whole) → nodes w.node ≡ Source s
-    → w.area ≡ source_area s (s.named w.frame) → w.images.items ≡ [] → IsWhole nodes w
-source_whole nodes ok s w stands is none =
+pub source_whole : (nodes : Nodes) → AreNodes nodes → (k : ℕ) (t : ℤ) (s : SourceFrames) (w : Whole) → nodes k ≡ Source s
+    → w.area ≡ source_area s (s.named t) → w.images.items ≡ [] → IsWhole nodes k t w
+source_whole nodes ok k t s w stands is none =
     record {
-      area_is = is ∙ sym (source_area_is nodes ok w.node w.frame s stands);
-      right = subst (All (IsImageOf nodes w.node w.frame)) (sym none) (All-nil (IsImageOf nodes w.node w.frame));
+      area_is = is ∙ sym (source_area_is nodes ok k t s stands);
+      right = subst (All (IsImageOf nodes k t)) (sym none) (All-nil (IsImageOf nodes k t));
       small = subst (λ (images : List Stored). All IsCut (map rect_of images)) (sym none) (All-nil IsCut);
       covers = subst (λ (q : Node). HasRegion q w.area w.images.items) (sym stands) tt;
     }
@@ -164,19 +136,17 @@ pub windows_whole : (nodes : Nodes) → AreNodes nodes → (k : ℕ) (o : Effect
     (ks : List Components) (given : Given) (w : Whole)
     → Adds nodes (clip_node o) (Reads o t (length o.clips)) (blank o.depth ks) given
     → ((clip : ℕ) → clip < length o.clips → get_or ks clip Rgba ≡ seen o clip)
-    → w.node ≡ k → w.frame ≡ t → w.area ≡ area nodes k t
-    → AreWindows o.meaning (o.values t) given o.depth o.components w.area w.images.items → IsWhole nodes w
-windows_whole nodes ok k o stands t ks given w adds sees at_node at_frame area_is windows =
+    → w.area ≡ area nodes k t
+    → AreWindows o.meaning (o.values t) given o.depth o.components w.area w.images.items → IsWhole nodes k t w
+windows_whole nodes ok k o stands t ks given w adds sees area_is windows =
     let images = w.images.items in
-    let right = all_from (IsImageOf nodes k t) images (λ image i.
-    window_image nodes ok k o stands t ks given image adds sees
-    (all_in (λ z. IsWindowOf o.meaning (o.values t) given o.depth o.components z.rect z) images image windows.each i)) in
     record {
-      area_is = area_is ∙ ap (λ (j : ℕ). area nodes j t) (sym at_node) ∙ ap (area nodes w.node) (sym at_frame);
-      right = subst (λ (j : ℕ). All (IsImageOf nodes j w.frame) images) (sym at_node)
-          (subst (λ (g : ℤ). All (IsImageOf nodes k g) images) (sym at_frame) right);
+      area_is = area_is;
+      right = all_from (IsImageOf nodes k t) images (λ image i.
+          window_image nodes ok k o stands t ks given image adds sees
+          (all_in (λ z. IsWindowOf o.meaning (o.values t) given o.depth o.components z.rect z) images image windows.each i));
       small = windows.small;
-      covers = subst (λ (q : Node). HasRegion q w.area images) (sym (ap nodes at_node ∙ stands)) windows.cover;
+      covers = subst (λ (q : Node). HasRegion q w.area images) (sym stands) windows.cover;
     }
 
 -- ---- images that are written

@@ -1,6 +1,7 @@
 pub mod Sites
 pub mod Cuts
 pub mod Wholes
+pub mod Readers
 pub mod Inputs
 pub mod Filled
 pub mod Toy

@@ -1,6 +1,6 @@
--- Images that together are a node at a frame.
-use Rattle.std.specs.Prelude.{◌≡◌, ◌&&◌, ◌||◌, ℕ, ℤ, List, [], ◌∷◌, map, Option, Some, None, Bool, true, false, nat_eq, All, if◌then◌else◌}
-use Rattle.std.specs.Ordering.{int_eq}
+-- Images that together are a node at a frame, and which of them are kept.
+use Rattle.std.specs.Prelude.{◌≡◌, ℕ, ℤ, List, map, Option, Some, true, All, IsSome}
+use Rattle.std.specs.BTreeMap.{BTreeMap, get}
 use Rattle.std.specs.BTreeSet.{BTreeSet}
 use Rattle.fx_base.specs.Bounds.{Bounds}
 use Rattle.fx_base.specs.Rect.{Holds}
@@ -8,7 +8,7 @@ use Rattle.fx_image.specs.Stored.{Stored, shown}
 use Rattle.fx_scene.specs.Nodes.{Nodes, Node, Source, Effect, depth_at, components_at}
 use Rattle.fx_scene.specs.Value.{value}
 use Rattle.fx_scene.specs.Areas.{area}
-use Rattle.fx_scene.specs.Reach.{IsReadBy, IsPlace, has, moment}
+use Rattle.fx_scene.specs.Reach.{IsReadBy, IsPlace, has, moment, moment_cmp}
 use Rattle.fx_scene.specs.declared.reaching.Moment.{Moment}
 use Rattle.fx_eval.specs.Cuts.{Cover, IsCut}
 use Rattle.fx_eval.specs.declared.whole.Whole.{Whole}
@@ -27,41 +27,38 @@ abbrev pub HasRegion : Node → Bounds → List Stored → Type 0
 HasRegion (Source s) a images = Unit {0}
 HasRegion (Effect o) a images = Cover (map rect_of images) a
 
--- the region of definition, and images of it in pieces
-pub record IsWhole (nodes : Nodes) (w : Whole) : Type 0 where
-  pub area_is : w.area ≡ area nodes w.node w.frame
-  pub right : All (IsImageOf nodes w.node w.frame) w.images.items
+-- the region of definition of a node at a frame, and images of it in pieces
+pub record IsWhole (nodes : Nodes) (n : ℕ) (t : ℤ) (w : Whole) : Type 0 where
+  pub area_is : w.area ≡ area nodes n t
+  pub right : All (IsImageOf nodes n t) w.images.items
   pub small : All IsCut (map rect_of w.images.items)
-  pub covers : HasRegion (nodes w.node) w.area w.images.items
+  pub covers : HasRegion (nodes n) w.area w.images.items
 
-abbrev pub AreWhole : Nodes → List Whole → Type 0
-AreWhole nodes done = All (IsWhole nodes) done
+-- ---- what is kept
 
--- ---- what is made
+-- of a node at a frame
+abbrev pub look : BTreeMap Moment Whole → ℕ → ℤ → Option Whole
+look made n t = get moment_cmp made (moment n t)
 
--- whether it is a node's at a frame
-abbrev pub is_of : ℕ → ℤ → Whole → Bool
-is_of n f w = nat_eq w.node n && int_eq w.frame f
+abbrev pub IsMade : BTreeMap Moment Whole → ℕ → ℤ → Type 0
+IsMade made n t = IsSome (look made n t)
 
--- what is made of a node at a frame
-abbrev pub look : List Whole → ℕ → ℤ → Option Whole
-look [] n f = None
-look (w ∷ more) n f = if is_of n f w then Some w else look more n f
+-- each is the whole of its node at its frame
+abbrev pub AreWhole : Nodes → BTreeMap Moment Whole → Type 0
+AreWhole nodes made = (n : ℕ) (t : ℤ) (w : Whole) → look made n t ≡ Some w → IsWhole nodes n t w
 
--- whether something is
-abbrev pub is_made : List Whole → ℕ → ℤ → Bool
-is_made [] n f = false
-is_made (w ∷ more) n f = is_of n f w || is_made more n f
-
-abbrev pub moment_of : Whole → Moment
-moment_of w = moment w.node w.frame
-
--- all that a node reads at a frame is made
-abbrev pub IsReady : Node → ℤ → List Whole → Type 0
-IsReady node t done = (m : ℕ) (f : ℤ) → IsReadBy node t m f → is_made done m f ≡ true
+-- all that a node reads at a frame is kept
+abbrev pub IsReady : Node → ℤ → BTreeMap Moment Whole → Type 0
+IsReady node t made = (m : ℕ) (f : ℤ) → IsReadBy node t m f → IsMade made m f
 
 -- near places, with all that is read at them
 pub record IsOrder (nodes : Nodes) (count : ℕ) (moments : BTreeSet Moment) : Type 0 where
   pub places : (n : ℕ) (t : ℤ) → has moments n t ≡ true → IsPlace count n t
   pub reads :
       (n : ℕ) (t : ℤ) → has moments n t ≡ true → (m : ℕ) (f : ℤ) → IsReadBy (nodes n) t m f → has moments m f ≡ true
+
+-- each of them that none of them reads is kept
+abbrev pub KeepsUnread : Nodes → BTreeSet Moment → BTreeMap Moment Whole → Type 0
+KeepsUnread nodes moments made =
+    (m : ℕ) (f : ℤ) → has moments m f ≡ true
+    → ((n : ℕ) (t : ℤ) → has moments n t ≡ true → IsReadBy (nodes n) t m f → ⊥) → IsMade made m f

@@ -1,9 +1,9 @@
 //! What the render of a node reads: pieces over what is made of the nodes that its clips are.
-ghost use Rattle.std.specs.Prelude.{◌≡◌, ◌<◌, ◌++◌, ◌∷◌, [], ℕ, Option, Some, length, map, true, All, IfOk, IfSome, OnOk};
+ghost use Rattle.std.specs.Prelude.{◌≡◌, ◌<◌, ◌++◌, ◌∷◌, [], ℕ, Option, Some, length, map, All, IfOk, IfSome, OnOk};
 ghost use Rattle.fx_scene.specs.Nodes.{Effect, clip_node};
 ghost use Rattle.fx_scene.specs.Scenes.{graph_shown};
 ghost use Rattle.fx_eval.specs.Sites.{IsSite, StandsIn, effect_at, site_nodes, seen_in};
-ghost use Rattle.fx_eval.specs.Wholes.{AreWhole, IsReady, is_made};
+ghost use Rattle.fx_eval.specs.Wholes.{AreWhole, IsMade, IsReady};
 ghost use Rattle.fx_eval.specs.Inputs.{Adds, AreMade, AreReads, IsOne, IsSomeOf, Reads, blank, piece_of};
 
 use crate::areas::made_of;
@@ -14,21 +14,23 @@ use fx_effect::{Catalogue, Inputs, Piece, Step, Steps};
 use fx_graph::Work;
 use fx_image::Image;
 use fx_pixel::{Components, Depth};
+use fx_scene::Moment;
 use std::alloc::Global;
+use std::collections::BTreeMap;
 
 /// For each clip and each frame that is read, its node's images or its source's frame.
 pub(crate) fn inputs_of<'s, E: Catalogue>(
     alloc: Global,
     site: &'s Site<'s, E>,
-    done: &'s [Whole],
+    made: &'s BTreeMap<Moment, Whole>,
     node: &EffectNode<'_, E>,
     frame: i64,
     reads: &[Vec<i64>],
 ) -> Result<Inputs<'s>, Memory>
     requires site { IsSite E.meaning E.number_of site.now }
     requires there { StandsIn (graph_shown site.now.graph.now) node.now }
-    requires done { AreWhole (site_nodes E.meaning site.now) done.now }
-    requires ready { IsReady (Effect (effect_at E.meaning site.now.graph.now.project node.now)) frame done.now }
+    requires whole { AreWhole (site_nodes E.meaning site.now) made.now }
+    requires ready { IsReady (Effect (effect_at E.meaning site.now.graph.now.project node.now)) frame made.now }
     requires reads { AreReads (effect_at E.meaning site.now.graph.now.project node.now) frame reads.now }
     ensures { let o = effect_at E.meaning site.now.graph.now.project node.now in
         let seen = map (seen_in node.now.components) node.now.masks.now in
@@ -42,7 +44,7 @@ pub(crate) fn inputs_of<'s, E: Catalogue>(
         add_clip(
             alloc,
             site,
-            done,
+            made,
             c as u32,
             node.clips[c],
             frames,
@@ -55,7 +57,7 @@ pub(crate) fn inputs_of<'s, E: Catalogue>(
 fn add_clip<'s, E: Catalogue>(
     alloc: Global,
     site: &'s Site<'s, E>,
-    done: &'s [Whole],
+    made: &'s BTreeMap<Moment, Whole>,
     c: u32,
     clip: Option<u32>,
     frames: &[i64],
@@ -63,22 +65,22 @@ fn add_clip<'s, E: Catalogue>(
 ) -> Result<(), Memory>
     requires site { IsSite E.meaning E.number_of site.now }
     requires there { IfSome clip (λ m. m < length site.now.graph.now.nodes.items) }
-    requires done { AreWhole (site_nodes E.meaning site.now) done.now }
-    requires made { AreMade done.now clip frames.now }
+    requires whole { AreWhole (site_nodes E.meaning site.now) made.now }
+    requires made { AreMade made.now clip frames.now }
     requires clip { c < length inputs.old.components }
     ensures { (node : ℕ → Option ℕ) → node c ≡ clip
         → OnOk result (Adds (site_nodes E.meaning site.now) node (IsSomeOf c frames.now) inputs.old inputs.new) }
 {
     match clip {
         None => Ok(()),
-        Some(m) => add_frames(alloc, site, done, c, m, frames, inputs),
+        Some(m) => add_frames(alloc, site, made, c, m, frames, inputs),
     }
 }
 
 fn add_frames<'s, E: Catalogue>(
     alloc: Global,
     site: &'s Site<'s, E>,
-    done: &'s [Whole],
+    made: &'s BTreeMap<Moment, Whole>,
     c: u32,
     m: u32,
     frames: &[i64],
@@ -86,14 +88,14 @@ fn add_frames<'s, E: Catalogue>(
 ) -> Result<(), Memory>
     requires site { IsSite E.meaning E.number_of site.now }
     requires there { m < length site.now.graph.now.nodes.items }
-    requires done { AreWhole (site_nodes E.meaning site.now) done.now }
-    requires made { All (λ f. is_made done.now m f ≡ true) frames.now }
+    requires whole { AreWhole (site_nodes E.meaning site.now) made.now }
+    requires made { All (IsMade made.now m) frames.now }
     requires clip { c < length inputs.old.components }
     ensures { (node : ℕ → Option ℕ) → node c ≡ Some m
         → OnOk result (Adds (site_nodes E.meaning site.now) node (IsSomeOf c frames.now) inputs.old inputs.new) }
 {
     for f in frames {
-        add_frame(alloc, site, done, c, m, *f, inputs)?;
+        add_frame(alloc, site, made, c, m, *f, inputs)?;
     }
     Ok(())
 }
@@ -102,7 +104,7 @@ fn add_frames<'s, E: Catalogue>(
 pub(crate) fn add_frame<'s, E: Catalogue>(
     alloc: Global,
     site: &'s Site<'s, E>,
-    done: &'s [Whole],
+    made: &'s BTreeMap<Moment, Whole>,
     c: u32,
     m: u32,
     f: i64,
@@ -110,8 +112,8 @@ pub(crate) fn add_frame<'s, E: Catalogue>(
 ) -> Result<(), Memory>
     requires site { IsSite E.meaning E.number_of site.now }
     requires there { m < length site.now.graph.now.nodes.items }
-    requires done { AreWhole (site_nodes E.meaning site.now) done.now }
-    requires made { is_made done.now m f ≡ true }
+    requires whole { AreWhole (site_nodes E.meaning site.now) made.now }
+    requires made { IsMade made.now m f }
     requires clip { c < length inputs.old.components }
     ensures { (node : ℕ → Option ℕ) → node c ≡ Some m
         → OnOk result (Adds (site_nodes E.meaning site.now) node (IsOne c f) inputs.old inputs.new) }
@@ -128,7 +130,7 @@ pub(crate) fn add_frame<'s, E: Catalogue>(
             Some(image) => add_source(alloc, image, node.depth, node.components, c, f, inputs),
         },
         Work::Effect { .. } => {
-            let images = made_of(done, m, f).images.as_slice();
+            let images = made_of(made, m, f).images.as_slice();
             add_images(alloc, images, c, f, inputs)
         }
     }

@@ -1,6 +1,6 @@
 //! The picture of a frame of a graph, by whole frames on one thread. Each node that the output reads is made
 //! once at each frame at which it is read, as images that together have its region of definition; what a node
-//! reads is made before it.
+//! reads is made before it, and let go once the last that reads it is made.
 #![tactic(auto)]
 
 mod areas;
@@ -8,6 +8,7 @@ mod copy;
 mod cuts;
 mod inputs;
 mod picture;
+mod readers;
 mod render;
 mod site;
 #[cfg(test)]

@@ -1,5 +1,5 @@
 //! The picture of a frame.
-ghost use Rattle.std.specs.Prelude.{◌≡◌, ◌∷◌, [], ◌≤ℤ◌, ℤ, pos, neg_ℤ, true, IfOk, OnOk};
+ghost use Rattle.std.specs.Prelude.{◌≡◌, ◌∷◌, [], ◌≤ℤ◌, ℤ, pos, neg_ℤ, IfOk, OnOk};
 ghost use Rattle.fx_base.specs.declared.limits.TheConstants.{LAST_FRAME};
 ghost use Rattle.fx_pam.specs.Laws.{components_for};
 ghost use Rattle.fx_image.specs.Image.{SameImage};
@@ -8,7 +8,7 @@ ghost use Rattle.fx_effect.specs.Shape.{IsProject};
 ghost use Rattle.fx_effect.specs.Given.{row_pixel};
 ghost use Rattle.fx_scene.specs.Scenes.{graph_shown, images_in, picture};
 ghost use Rattle.fx_eval.specs.Sites.{HasLife, IsSite, site_nodes};
-ghost use Rattle.fx_eval.specs.Wholes.{AreWhole, is_made};
+ghost use Rattle.fx_eval.specs.Wholes.{AreWhole, IsMade};
 ghost use Rattle.fx_eval.specs.Filled.{IsFilled};
 
 use crate::copy::copy_frame;
@@ -20,8 +20,9 @@ use fx_effect::{Catalogue, Inputs};
 use fx_image::Image;
 use fx_life::Life;
 use fx_pixel::{Components, Depth, Format};
-use fx_scene::{Scene, reach};
+use fx_scene::{Moment, Scene, reach};
 use std::alloc::Global;
+use std::collections::BTreeMap;
 
 /// The picture of a frame: the value of the output's node over the project's extent, at the project's depth,
 /// with Alpha for grey files and RGBA for all others. The life is that of a graph of these nodes. Each node is
@@ -46,14 +47,14 @@ pub fn frame<E: Catalogue + Drop>(
         life,
     };
     let moments = reach(alloc, site.graph, frame, frame)?;
-    let done = wholes(alloc, &site, &moments)?;
+    let made = wholes(alloc, &site, &moments)?;
     let mut image = blank(
         alloc,
         site.graph.project,
         site.graph.depth,
         site.graph.format,
     )?;
-    show(alloc, &site, done.as_slice(), frame, &mut image)?;
+    show(alloc, &site, &made, frame, &mut image)?;
     Ok(image)
 }
 
@@ -81,13 +82,13 @@ fn components_for(format: Format) -> Components
 fn show<E: Catalogue>(
     alloc: Global,
     site: &Site<'_, E>,
-    done: &[Whole],
+    made: &BTreeMap<Moment, Whole>,
     frame: i64,
     image: &mut Image,
 ) -> Result<(), Memory>
     requires site { IsSite E.meaning E.number_of site.now }
-    requires done { AreWhole (site_nodes E.meaning site.now) done.now }
-    requires made { is_made done.now site.now.graph.now.output frame ≡ true }
+    requires whole { AreWhole (site_nodes E.meaning site.now) made.now }
+    requires made { IsMade made.now site.now.graph.now.output frame }
     requires rect { image.old.rect ≡ site.now.graph.now.project }
     requires depth { image.old.depth ≡ site.now.graph.now.depth }
     requires components { image.old.components ≡ components_for site.now.graph.now.format }
@@ -95,7 +96,7 @@ fn show<E: Catalogue>(
         OnOk result (SameImage (image_of image.new) picture) }
 {
     let mut inputs = Inputs::new(alloc, image.depth(), vec![in alloc; image.components()]?)?;
-    add_frame(alloc, site, done, 0, site.graph.output, frame, &mut inputs)?;
+    add_frame(alloc, site, made, 0, site.graph.output, frame, &mut inputs)?;
     copy_whole(&inputs, frame, image);
     Ok(())
 }

@@ -1,5 +1,5 @@
 //! Nodes at frames, each as images that together have its whole region of definition.
-ghost use Rattle.std.specs.Prelude.{◌≡◌, ◌<◌, ◌≤◌, ◌*◌, length, map, IfOk};
+ghost use Rattle.std.specs.Prelude.{◌≡◌, ◌<◌, ◌≤◌, ◌*◌, length, map, IfOk, OnOk};
 ghost use Rattle.fx_base.specs.Rect.{IsNear, columns};
 ghost use Rattle.fx_image.specs.Stored.{pixel_size};
 ghost use Rattle.fx_effect.specs.Asked.{IsWindow};
@@ -7,7 +7,8 @@ ghost use Rattle.fx_scene.specs.Reach.{IsNearFrame, IsPlace};
 ghost use Rattle.fx_graph.specs.Kept.{use_values};
 ghost use Rattle.fx_eval.specs.Sites.{IsSite, StandsIn, effect_at, site_nodes, area_shown, image_shown, seen_in};
 ghost use Rattle.fx_eval.specs.Cuts.{IsCut};
-ghost use Rattle.fx_eval.specs.Wholes.{AreWhole, IsOrder, IsReady, IsWhole, moment_of};
+ghost use Rattle.fx_eval.specs.Wholes.{AreWhole, IsOrder, IsReady, IsWhole, KeepsUnread};
+ghost use Rattle.fx_eval.specs.Readers.{Makes};
 ghost use Rattle.fx_eval.specs.Filled.{AreWindows, IsWindowOf};
 ghost use Rattle.fx_scene.specs.Nodes.{Effect};
 ghost use Rattle.fx_seq.specs.Held.{held};
@@ -16,6 +17,7 @@ ghost use Rattle.fx_scene.specs.Scenes.{graph_shown, shown_frame};
 use crate::areas::areas_of;
 use crate::cuts::cut;
 use crate::inputs::inputs_of;
+use crate::readers::{last_readers, let_go};
 use crate::render::render_whole;
 use crate::site::{EffectNode, Site, image_shown};
 use fx_actions::region_of_definition;
@@ -24,52 +26,72 @@ use fx_effect::{Catalogue, Inputs, Values};
 use fx_graph::Work;
 use fx_image::Image;
 use fx_pixel::{Components, Depth};
-use fx_scene::{Moment, frames_read, use_values};
+use fx_scene::{Moment, frames_read, reads_of, use_values};
 use fx_seq::Store;
 use std::alloc::Global;
-use std::collections::BTreeSet;
+use std::collections::{BTreeMap, BTreeSet};
 
-/// A node at a frame: its region of definition, and for an effect images that together have it. A source
-/// has none, since its frame is held by the store.
+/// What is made of a node at a frame: its region of definition, and for an effect images that together have
+/// it. A source has none, since its frame is held by the store.
 #[derive(Drop)]
 pub(crate) struct Whole {
-    pub node: u32,
-    pub frame: i64,
     pub area: Rect,
     pub images: Vec<Image>,
 }
 
-/// Each of these nodes at frames, in their order, so that what one reads is made before it.
+/// Makes each of these nodes at frames in their order, so that what one reads is made before it. Each is let go
+/// when the last that reads it is made: so of those that are read as few are kept as that order allows.
 pub(crate) fn wholes<E: Catalogue + Drop>(
     alloc: Global,
     site: &Site<'_, E>,
     moments: &BTreeSet<Moment>,
-) -> Result<Vec<Whole>, Memory>
+) -> Result<BTreeMap<Moment, Whole>, Memory>
     requires site { IsSite E.meaning E.number_of site.now }
     requires order { IsOrder (site_nodes E.meaning site.now) (length site.now.graph.now.nodes.items) moments.now }
-    ensures whole { IfOk result (λ done. AreWhole (site_nodes E.meaning site.now) done.items) }
-    ensures all { IfOk result (λ done. map moment_of done.items ≡ moments.now.keys) }
+    ensures whole { IfOk result (AreWhole (site_nodes E.meaning site.now)) }
+    ensures kept { IfOk result (KeepsUnread (site_nodes E.meaning site.now) moments.now) }
 {
-    let mut done = Vec::new(alloc);
+    let last = last_readers(alloc, site.graph, moments)?;
+    let mut made = BTreeMap::new(alloc);
     for moment in moments {
-        let whole = whole_of(alloc, site, done.as_slice(), *moment)?;
-        done.push(whole)?;
+        make(alloc, site, &last, *moment, &mut made)?;
     }
-    Ok(done)
+    Ok(made)
+}
+
+// Makes a node at a frame, and lets go what it reads as the last.
+fn make<E: Catalogue + Drop>(
+    alloc: Global,
+    site: &Site<'_, E>,
+    last: &BTreeMap<Moment, Moment>,
+    moment: Moment,
+    made: &mut BTreeMap<Moment, Whole>,
+) -> Result<(), Memory>
+    requires site { IsSite E.meaning E.number_of site.now }
+    requires place { IsPlace (length site.now.graph.now.nodes.items) moment.node moment.frame }
+    requires whole { AreWhole (site_nodes E.meaning site.now) made.old }
+    requires ready { IsReady (site_nodes E.meaning site.now moment.node) moment.frame made.old }
+    ensures whole { OnOk result (AreWhole (site_nodes E.meaning site.now) made.new) }
+    ensures makes { OnOk result (Makes last.now moment made.old made.new) }
+{
+    let whole = whole_of(alloc, site, made, moment)?;
+    made.insert(moment, whole)?;
+    let reads = reads_of(alloc, site.graph, moment)?;
+    let_go(&reads, moment, last, made);
+    Ok(())
 }
 
 fn whole_of<E: Catalogue + Drop>(
     alloc: Global,
     site: &Site<'_, E>,
-    done: &[Whole],
+    made: &BTreeMap<Moment, Whole>,
     moment: Moment,
 ) -> Result<Whole, Memory>
     requires site { IsSite E.meaning E.number_of site.now }
     requires place { IsPlace (length site.now.graph.now.nodes.items) moment.node moment.frame }
-    requires done { AreWhole (site_nodes E.meaning site.now) done.now }
-    requires ready { IsReady (site_nodes E.meaning site.now moment.node) moment.frame done.now }
-    ensures whole { IfOk result (λ w. IsWhole (site_nodes E.meaning site.now) w) }
-    ensures moment { IfOk result (λ w. moment_of w ≡ moment) }
+    requires whole { AreWhole (site_nodes E.meaning site.now) made.now }
+    requires ready { IsReady (site_nodes E.meaning site.now moment.node) moment.frame made.now }
+    ensures { IfOk result (IsWhole (site_nodes E.meaning site.now) moment.node moment.frame) }
 {
     let Moment { node: n, frame } = moment;
     let node = &site.graph.nodes[n as usize];
@@ -80,8 +102,6 @@ fn whole_of<E: Catalogue + Drop>(
             hold,
             ..
         } => Ok(Whole {
-            node: n,
-            frame,
             area: area_shown(site.store, n, *first, *last, *hold, frame),
             images: Vec::new(alloc),
         }),
@@ -106,7 +126,7 @@ fn whole_of<E: Catalogue + Drop>(
                 masks,
                 params: params.as_slice(),
             };
-            effect_whole(alloc, site, done, &used, frame)
+            effect_whole(alloc, site, made, &used, frame)
         }
     }
 }
@@ -125,24 +145,22 @@ fn area_shown(store: &Store, n: u32, first: u32, last: u32, hold: bool, frame: i
 fn effect_whole<E: Catalogue + Drop>(
     alloc: Global,
     site: &Site<'_, E>,
-    done: &[Whole],
+    made: &BTreeMap<Moment, Whole>,
     node: &EffectNode<'_, E>,
     frame: i64,
 ) -> Result<Whole, Memory>
     requires site { IsSite E.meaning E.number_of site.now }
     requires there { StandsIn (graph_shown site.now.graph.now) node.now }
     requires near { IsNearFrame node.now.place frame }
-    requires done { AreWhole (site_nodes E.meaning site.now) done.now }
-    requires ready { IsReady (Effect (effect_at E.meaning site.now.graph.now.project node.now)) frame done.now }
-    ensures whole { IfOk result (λ w. IsWhole (site_nodes E.meaning site.now) w) }
-    ensures node { IfOk result (λ w. w.node ≡ node.now.place) }
-    ensures frame { IfOk result (λ w. w.frame ≡ frame) }
+    requires whole { AreWhole (site_nodes E.meaning site.now) made.now }
+    requires ready { IsReady (Effect (effect_at E.meaning site.now.graph.now.project node.now)) frame made.now }
+    ensures { IfOk result (IsWhole (site_nodes E.meaning site.now) node.now.place frame) }
 {
     let project = site.graph.project;
     let values = use_values(alloc, project, node.clips, node.params, frame)?;
     let reads = frames_read(alloc, node.effect, node.names, &values)?;
     let frames = reads.as_slice();
-    let areas = areas_of(alloc, done, node, project, frame, frames)?;
+    let areas = areas_of(alloc, made, node, project, frame, frames)?;
     let area = region_of_definition(
         alloc,
         node.effect,
@@ -151,14 +169,9 @@ fn effect_whole<E: Catalogue + Drop>(
         &values,
         areas.as_slice(),
     )?;
-    let inputs = inputs_of(alloc, site, done, node, frame, frames)?;
+    let inputs = inputs_of(alloc, site, made, node, frame, frames)?;
     let images = images_of(alloc, site, node, area, &values, &inputs)?;
-    Ok(Whole {
-        node: node.place,
-        frame,
-        area,
-        images,
-    })
+    Ok(Whole { area, images })
 }
 
 // Images that together are a region of a node.

@@ -16,7 +16,7 @@ mod values;
 mod wanting;
 
 pub use key::Key;
-pub use reaching::{Moment, reach};
+pub use reaching::{Moment, reach, reads_of};
 pub use reads::frames_read;
 pub use scene::Scene;
 pub use values::use_values;

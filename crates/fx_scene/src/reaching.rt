@@ -47,6 +47,24 @@ pub fn reach<E: Catalogue>(
     Ok(reached)
 }
 
+/// What a node of the graph reads at a frame: with an effect, the nodes of its clips at the frames that it needs of
+/// them. A source reads none. `Memory` comes where memory is wanting.
+pub fn reads_of<E: Catalogue>(
+    alloc: Global,
+    graph: &Graph<E>,
+    moment: Moment,
+) -> Result<BTreeSet<Moment>, Memory>
+    requires { IsPlace (length graph.now.nodes.items) moment.node moment.frame }
+    ensures all { let node = graph_nodes E.meaning (graph_shown graph.now) no_images moment.node in
+        IfOk result (λ reads. (m : ℕ) (f : ℤ) → IsReadBy node moment.frame m f → has reads m f ≡ true) }
+    ensures only { let node = graph_nodes E.meaning (graph_shown graph.now) no_images moment.node in
+        IfOk result (λ reads. (m : ℕ) (f : ℤ) → has reads m f ≡ true → IsReadBy node moment.frame m f) }
+{
+    let mut reads = BTreeSet::new(alloc);
+    open_reads(alloc, graph, moment, &mut reads)?;
+    Ok(reads)
+}
+
 // Opens a node at each frame of a range.
 fn open_range(
     node: u32,

@@ -18,7 +18,7 @@ area_of-requires g c =
     let reads = c.args.reads.now in
     let long = reads_long o c.args.frame reads c.requires.reads in
     let frames = c.as_slice.ensures.value ∙ reads_at o c.args.frame reads c.loop-c.c c.index-reads-c.result c.requires.reads (omega (arith, c.loop-c-test.true, c.loop-c.invariant.count)) (omega (arith, long, c.loop-c-test.true, c.loop-c.invariant.count)) c.index-reads-c.is in
-    clip_made o c.args.frame c.args.done.now c.loop-c.c _ c.as_slice.result.now c.requires.ready refl frames
+    clip_made o c.args.frame c.args.made.now c.loop-c.c _ c.as_slice.result.now c.requires.ready refl frames
 
 pub loop-c-preserved : goal.loop-c-preserved
 loop-c-preserved g c =

@@ -10,6 +10,6 @@ abbrev pub invariant-loop-c : goal.invariant-loop-c
 invariant-loop-c g l =
     record {
       count : l.c-end ≡ length l.node.clips.now;
-      areas : (nodes : Nodes) → AreWhole nodes l.done
+      areas : (nodes : Nodes) → AreWhole nodes l.made
           → l.areas.items ≡ map (area_at nodes (effect_at g.E.ImageEffect.meaning l.fn._project l.node) l.frame) (range_with_len 0 l.c);
     }

@@ -6,5 +6,5 @@ use Rattle.fx_eval.proofs.areas.hull_of.Given as goal
 
 abbrev pub invariant-loop-f : goal.invariant-loop-f
 invariant-loop-f l =
-    (nodes : Nodes) → AreWhole nodes l.done
+    (nodes : Nodes) → AreWhole nodes l.made
     → hull_with l.hull (map (area nodes l.m) (drop l.f-index l.frames)) ≡ hull_all (map (area nodes l.m) l.frames)

@@ -10,10 +10,8 @@ use Rattle.fx_scene.proofs.GraphLemmas.{node_is, shown_at, source_at}
 use Rattle.fx_seq.specs.Held.{held}
 use Rattle.fx_eval.specs.Sites.{area_shown, site_nodes}
 use Rattle.fx_eval.specs.Inputs.{piece_of}
-use Rattle.fx_eval.specs.Wholes.{IsWhole}
 use Rattle.fx_eval.proofs.PieceLemmas.{images_add, source_add, source_none}
 use Rattle.fx_eval.proofs.SourceLemmas.{shown_area, shown_some, source_is}
-use Rattle.fx_eval.proofs.WholeLemmas.{look_right}
 use Rattle.fx_eval.proofs.inputs.add_frame.Goals as goal
 
 pub image_shown-requires : goal.image_shown-requires
@@ -66,6 +64,6 @@ returns-in-Effect g c node is =
     let n = shown c.index-node.result.now in
     let there = shown_at graph.nodes.items c.args.m c.index-node.result.now c.requires.there (search rules) in
     let stands = node_is m (graph_shown graph) (images_in site.store.now) c.args.m n _ there (ap does_of e.is) in
-    let right = look_right (IsWhole nodes) c.args.done.now c.args.m c.args.f c.made_of.result.now c.requires.done (simp to_z-of_z at c.made_of.ensures) in
-    on_ok_weaker c.add_images.result (λ made. images_add nodes node c.args.c c.args.m c.args.f _ c.made_of.result.now c.args.inputs.now c.add_images.new.inputs is stands right.0 right.1 right.2
+    let right = c.requires.whole c.args.m c.args.f c.made_of.result.now (simp to_z-of_z at c.made_of.ensures) in
+    on_ok_weaker c.add_images.result (λ made. images_add nodes node c.args.c c.args.m c.args.f _ c.made_of.result.now c.args.inputs.now c.add_images.new.inputs is stands right
     (made ∙ ap (λ (images : List Stored). record c.args.inputs.now { pieces = c.args.inputs.now.pieces ++ map (piece_of c.args.c c.args.f []) images }) c.as_slice-images.ensures.value)) (simp to_z-of_z at c.add_images.ensures)

@@ -1,13 +1,20 @@
-use Rattle.std.proofs.Common.{◌∙◌, ap, get_or, pos, w64, rules, refl, Some, ℤ, take, ◌+◌, List, subst}
+use Rattle.std.proofs.Common.{◌∙◌, ap, get_or, pos, w64, rules, refl, Some, ℤ, take, ◌+◌, List, subst, sym}
 use Rattle.std.proofs.lemmas.Int.{to_z-of_z}
 use Rattle.std.proofs.lemmas.List.{take_all}
 use mathlib.Core.Logic.{◌⊎◌}
 use mir.Val.{SFits}
 use Rattle.fx_effect.specs.Given.{Given}
 use Rattle.fx_eval.specs.Sites.{site_nodes}
+use Rattle.fx_eval.specs.Wholes.{IsMade}
 use Rattle.fx_eval.specs.Inputs.{Adds, IsSomeOf, IsOne}
 use Rattle.fx_eval.proofs.PieceLemmas.{adds_less, adds_more, frames_split}
 use Rattle.fx_eval.proofs.inputs.add_frames.Goals as goal
+
+pub add_frame-requires-clause-made : goal.add_frame-requires-clause-made
+add_frame-requires-clause-made g c =
+    let f = get_or c.args.frames.now c.loop-f.f-index (pos 0) in
+    let fits : SFits w64 f = search rules in
+    subst (IsMade c.args.made.now c.args.m) (sym (to_z-of_z w64 f fits)) (c.requires.made c.loop-f.f-index (pos 0) c.loop-f-test.true)
 
 pub loop-f-preserved : goal.loop-f-preserved
 loop-f-preserved g c =

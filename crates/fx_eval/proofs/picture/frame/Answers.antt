@@ -1,4 +1,4 @@
-use Rattle.std.proofs.Common.{◌∙◌, ap, sym, subst, w64, to_z, of_z, length, map, arith}
+use Rattle.std.proofs.Common.{sym, subst, w64, to_z, of_z, length, arith}
 use Rattle.std.proofs.lemmas.Int.{to_z-of_z, ints}
 use Rattle.std.proofs.lemmas.List.{length-map}
 use mir.Val.{SFits}
@@ -10,8 +10,7 @@ use Rattle.fx_scene.specs.Scenes.{graph_nodes, graph_shown, images_in, no_images
 use Rattle.fx_scene.proofs.NodesLemmas.{are_nodes}
 use Rattle.fx_scene.proofs.StoreLemmas.{store_images}
 use Rattle.fx_eval.specs.Sites.{HasLife}
-use Rattle.fx_eval.specs.Wholes.{moment_of}
-use Rattle.fx_eval.proofs.OrderLemmas.{has_made, reach_order, reads_same}
+use Rattle.fx_eval.proofs.OrderLemmas.{reach_order, reads_same, unread_output}
 use Rattle.fx_eval.proofs.picture.frame.Goals as goal
 
 pub wholes-requires-clause-site : goal.wholes-requires-clause-site
@@ -55,11 +54,16 @@ show-requires-clause-site g c =
 
 pub show-requires-clause-made : goal.show-requires-clause-made
 show-requires-clause-made g c =
+    let m = g.E.ImageEffect.meaning in
     let graph = c.graph.result.now in
+    let shown = graph_shown graph in
     let t = to_z w64 (of_z w64 c.args.frame) in
-    let all = ap (map moment_of) c.as_slice.ensures.value ∙ c.in_ok-done.ensures.all in
-    has_made c.in_ok-moments.moments c.as_slice.result.now graph.output t all
-    (c.in_ok-moments.ensures.least.all graph.output t (λ s closed. closed.start t (omega (arith, ints)) (omega (arith, ints))))
+    let moments = c.in_ok-moments.moments in
+    let least = c.in_ok-moments.ensures.least in
+    let site = show-requires-clause-site g c in
+    c.in_ok-made.ensures.kept graph.output t (least.all graph.output t (λ s closed. closed.start t (omega (arith, ints)) (omega (arith, ints))))
+    (λ n u there r. unread_output (graph_nodes m shown no_images) (graph_nodes m shown (images_in c.store.result.now)) graph.output t t moments
+    site.nodes (λ k v j f. reads_same m shown no_images (images_in c.store.result.now) k v j f) least n u there t r)
 
 pub returns : goal.returns
 returns g c =

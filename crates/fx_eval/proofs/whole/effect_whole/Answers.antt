@@ -1,4 +1,4 @@
-use Rattle.std.proofs.Common.{◌∙◌, ap, sym, subst, refl, w64, ℤ, List, map}
+use Rattle.std.proofs.Common.{◌∙◌, ap, sym, subst, w64, ℤ, List, map}
 use Rattle.std.proofs.lemmas.Int.{to_z-of_z}
 use mir.Val.{SFits}
 use Rattle.fx_base.specs.Bounds.{Bounds}
@@ -30,7 +30,7 @@ pub areas_of-requires-clause-ready : goal.areas_of-requires-clause-ready
 areas_of-requires-clause-ready g c =
     let fits : SFits w64 c.args.frame = c.ranges.frame in
     let o = effect_at g.E.ImageEffect.meaning c.args.site.now.graph.now.project c.args.node.now in
-    subst (λ (t : ℤ). IsReady (Effect o) t c.args.done.now) (sym (to_z-of_z w64 _ fits)) c.requires.ready
+    subst (λ (t : ℤ). IsReady (Effect o) t c.args.made.now) (sym (to_z-of_z w64 _ fits)) c.requires.ready
 
 pub areas_of-requires-clause-reads : goal.areas_of-requires-clause-reads
 areas_of-requires-clause-reads g c =
@@ -67,7 +67,7 @@ region_of_definition-requires-clause-regions g c =
     let o = effect_at m site.graph.now.project node in
     let fits : SFits w64 c.args.frame = c.ranges.frame in
     let values = simp to_z-of_z at c.in_ok-values.ensures in
-    let areas = simp to_z-of_z at (c.in_ok-areas.ensures nodes c.requires.done) in
+    let areas = simp to_z-of_z at (c.in_ok-areas.ensures nodes c.requires.whole) in
     let i = is_effect m (graph_shown site.graph.now) (images_in site.store.now) c.requires.site.nodes node c.requires.there in
     subst (λ (v : Values). AreRegions v c.as_slice.result.now) (sym values)
     (subst (λ (rs : List Bounds). AreRegions (o.values c.args.frame) rs) (sym (c.as_slice.ensures.value ∙ areas)) (clip_regions nodes c.requires.site.nodes node.place o i c.args.frame))
@@ -76,7 +76,7 @@ pub inputs_of-requires-clause-ready : goal.inputs_of-requires-clause-ready
 inputs_of-requires-clause-ready g c =
     let fits : SFits w64 c.args.frame = c.ranges.frame in
     let o = effect_at g.E.ImageEffect.meaning c.args.site.now.graph.now.project c.args.node.now in
-    subst (λ (t : ℤ). IsReady (Effect o) t c.args.done.now) (sym (to_z-of_z w64 _ fits)) c.requires.ready
+    subst (λ (t : ℤ). IsReady (Effect o) t c.args.made.now) (sym (to_z-of_z w64 _ fits)) c.requires.ready
 
 pub inputs_of-requires-clause-reads : goal.inputs_of-requires-clause-reads
 inputs_of-requires-clause-reads g c =
@@ -113,15 +113,15 @@ images_of-requires-clause-area g c =
     let o = effect_at m site.graph.now.project node in
     let fits : SFits w64 c.args.frame = c.ranges.frame in
     let values = simp to_z-of_z at c.in_ok-values.ensures in
-    let areas = simp to_z-of_z at (c.in_ok-areas.ensures nodes c.requires.done) in
+    let areas = simp to_z-of_z at (c.in_ok-areas.ensures nodes c.requires.whole) in
     let stands = effect_is m (graph_shown site.graph.now) (images_in site.store.now) node c.requires.there in
     let i = is_effect m (graph_shown site.graph.now) (images_in site.store.now) ok node c.requires.there in
     let is = c.in_ok-area.ensures ∙ ap (λ (v : Values). o.meaning.rod o.context v c.as_slice.result.now) values
     ∙ ap (o.meaning.rod o.context (o.values c.args.frame)) (c.as_slice.ensures.value ∙ areas) ∙ effect_area nodes ok node.place o stands c.args.frame in
     subst IsWindow (sym is) (area_window nodes ok node.place c.args.frame i.few)
 
-pub returns-clause-whole : goal.returns-clause-whole
-returns-clause-whole g c =
+pub returns : goal.returns
+returns g c =
     let site = c.args.site.now in
     let graph = site.graph.now in
     let node = c.args.node.now in
@@ -131,11 +131,11 @@ returns-clause-whole g c =
     let o = effect_at m graph.project node in
     let fits : SFits w64 c.args.frame = c.ranges.frame in
     let values = simp to_z-of_z at c.in_ok-values.ensures in
-    let areas = simp to_z-of_z at (c.in_ok-areas.ensures nodes c.requires.done) in
+    let areas = simp to_z-of_z at (c.in_ok-areas.ensures nodes c.requires.whole) in
     let stands = effect_is m (graph_shown graph) (images_in site.store.now) node c.requires.there in
     let is = c.in_ok-area.ensures ∙ ap (λ (v : Values). o.meaning.rod o.context v c.as_slice.result.now) values
     ∙ ap (o.meaning.rod o.context (o.values c.args.frame)) (c.as_slice.ensures.value ∙ areas) ∙ effect_area nodes ok node.place o stands c.args.frame in
     let adds = simp to_z-of_z at c.in_ok-inputs.ensures in
     let windows = subst (λ (v : Values). AreWindows (m node.effect.now) v c.in_ok-inputs.inputs node.depth node.components c.in_ok-area.area c.in_ok-images.images.items) values c.in_ok-images.ensures in
     windows_whole nodes ok node.place o stands c.args.frame (map (seen_in node.components) node.masks.now) c.in_ok-inputs.inputs _ adds
-    (sees m (graph_shown graph) (graph.depth, graph.components) graph.kept node c.requires.there) refl (to_z-of_z w64 _ fits) is windows
+    (sees m (graph_shown graph) (graph.depth, graph.components) graph.kept node c.requires.there) is windows

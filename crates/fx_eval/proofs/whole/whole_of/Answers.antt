@@ -5,13 +5,13 @@ use Rattle.fx_params.specs.Parameter.{Parameter}
 use Rattle.fx_graph.specs.Shown.{does_of, shown}
 use Rattle.fx_graph.specs.Shown as does
 use Rattle.fx_scene.specs.Reach.{IsNearFrame}
-use Rattle.fx_eval.proofs.OrderLemmas.{ok_moment, one_moment}
 use Rattle.fx_scene.specs.Nodes.{Node}
 use Rattle.fx_scene.specs.Scenes.{graph_shown, images_in, shown_frame, source_node}
 use Rattle.fx_scene.proofs.GraphLemmas.{shown_at, source_at}
 use Rattle.fx_seq.specs.Held.{held}
 use Rattle.fx_eval.specs.Sites.{site_nodes}
-use Rattle.fx_eval.specs.Wholes.{IsReady}
+use Rattle.fx_eval.specs.Wholes.{IsReady, IsWhole}
+use Rattle.fx_eval.specs.declared.whole.Whole.{Whole}
 use Rattle.fx_eval.proofs.EffectLemmas.{effect_is}
 use Rattle.fx_eval.proofs.SourceLemmas.{shown_area, source_is}
 use Rattle.fx_eval.proofs.WholeLemmas.{source_whole}
@@ -25,8 +25,8 @@ area_shown-requires g c =
     (source_at g.E.ImageEffect.meaning (graph.depth, graph.components) (map shown graph.nodes.items) c.args.moment.node (shown c.index-node.result.now) e.pattern e.first e.last e.hold
     graph.kept there (ap does_of e.is)).frames.order
 
-pub returns-in-Source-clause-whole : goal.returns-in-Source-clause-whole
-returns-in-Source-clause-whole g c =
+pub returns-in-Source : goal.returns-in-Source
+returns-in-Source g c =
     let site = c.args.site.now in
     let graph = site.graph.now in
     let m = g.E.ImageEffect.meaning in
@@ -35,8 +35,12 @@ returns-in-Source-clause-whole g c =
     let n = shown c.index-node.result.now in
     let s = source_node (images_in site.store.now c.args.moment.node) n.depth n.components e.first e.last e.hold in
     let stands = source_is m (graph_shown graph) (images_in site.store.now) c.args.moment.node n e.pattern e.first e.last e.hold there (ap does_of e.is) in
-    source_whole (site_nodes m site) c.requires.site.nodes s _ stands
-    (c.area_shown.ensures ∙ sym (shown_area (held site.store.now c.args.moment.node) s (shown_frame e.first e.last e.hold (to_z w64 (of_z w64 c.args.moment.frame))) refl)) c.new.ensures.items
+    let fits : SFits w64 c.args.moment.frame = search rules in
+    let t = to_z w64 (of_z w64 c.args.moment.frame) in
+    let w : Whole = record { area = c.area_shown.result; images = c.new.result } in
+    subst (λ (f : ℤ). IsWhole (site_nodes m site) c.args.moment.node f w) (to_z-of_z w64 _ fits)
+    (source_whole (site_nodes m site) c.requires.site.nodes c.args.moment.node t s w stands
+    (c.area_shown.ensures ∙ sym (shown_area (held site.store.now c.args.moment.node) s (shown_frame e.first e.last e.hold (to_z w64 (of_z w64 c.args.moment.frame))) refl)) c.new.ensures.items)
 
 pub effect_whole-requires-clause-there : goal.effect_whole-requires-clause-there
 effect_whole-requires-clause-there g c =
@@ -61,19 +65,14 @@ pub effect_whole-requires-clause-ready : goal.effect_whole-requires-clause-ready
 effect_whole-requires-clause-ready g c =
     let site = c.args.site.now in
     let m = g.E.ImageEffect.meaning in
-    let done = c.args.done.now in
+    let made = c.args.made.now in
     let fits : SFits w64 c.args.moment.frame = search rules in
     let there = effect_whole-requires-clause-there g c in
     let stands = effect_is m (graph_shown site.graph.now) (images_in site.store.now) _ there in
-    subst (λ (node : Node). IsReady node (to_z w64 (of_z w64 c.args.moment.frame)) done) stands
-    (subst (λ (t : ℤ). IsReady (site_nodes m site c.args.moment.node) t done) (sym (to_z-of_z w64 _ fits)) c.requires.ready)
+    subst (λ (node : Node). IsReady node (to_z w64 (of_z w64 c.args.moment.frame)) made) stands
+    (subst (λ (t : ℤ). IsReady (site_nodes m site c.args.moment.node) t made) (sym (to_z-of_z w64 _ fits)) c.requires.ready)
 
-pub returns-in-Source-clause-moment : goal.returns-in-Source-clause-moment
-returns-in-Source-clause-moment g c =
+pub returns-in-Effect : goal.returns-in-Effect
+returns-in-Effect g c =
     let fits : SFits w64 c.args.moment.frame = search rules in
-    one_moment (record { node = c.args.moment.node; frame = to_z w64 (of_z w64 c.args.moment.frame); area = c.area_shown.result; images = c.new.result }) c.args.moment refl (to_z-of_z w64 _ fits)
-
-pub returns-in-Effect-clause-moment : goal.returns-in-Effect-clause-moment
-returns-in-Effect-clause-moment g c =
-    let fits : SFits w64 c.args.moment.frame = search rules in
-    ok_moment c.effect_whole.result c.args.moment c.args.moment.node (to_z w64 (of_z w64 c.args.moment.frame)) refl (to_z-of_z w64 _ fits) c.effect_whole.ensures.node c.effect_whole.ensures.frame
+    simp to_z-of_z at c.effect_whole.ensures

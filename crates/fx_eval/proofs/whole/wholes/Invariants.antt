@@ -6,6 +6,6 @@ use Rattle.fx_eval.proofs.whole.wholes.Given as goal
 abbrev pub invariant-loop-moment : goal.invariant-loop-moment
 invariant-loop-moment g l =
     record {
-      whole : AreWhole (site_nodes g.E.ImageEffect.meaning l.site) l.done.items;
-      front : IsFront l.moments l.moment-iterator l.done.items;
+      whole : AreWhole (site_nodes g.E.ImageEffect.meaning l.site) l.made;
+      front : IsFront l.moments l.last l.moment-iterator l.made;
     }
