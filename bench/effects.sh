@@ -66,11 +66,12 @@ measure() {
 
 # beside NAME NUMBERS OTHERS: how many times the first numbers take what the others take.
 beside() {
-  local depth shape
+  local depth shape more
   if [ -z "${costs[$1:$2:byte:whole]:-}" ]; then return; fi
   for depth in byte short; do
     for shape in whole tiles; do
-      echo "$1 $2 beside $3, $depth, $shape: $(so_many "${costs[$1:$2:$depth:$shape]}" "${costs[$1:$3:$depth:$shape]}") times"
+      more=$(so_many "${costs[$1:$2:$depth:$shape]}" "${costs[$1:$3:$depth:$shape]}")
+      echo "$1 $2 beside $3, $depth, $shape: $more times"
     done
   done
 }

@@ -11,14 +11,20 @@ use Rattle.fx_params.specs.declared.def.ParamDef.{ParamDef}
 use Rattle.fx_effect.specs.declared.action.Context.{Context}
 use Rattle.fx_effect.specs.declared.values.Values.{Values}
 use Rattle.fx_effect.specs.Given.{Given}
-use Rattle.fx_effect.specs.Shape.{Shape, InRange, MayBe, IsProject, IsLawful, IsLawfulIn, shown_components, supports}
+use Rattle.fx_effect.specs.Shape.{Shape, InRange, MayBe, IsProject, IsLawful, shown_components, supports}
 use Rattle.fx_effect.specs.Asked.{MayRender}
 
 abbrev pub hd : Bounds
 hd = record { x1 = pos 0; y1 = pos 0; x2 = pos 1920; y2 = pos 1080 }
 
 hd_is_project : IsProject hd
-hd_is_project = record { left = refl; bottom = refl; wide = (omega (arith, ints), omega (arith, ints)); high = (omega (arith, ints), omega (arith, ints)) }
+hd_is_project =
+    record {
+      left = refl;
+      bottom = refl;
+      wide = (omega (arith, ints), omega (arith, ints));
+      high = (omega (arith, ints), omega (arith, ints));
+    }
 
 -- values of a whole HD project are lawful
 pub are_lawful : (s : Shape) (context : Context) (t : ℤ) (numbers : List ℤ) (connected : List Bool)
