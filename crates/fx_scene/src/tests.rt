@@ -1,7 +1,7 @@
 //! Graphs whose reached moments and wanted frames are worked by hand, and the parts of a scene.
 use crate::laws::{scene_nodes, value_depends_on_reach, value_is_mix, zero_outside_area};
 use crate::toy::Toy;
-use crate::{Key, Moment, Scene, reach, reads_of, shown_frame, wants};
+use crate::{Key, Moment, Scene, reach, shown_frame, wants};
 use fx_base::{Memory, Rect};
 use fx_core::Permit;
 use fx_effect::{Flags, Numbers, Values};
@@ -10,7 +10,7 @@ use fx_outside::SureLibrary;
 use fx_seq::{Store, Wanted};
 use fx_text::{GraphFault, read_graph};
 use std::alloc::{AllocError, Global};
-use std::collections::{BTreeSet, HashSet};
+use std::collections::HashSet;
 use std::sync::Arc;
 use std::test::Fail;
 
@@ -166,33 +166,6 @@ fn what_is_reached_stands_by_node_and_frame(rt: HostRuntime) -> Result<(), Fail>
     value_depends_on_reach(&graph);
     value_is_mix();
     zero_outside_area();
-    Ok(())
-}
-
-// What a node reads at a frame, where it is one of the graph's at one of its frames.
-fn read_by(
-    alloc: Global,
-    graph: &Graph<Toy>,
-    node: u32,
-    frame: u32,
-) -> Result<BTreeSet<Moment>, Memory> {
-    if node as usize >= graph.nodes.len() || frame > 999_999 {
-        return Err(Memory);
-    }
-    let frame = i64::from(frame);
-    reads_of(alloc, graph, Moment { node, frame })
-}
-
-#[test]
-fn a_node_reads_its_clips(rt: HostRuntime) -> Result<(), Fail> {
-    let alloc = rt.alloc();
-    let graph = graph_of(alloc, TEN, TWICE).ok().ok_or("refused")?;
-    let reads = read_by(alloc, &graph, 2, 4)?;
-    assert_eq!(rt; reads.len(), 3);
-    for frame in 3..6 {
-        assert!(rt; reads.contains(&Moment { node: 1, frame }));
-    }
-    assert_eq!(rt; read_by(alloc, &graph, 0, 4)?.len(), 0);
     Ok(())
 }
 
