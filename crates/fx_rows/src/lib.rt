@@ -13,6 +13,8 @@ mod asking;
 #[cfg(test)]
 mod chain;
 #[cfg(test)]
+mod endings;
+#[cfg(test)]
 mod first_frame;
 #[cfg(test)]
 mod generators;
