@@ -3,8 +3,8 @@ use crate::outcome::{Outcome, Outside, RENDER, SOUND, done, run_with};
 use std::alloc::{AllocError, Global};
 use std::test::Fail;
 
-/// A graph whose range begins at 0 and whose files are `o#.pam`: the project's members, the output's node and format,
-/// the last frame, and the nodes.
+/// A graph whose output is the node `n`, whose files are `o#.pam` and whose range begins at 0: the project's members,
+/// the format of the files, the last frame, and the nodes.
 #[derive(Clone, Copy)]
 pub(crate) struct Whole<'a> {
     pub(crate) project: &'a str,
