@@ -54,6 +54,9 @@ covers_from have rect y is h =
 pub apart_from : (have rect : Bounds) (x y : ℤ) → within rect x y ≡ true → ((lt_z have.x1 rect.x2 && lt_z rect.x1 have.x2) && le_z have.y1 y) && lt_z y have.y2 ≡ false → within have x y ≡ false
 apart_from have rect x y inside apart = grind (arith, ints)
 
+pub reaches : (have : Bounds) (reach x y : ℤ) → ((le_z have.x1 reach && lt_z reach have.x2) && le_z have.y1 y) && lt_z y have.y2 ≡ true → reach ≤ℤ x → x <ℤ have.x2 → within have x y ≡ true
+reaches have reach x y is from to = grind (arith, ints)
+
 -- a pixel of a row lies in its bytes
 pub column_room : (r : Bounds) (x y : ℤ) (size : ℕ) → within r x y ≡ true → int_gap r.x1 x * size + size ≤ columns r * size
 column_room r x y size inside = let place = place_from r x y inside in rows_apart (int_gap r.x1 x) (columns r) size (gap_below r.x1 x r.x2 place.left place.right)

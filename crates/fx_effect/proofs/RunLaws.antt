@@ -1,8 +1,9 @@
 -- Rows of bytes into which a run of pixels was copied.
-use Rattle.std.proofs.Common.{◌≡◌, ◌≤◌, ◌<◌, ◌⊎◌, inl, inr, ℕ, ◌+◌, ◌*◌, ℤ, pos, ◌+ℤ◌, ◌≤ℤ◌, ◌<ℤ◌, Bool, true, false, ◌&&◌, if◌then◌else◌, List, [], length, drop, refl, sym, ap, rules, arith, ◌∙◌, w64, to_z, of_z, Fits, FitsSigned, get_or, map}
+use Rattle.std.proofs.Common.{◌≡◌, ◌≤◌, ◌<◌, ◌⊎◌, inl, inr, ℕ, ◌+◌, ◌*◌, ℤ, pos, ◌+ℤ◌, ◌≤ℤ◌, ◌<ℤ◌, Bool, true, false, ◌&&◌, if◌then◌else◌, List, [], ◌∷◌, zero, suc, length, drop, refl, sym, ap, rules, arith, ◌∙◌, w64, to_z, of_z, Fits, FitsSigned, get_or, map}
+use Rattle.std.specs.Prelude.{slice_index}
 use Rattle.std.specs.Int.{int_gap}
 use Rattle.std.proofs.lemmas.Int.{ints, to_z-of_z, by_lt_z}
-use Rattle.std.proofs.lemmas.List.{places}
+use Rattle.std.proofs.lemmas.List.{places, drop_more}
 use Rattle.std.proofs.Math.Nat.{mul-le-mul_left, mul-le-mul_right}
 use Rattle.fx_base.specs.Bounds.{Bounds, IsRect}
 use Rattle.fx_base.specs.Rect.{IsWithin, within, columns}
@@ -13,11 +14,11 @@ use Rattle.fx_pixel.specs.declared.Pixel.{Pixel}
 use Rattle.fx_image.proofs.ImageLaws.{gap_is, gap_below, gap_up_to, gap_split, place_from, place_to, inside_from}
 use Rattle.std.specs.Int.Signed.{le_z, lt_z}
 use Rattle.fx_effect.specs.Tap.{Tap}
-use Rattle.fx_effect.specs.Given.{holds_tap, piece_pixel, first_pixel, converted}
+use Rattle.fx_effect.specs.Given.{GivenPiece, holds_tap, piece_pixel, first_pixel, any_holds, pixel_over, converted}
 use Rattle.fx_effect.specs.declared.steps.Step.{Step}
-use Rattle.fx_pixel.specs.Pixel.{convert}
+use Rattle.fx_pixel.specs.Pixel.{convert, zero as zero_pixel}
 use Rattle.fx_effect.specs.declared.piece.Placed.{Placed}
-use Rattle.fx_effect.proofs.PieceLaws.{first_here, first_next, same_pixel}
+use Rattle.fx_effect.proofs.PieceLaws.{same_pixel}
 use Rattle.fx_effect.specs.Placed.{IsBothRow, given_piece}
 use Rattle.fx_pixel.specs.declared.Components.{Components}
 use Rattle.fx_image.specs.Stored.{pixel_size, pixel_in}
@@ -162,13 +163,48 @@ to_test_high a b y fa fy is test = let p = to_z-of_z w64 a fa in let q = to_z-of
     le_from y b t = grind (arith, ints)
 
 -- one piece more, before those that were painted
-pub painted_first : (depth : Depth) (c : Components) (pieces : List Placed) (i : ℕ) (p : Placed) (t : Tap) (new old : Pixel) → i < length pieces → p ≡ get_or pieces i p → old ≡ first_pixel depth c (map given_piece (drop (i + 1) pieces)) t
-    → new ≡ (if holds_tap (given_piece p) t then piece_pixel depth c (given_piece p) t.x t.y else old) → new ≡ first_pixel depth c (map given_piece (drop i pieces)) t
-painted_first depth c pieces i p t new old low e before painted = go (holds_tap (given_piece p) t) refl
+pub painted_first : (depth : Depth) (c : Components) (pieces : List Placed) (i : ℕ) (p : Placed) (t : Tap) (new old was : Pixel) → i < length pieces → p ≡ get_or pieces i p → old ≡ pixel_over depth c (map given_piece (drop (i + 1) pieces)) t was
+    → new ≡ (if holds_tap (given_piece p) t then piece_pixel depth c (given_piece p) t.x t.y else old) → new ≡ pixel_over depth c (map given_piece (drop i pieces)) t was
+painted_first depth c pieces i p t new old was low e before painted = rw (drop_more pieces i p low, ← e, ← before) painted
+
+-- what was there is not seen where a piece has the place
+pub over_held : (depth : Depth) (c : Components) (pieces : List GivenPiece) (t : Tap) (was : Pixel) → any_holds pieces t ≡ true → pixel_over depth c pieces t was ≡ first_pixel depth c pieces t
+over_held depth c [] t was held = absurd cc
+over_held depth c (s ∷ pieces) t was held = go (holds_tap s t) refl (over_held depth c pieces t was)
   where
-    go : (b : Bool) → holds_tap (given_piece p) t ≡ b → new ≡ first_pixel depth c (map given_piece (drop i pieces)) t
-    go true has = (rw has at painted) ∙ sym (first_here depth c pieces i p t low e has)
-    go false has = (rw has at painted) ∙ before ∙ first_next depth c pieces i p t low e has
+    go : (b : Bool) → holds_tap s t ≡ b → (any_holds pieces t ≡ true → pixel_over depth c pieces t was ≡ first_pixel depth c pieces t) → pixel_over depth c (s ∷ pieces) t was ≡ first_pixel depth c (s ∷ pieces) t
+    go true has rest = rw has refl
+    go false has rest = rw has (rest (rw has at held))
+
+-- over nothing there is the first piece's pixel, or zero
+pub over_zero : (depth : Depth) (c : Components) (pieces : List GivenPiece) (t : Tap) → pixel_over depth c pieces t (zero_pixel c) ≡ first_pixel depth c pieces t
+over_zero depth c [] t = refl
+over_zero depth c (s ∷ pieces) t = rw (over_zero depth c pieces t) refl
+
+zero_short : (bytes : List ℕ) → ((k : ℕ) → slice_index bytes k ≡ 0) → (i j : ℕ) → 256 * slice_index bytes i + slice_index bytes j ≡ 0
+zero_short bytes nil i j = omega (arith, nil i, nil j)
+
+-- bytes that are zero show zero
+pub cleared : (d : Depth) (c : Components) (bytes : List ℕ) (i : ℕ) → ((k : ℕ) → slice_index bytes k ≡ 0) → pixel_in d c bytes i ≡ zero_pixel c
+cleared Byte components.Rgba bytes i nil = rw (nil (4 * i), nil (4 * i + 1), nil (4 * i + 2), nil (4 * i + 3)) refl
+cleared Byte components.Alpha bytes i nil = rw (nil i) refl
+cleared Short components.Rgba bytes i nil =
+    rw (zero_short bytes nil (2 * (4 * i)) (2 * (4 * i) + 1), zero_short bytes nil (2 * (4 * i + 1)) (2 * (4 * i + 1) + 1), zero_short bytes nil (2 * (4 * i + 2)) (2 * (4 * i + 2) + 1), zero_short bytes nil (2 * (4 * i + 3)) (2 * (4 * i + 3) + 1)) refl
+cleared Short components.Alpha bytes i nil = rw (zero_short bytes nil (2 * i) (2 * i + 1)) refl
+
+-- what lies left of a column that is reached
+pub before_reach : (right reach x : ℤ) → le_z right reach ≡ true → x <ℤ right → x <ℤ reach
+before_reach right reach x is low = grind (arith, ints)
+
+-- a piece of the list that has the place is found
+pub any_here : (pieces : List Placed) (i : ℕ) (p : Placed) (t : Tap) → i < length pieces → p ≡ get_or pieces i p → holds_tap (given_piece p) t ≡ true → any_holds (map given_piece pieces) t ≡ true
+any_here [] i p t low e has = absurd (omega (arith, low))
+any_here (q ∷ pieces) zero p t low e has = rw (← e, has) refl
+any_here (q ∷ pieces) (suc i) p t low e has = go (holds_tap (given_piece q) t) (any_here pieces i p t (omega (arith, low)) e has)
+  where
+    go : (b : Bool) → any_holds (map given_piece pieces) t ≡ true → (if b then true else any_holds (map given_piece pieces) t) ≡ true
+    go true rest = refl
+    go false rest = rest
 
 -- a run from which nothing is converted
 pub run_kept : (d : Depth) (c : Components) (from : Depth) (seen : Components) (through : List Step) (bytes : List ℕ) (i : ℕ) → from ≡ d → seen ≡ c → through ≡ []

@@ -1,6 +1,6 @@
 -- What an effect may read: pieces that stand for a clip at a frame, all shown at one depth and each clip with its
 -- components.
-use Rattle.std.specs.Prelude.{◌≡◌, ◌<◌, ℕ, ℤ, Bool, ◌&&◌, List, [], ◌∷◌, length, nat_eq, slice_index_or, if◌then◌else◌}
+use Rattle.std.specs.Prelude.{◌≡◌, ◌<◌, ℕ, ℤ, Bool, true, false, ◌&&◌, List, [], ◌∷◌, length, nat_eq, slice_index_or, if◌then◌else◌}
 use Rattle.std.specs.Ordering.{int_eq}
 use Rattle.fx_base.specs.Bounds.{Bounds}
 use Rattle.fx_base.specs.Rect.{within}
@@ -57,6 +57,17 @@ first_pixel depth c (s ∷ pieces) t =
 -- the same of a clip at a frame, by the column and the row
 abbrev pub pieces_pixel : Depth → Components → List GivenPiece → ℕ → ℤ → ℤ → ℤ → Pixel
 pieces_pixel depth c pieces clip frame x y = first_pixel depth c pieces (tap clip frame x y)
+
+-- whether a piece has the place
+abbrev pub any_holds : List GivenPiece → Tap → Bool
+any_holds [] t = false
+any_holds (s ∷ pieces) t = if holds_tap s t then true else any_holds pieces t
+
+-- the pixel of the first piece that has the place, and the one that was there where none has
+abbrev pub pixel_over : Depth → Components → List GivenPiece → Tap → Pixel → Pixel
+pixel_over depth c [] t was = was
+pixel_over depth c (s ∷ pieces) t was =
+    if holds_tap s t then piece_pixel depth c s t.x t.y else pixel_over depth c pieces t was
 
 -- the components of a clip
 abbrev pub clip_components : Given → ℕ → Components

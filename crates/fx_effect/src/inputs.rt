@@ -1,8 +1,10 @@
 //! What an effect may read.
-ghost use Rattle.std.specs.Prelude.{◌≡◌, ◌≤◌, ◌<◌, ◌*◌, ℕ, slice_index, ℤ, [], ◌∷◌, ◌++◌, IfOk, OnOk, OnErr, IfSome, length, map};
+ghost use Rattle.std.specs.Prelude.{◌≡◌, ◌≤◌, ◌<◌, ◌*◌, ℕ, slice_index, ℤ, true, [], ◌∷◌, ◌++◌, IfOk, OnOk, OnErr, IfSome, length, map};
+ghost use Rattle.std.specs.Int.{int_gap};
+ghost use Rattle.fx_base.specs.Rect.{Holds};
 ghost use Rattle.fx_base.specs.Rect.{columns};
 ghost use Rattle.fx_pixel.specs.Pixel.{IsOfDepth, components_of};
-ghost use Rattle.fx_image.specs.Stored.{pixel_size};
+ghost use Rattle.fx_image.specs.Stored.{pixel_size, pixel_in};
 
 use crate::Piece;
 use crate::piece::Placed;
@@ -131,7 +133,7 @@ impl<'a> Inputs<'a> {
 }
 
 ghost use Rattle.fx_effect.specs.Tap.{Tap, tap};
-ghost use Rattle.fx_effect.specs.Given.{first_pixel, pieces_pixel};
+ghost use Rattle.fx_effect.specs.Given.{first_pixel, pieces_pixel, any_holds, pixel_over};
 ghost use Rattle.fx_pixel.specs.declared.Depth.{Depth as Depths};
 ghost use Rattle.fx_pixel.specs.declared.Components.{Components as Samples};
 ghost use Rattle.fx_effect.specs.Rows.{IsLine, ShowsRow};
@@ -190,7 +192,6 @@ fn row_in_pieces<'s>(
     None
 }
 
-// The last piece is painted first, so that the first one that has a place is seen there.
 fn read_pieces(
     pieces: &[Placed<'_>],
     depth: Depth,
@@ -206,7 +207,44 @@ fn read_pieces(
     ensures { let of = pieces_pixel depth components (map given_piece pieces.now) clip frame in
         ShowsRow depth components rect y of row.new }
 {
-    clear(row);
+    if cover_row(pieces, clip, frame, rect, y) {
+        paint_pieces(pieces, depth, components, clip, frame, rect, y, row);
+    } else {
+        clear(row);
+        paint_pieces(pieces, depth, components, clip, frame, rect, y, row);
+    }
+}
+
+// Whether the pieces, taken in their order, have row y of the rectangle from its left to its right: then
+// no pixel of it stays as it was. False says nothing.
+fn cover_row(pieces: &[Placed<'_>], clip: u32, frame: i64, rect: Rect, y: i64) -> bool
+    ensures { result ≡ true → (x : ℤ) → Holds rect x y
+        → any_holds (map given_piece pieces.now) (tap clip frame x y) ≡ true }
+{
+    let mut reach = rect.x1;
+    for placed in pieces {
+        reach = placed.reach(clip, frame, y, reach);
+    }
+    rect.x2 <= reach
+}
+
+// The last piece is painted first, so that the first one that has a place is seen there.
+fn paint_pieces(
+    pieces: &[Placed<'_>],
+    depth: Depth,
+    components: Components,
+    clip: u32,
+    frame: i64,
+    rect: Rect,
+    y: i64,
+    row: &mut [u8],
+)
+    requires pieces { ArePlaced pieces.now }
+    requires row { IsLine depth components rect y row.old }
+    ensures { let given = map given_piece pieces.now in (x : ℤ) → Holds rect x y → let i = int_gap rect.x1 x in
+        let was = pixel_in depth components row.old i in
+        pixel_in depth components row.new i ≡ pixel_over depth components given (tap clip frame x y) was }
+{
     for n in 0..pieces.len() {
         let placed = &pieces[pieces.len() - 1 - n];
         placed.paint_for(depth, components, clip, frame, rect, y, row);

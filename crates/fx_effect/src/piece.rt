@@ -1,5 +1,5 @@
 //! Pixels that an effect may read, where they stand for a clip at a frame.
-ghost use Rattle.std.specs.Prelude.{◌≡◌, ◌*◌, ℤ, ◌≤ℤ◌, true, false, IfSome, length, if◌then◌else◌};
+ghost use Rattle.std.specs.Prelude.{◌≡◌, ◌*◌, ℤ, ◌≤ℤ◌, ◌<ℤ◌, true, false, IfSome, length, if◌then◌else◌};
 ghost use Rattle.std.specs.Int.{int_gap};
 ghost use Rattle.fx_base.specs.Rect.{Holds, within, columns};
 ghost use Rattle.fx_pixel.specs.Pixel.{IsOfDepth, components_of};
@@ -69,6 +69,18 @@ impl<'a> Placed<'a> {
             → holds_tap (given_piece self.now) (tap clip frame x y) ≡ false }
     {
         self.is_for(clip, frame) && meets_row(self.piece.rect(), rect, y)
+    }
+
+    // How far right of `reach` it has row y of this clip at the frame; it is `reach` where it doesn't
+    // begin there or before.
+    pub(crate) fn reach(&self, clip: u32, frame: i64, y: i64, reach: i64) -> i64
+        ensures { (x : ℤ) → reach ≤ℤ x → x <ℤ result → holds_tap (given_piece self.now) (tap clip frame x y) ≡ true }
+    {
+        if self.is_for(clip, frame) {
+            reach_of(self.piece.rect(), y, reach)
+        } else {
+            reach
+        }
     }
 
     // Its pixel at a place that it has.
@@ -260,6 +272,17 @@ fn meets_row(have: Rect, rect: Rect, y: i64) -> bool
     ensures { result ≡ false → (x : ℤ) → Holds rect x y → within have x y ≡ false }
 {
     (have.x1 < rect.x2) & (rect.x1 < have.x2) & (have.y1 <= y) & (y < have.y2)
+}
+
+// How far right of `reach` a rectangle has row y; it is `reach` where it doesn't begin there or before.
+fn reach_of(rect: Rect, y: i64, reach: i64) -> i64
+    ensures { (x : ℤ) → reach ≤ℤ x → x <ℤ result → within rect x y ≡ true }
+{
+    if (rect.x1 <= reach) & (reach < rect.x2) & (rect.y1 <= y) & (y < rect.y2) {
+        rect.x2
+    } else {
+        reach
+    }
 }
 
 // Whether a rectangle has the whole of row y of another.

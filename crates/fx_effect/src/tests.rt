@@ -120,6 +120,9 @@ fn rows_are_read_from_pieces(rt: HostRuntime) -> Result<(), Fail> {
         0, 0, 0, 0, 0, 0, 0, 0, 1, 2, 3, 4, 128, 128, 128, 128, 0, 0, 0, 0,
     ];
     assert_eq!(rt; row.as_slice(), shown.as_slice());
+    let mut covered = [9; 12];
+    inputs.read_row(0, 5, Rect::of(0, 0, 3, 1), 0, &mut covered);
+    assert_eq!(rt; covered.as_slice(), &shown[4..16]);
     assert_eq!(rt;
         (
             inputs.at(0, 5, 1, 0),
