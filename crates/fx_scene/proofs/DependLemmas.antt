@@ -9,7 +9,7 @@ use Rattle.fx_pixel.specs.declared.Components.{Components}
 use Rattle.fx_pixel.specs.declared.Pixel.{Pixel}
 use Rattle.fx_pixel.specs.Pixel.{convert, greatest}
 use Rattle.fx_pam.specs.Laws.{components_for}
-use Rattle.fx_image.specs.Image.{Image}
+use Rattle.fx_image.specs.Image.{Image, pixel_at}
 use Rattle.fx_effect.specs.Tap.{Tap}
 use Rattle.fx_effect.specs.Shape.{IsProject}
 use Rattle.fx_effect.specs.Laws.{Laws, IsCovered}
@@ -18,7 +18,7 @@ use Rattle.fx_graph.specs.Shown.{Does, GraphShown, Shown}
 use Rattle.fx_graph.specs.Shown as does
 use Rattle.fx_graph.specs.Nodes.{Form}
 use Rattle.fx_graph.specs.Kept as kept
-use Rattle.fx_scene.specs.Depends.{AgreeOnWanted, AreImages, PicturesDependOnWanted, ValueDependsOnWanted}
+use Rattle.fx_scene.specs.Depends.{AgreeOnWanted, AreImages, AreSame, PicturesDependOnWanted, ValueDependsOnWanted}
 use Rattle.fx_scene.specs.Frames.{in_some}
 use Rattle.fx_scene.specs.Nodes.{AreNodes, Effect, EffectNode, IsEffectNode, IsNode, Node, Nodes, Source, clip_node, depth_at, node_depth, seen}
 use Rattle.fx_scene.specs.Reach.{IsReached, IsReadBy}
@@ -109,22 +109,23 @@ module _ {E : Type 0} (meaning : E → Meaning) (g : GraphShown E) where
       (all_in (IsCovered (length v.connected) (o.meaning.spans v) (o.meaning.roi v (dot x y))) taps p covered n)))
 
   source_same : (a b : Images) (k : ℕ) (d : Depth) (c : Components) (first last : ℕ) (hold : Bool) (t x y : ℤ) (r : Option ℤ)
-      → ((f : ℤ) → r ≡ Some f → a k f ≡ b k f)
+      → ((f : ℤ) → r ≡ Some f → AreSame (a k f) (b k f))
       → source_pixel (source_node (a k) d c first last hold) r x y ≡ source_pixel (source_node (b k) d c first last hold) r x y
   source_same a b k d c first last hold t x y None h = refl
-  source_same a b k d c first last hold t x y (Some f) h =
-      ap (λ (o : Option Image). frame_pixel (source_node (a k) d c first last hold) o x y) (h f refl)
-      ∙ same_frame (b k f)
+  source_same a b k d c first last hold t x y (Some f) h = frame_same (a k f) (b k f) (h f refl)
     where
-      same_frame : (o : Option Image)
-          → frame_pixel (source_node (a k) d c first last hold) o x y ≡ frame_pixel (source_node (b k) d c first last hold) o x y
-      same_frame None = refl
-      same_frame (Some image) = refl
+      frame_same : (p q : Option Image) → AreSame p q
+          → frame_pixel (source_node (a k) d c first last hold) p x y ≡ frame_pixel (source_node (b k) d c first last hold) q x y
+      frame_same None None same = refl
+      frame_same None (Some j) same = absurd same
+      frame_same (Some i) None same = absurd same
+      frame_same (Some i) (Some j) same =
+          ap (λ (e : Depth). convert e d c (pixel_at i x y)) same.depth ∙ ap (convert j.depth d c) (same.pixels x y)
 
   -- what a node does is the same in both, where the values that it reads and the frames that it shows are
   work_same : (a b : Images) (k : ℕ) (d : Depth) (c : Components) (work : Does E) (t x y : ℤ)
       → IsNode k (node_of meaning g.project (a k) d c work)
-      → ((f : ℤ) → Shows (node_of meaning g.project (no_images k) d c work) t f → a k f ≡ b k f)
+      → ((f : ℤ) → Shows (node_of meaning g.project (no_images k) d c work) t f → AreSame (a k f) (b k f))
       → ((m : ℕ) (f u v : ℤ) → IsReadBy (node_of meaning g.project (no_images k) d c work) t m f
       → value (over a) m f u v ≡ value (over b) m f u v)
       → node_value (depth_at (over a)) (value (over a)) (node_of meaning g.project (a k) d c work) t x y
@@ -136,7 +137,7 @@ module _ {E : Type 0} (meaning : E → Meaning) (g : GraphShown E) where
 
   in_same : (a b : Images) (k : ℕ) (o : Option (Shown E)) (t x y : ℤ)
       → IsNode k (node_in meaning g.project (a k) o)
-      → ((f : ℤ) → Shows (node_in meaning g.project (no_images k) o) t f → a k f ≡ b k f)
+      → ((f : ℤ) → Shows (node_in meaning g.project (no_images k) o) t f → AreSame (a k f) (b k f))
       → ((m : ℕ) (f u v : ℤ) → IsReadBy (node_in meaning g.project (no_images k) o) t m f
       → value (over a) m f u v ≡ value (over b) m f u v)
       → node_value (depth_at (over a)) (value (over a)) (node_in meaning g.project (a k) o) t x y
@@ -159,7 +160,7 @@ module _ {E : Type 0} (meaning : E → Meaning) (g : GraphShown E) where
         ∙ sym (ap (λ (v : Pixels). v t x y) (value_is (over b) are_b k))
       where
         shown_same : (o : Option (Shown E)) → slice_get g.nodes k ≡ o → (f : ℤ)
-            → Shows (node_in meaning g.project (no_images k) o) t f → a k f ≡ b k f
+            → Shows (node_in meaning g.project (no_images k) o) t f → AreSame (a k f) (b k f)
         shown_same o e f s =
             agree k f (record { at = t; reached = r; shows = subst (λ (node : Node). Shows node t f) (sym (node_here no_images k o e)) s })
 
