@@ -1,0 +1,5 @@
+pub mod Flown
+pub mod Turned
+pub mod Asking
+pub mod Ending
+pub mod Closing

@@ -1,0 +1,5 @@
+pub mod Rows
+pub mod Keeps
+pub mod Seats
+pub mod Sitting
+pub mod Doubles

@@ -1,0 +1,28 @@
+//! A seat of a directory. Contracts see it as its directory, its parts, the flights that were asked through
+//! it and still stand, and what was asked, landed and dropped through it.
+use crate::guarded::Guarded;
+use crate::home::Home;
+use crate::suits::Suits;
+use fx_turn::Seat;
+use std::hash::Hash;
+use std::marker::Model;
+
+/// A seat of a directory: the right to its turns, one at a time. All seats of a directory have 2^32 parts
+/// together.
+#[derive(Drop)]
+pub struct DirSeat<N, K: Eq + Hash, V: Suits<N, K>> {
+    pub(crate) seat: Seat<Home<N>, Guarded<K, V>>,
+}
+
+impl<N, K: Eq + Hash, V: Suits<N, K>> Model for DirSeat<N, K, V> {
+    ghost use Rattle.std.specs.Prelude.{◌≡◌, None};
+    ghost use Rattle.fx_directory.specs.Seats.{DirSeatState};
+
+    ghost Value = { DirSeatState N K };
+
+    ghost use Rattle.fx_directory.specs.Sitting.{dir_seat_of};
+
+    ghost view = { λ s. dir_seat_of s.seat };
+
+    ghost invariant = { λ s. (s.seat.turn ≡ None) × (s.seat.row.slots ≡ 1) };
+}
