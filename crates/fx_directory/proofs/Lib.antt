@@ -1,3 +1,4 @@
+pub mod CallerLemmas
 pub mod Flown
 pub mod Turned
 pub mod Asking

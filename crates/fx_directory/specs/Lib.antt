@@ -2,4 +2,4 @@ pub mod Rows
 pub mod Keeps
 pub mod Seats
 pub mod Sitting
-pub mod Doubles
+pub mod Askers

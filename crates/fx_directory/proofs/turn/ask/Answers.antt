@@ -37,7 +37,7 @@ pub give-requires-clause-leaves : goal.give-requires-clause-leaves
 give-requires-clause-leaves g c =
     let taken = c.take_with_room-held in
     own_left_taken c.args.seat.now taken.new.seat taken.result.value c.value_mut.result.now taken.ensures.seat c.value_mut.ensures.value c.ask-answer.new.self.flying
-        (none_left c.ask-answer.result c.value_mut.result.now.core c.ask-answer.new.self c.args.seat.now.claims c.ask-answer.ensures.joins c.ask-answer.ensures.unchanged)
+    (none_left c.ask-answer.result c.value_mut.result.now.core c.ask-answer.new.self c.args.seat.now.claims c.ask-answer.ensures.joins c.ask-answer.ensures.unchanged)
 
 pub returns-clause-here : goal.returns-clause-here
 returns-clause-here g c =
@@ -55,7 +55,7 @@ returns-clause-aloft g c =
     let taken = c.take_with_room-held in
     let claims = claims_turned c.args.seat.now taken.new.seat taken.result.value c.value_mut.result.now taken.ensures.seat c.value_mut.ensures.value c.give.new.seat (record { core = c.ask-answer.new.self }) c.give.ensures in
     subst (λ (l : List (ℕ × g.row.K.Denot)). IfOk c.ask-answer.result (Joins c.args.seat.now.claims l)) (sym claims)
-        (joins_mine c.ask-answer.result c.value_mut.result.now.core.flying c.ask-answer.new.self.flying c.args.seat.now.claims (agrees g b).2 (agrees g b).1 (differ_after g b) c.ask-answer.ensures.joins)
+    (joins_mine c.ask-answer.result c.value_mut.result.now.core.flying c.ask-answer.new.self.flying c.args.seat.now.claims (agrees g b).2 (agrees g b).1 (differ_after g b) c.ask-answer.ensures.joins)
 
 pub returns-clause-unchanged : goal.returns-clause-unchanged
 returns-clause-unchanged g c =

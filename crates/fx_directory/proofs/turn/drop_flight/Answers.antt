@@ -38,7 +38,7 @@ give-requires-clause-leaves g c =
     let b = (goal.at.give-requires-clause-leaves g c).After-value_mut in
     let ended : ℕ × g.row.K.Denot = (c.args.flight.ticket.number, arc_value c.args.flight.key) in
     own_left_taken c.args.seat.now c.take-held.new.seat c.take-held.result.value c.value_mut.result.now c.take-held.ensures.seat c.value_mut.ensures.value c.drop_flight.new.self.flying
-        (only_own c.value_mut.result.now.core.flying c.drop_flight.new.self.flying c.args.seat.now.claims ended (differ g b) (agrees g b).1 (agrees g b).2 c.requires.own c.drop_flight.ensures.leaves)
+    (only_own c.value_mut.result.now.core.flying c.drop_flight.new.self.flying c.args.seat.now.claims ended (differ g b) (agrees g b).1 (agrees g b).2 c.requires.own c.drop_flight.ensures.leaves)
 
 pub returns-clause-aloft : goal.returns-clause-aloft
 returns-clause-aloft g c =
@@ -46,4 +46,4 @@ returns-clause-aloft g c =
     let ended : ℕ × g.row.K.Denot = (c.args.flight.ticket.number, arc_value c.args.flight.key) in
     let claims = claims_turned c.args.seat.now c.take-held.new.seat c.take-held.result.value c.value_mut.result.now c.take-held.ensures.seat c.value_mut.ensures.value c.give.new.seat (record { core = c.drop_flight.new.self }) c.give.ensures in
     subst (λ (l : List (ℕ × g.row.K.Denot)). Without c.args.seat.now.claims ended l) (sym claims)
-        (claims_left c.value_mut.result.now.core.flying c.drop_flight.new.self.flying c.args.seat.now.claims ended (differ g b) (agrees g b).1 (agrees g b).2 c.requires.own c.drop_flight.ensures.leaves)
+    (claims_left c.value_mut.result.now.core.flying c.drop_flight.new.self.flying c.args.seat.now.claims ended (differ g b) (agrees g b).1 (agrees g b).2 c.requires.own c.drop_flight.ensures.leaves)

@@ -45,7 +45,7 @@ give-requires-clause-leaves g c =
     let b = (goal.at.give-requires-clause-leaves g c).After-value_mut in
     let ended : ℕ × g.row.K.Denot = (c.args.flight.ticket.number, arc_value c.args.flight.key) in
     own_left_taken c.args.seat.now c.take-held.new.seat c.take-held.result.value c.value_mut.result.now c.take-held.ensures.seat c.value_mut.ensures.value c.land-landed.new.self.flying
-        (own_left c.value_mut.result.now.core c.land-landed.new.self c.args.seat.now.claims ended (differ g b) (agrees g b).1 (agrees g b).2 c.requires.own c.land-landed.result c.land-landed.ensures.leaves c.land-landed.ensures.unchanged)
+    (own_left c.value_mut.result.now.core c.land-landed.new.self c.args.seat.now.claims ended (differ g b) (agrees g b).1 (agrees g b).2 c.requires.own c.land-landed.result c.land-landed.ensures.leaves c.land-landed.ensures.unchanged)
 
 pub returns-clause-unchanged : goal.returns-clause-unchanged
 returns-clause-unchanged g c =
@@ -59,4 +59,4 @@ returns-clause-aloft g c =
     let ended : ℕ × g.row.K.Denot = (c.args.flight.ticket.number, arc_value c.args.flight.key) in
     let claims = claims_turned c.args.seat.now c.take-held.new.seat c.take-held.result.value c.value_mut.result.now c.take-held.ensures.seat c.value_mut.ensures.value c.give.new.seat (record { core = c.land-landed.new.self }) c.give.ensures in
     subst (λ (l : List (ℕ × g.row.K.Denot)). OnOk c.land-landed.result (Without c.args.seat.now.claims ended l)) (sym claims)
-        (left_at_ok c.value_mut.result.now.core c.land-landed.new.self c.args.seat.now.claims ended (differ g b) (agrees g b).1 (agrees g b).2 c.requires.own c.land-landed.result c.land-landed.ensures.leaves)
+    (left_at_ok c.value_mut.result.now.core c.land-landed.new.self c.args.seat.now.claims ended (differ g b) (agrees g b).1 (agrees g b).2 c.requires.own c.land-landed.result c.land-landed.ensures.leaves)
