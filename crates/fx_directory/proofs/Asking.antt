@@ -1,12 +1,12 @@
 -- What an ask leaves to the row and to the seat.
-use Rattle.std.proofs.Common.{◌≡◌, ℕ, ◌+◌, ◌≤◌, Bool, true, false, ◌⊎◌, List, [], ◌∷◌, ◌++◌, Option, Some, None, Ok, Err, Contains, sym, refl, ap, ◌∙◌, inl, inr, subst, arith, append-nil}
+use Rattle.std.proofs.Common.{◌≡◌, ℕ, ◌≤◌, Bool, true, false, ◌⊎◌, List, [], ◌∷◌, ◌++◌, Some, None, Ok, Err, Contains, refl, ap, ◌∙◌, inl, inr, subst, arith}
 use Rattle.std.specs.Arc.{arc_value}
 use Rattle.std.specs.declared.result.Result.{Result}
 use Rattle.std.specs.Result.{IfOk, OnErr}
 use Rattle.std.specs.Cmp.{IsEquivalence}
 use Rattle.fx_core.specs.State.{State, SameMake}
 use Rattle.fx_core.specs.Sound.{IsSound}
-use Rattle.fx_core.specs.Answer.{Joins, IsKeptFor, KeepsNoMore}
+use Rattle.fx_core.specs.Answer.{Joins, IsKeptFor}
 use Rattle.fx_core.specs.declared.flight.Answer.{Answer}
 use Rattle.fx_core.specs.declared.flight.Answer.TheVariants as answer
 use Rattle.fx_turn.specs.Claims.{times, mark_of, NumbersDiffer, AreAmong, OnlyOwnLeft, claims_after}

@@ -1,5 +1,5 @@
 -- For callers: what a flight that ends leaves to a seat.
-use Rattle.std.proofs.Common.{◌≡◌, ℕ, List, [], ◌∷◌, ◌++◌, refl, ◌∙◌, append-nil}
+use Rattle.std.proofs.Common.{◌≡◌, ℕ, List, [], ◌∷◌, ◌++◌, ◌∙◌, append-nil}
 use Rattle.std.specs.Arc.{arc_value}
 use Rattle.fx_core.specs.declared.flight.Flight.{Flight}
 use Rattle.fx_directory.specs.Seats.{LeavesAlone}

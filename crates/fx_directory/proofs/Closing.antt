@@ -1,6 +1,6 @@
 -- What the last seat has, and what the core counted.
-use Rattle.std.proofs.Common.{◌≡◌, ℕ, ◌+◌, ◌-◌, ◌<◌, ◌==◌, Bool, true, false, cond, min, List, [], ◌∷◌, ◌++◌, length, All, sym, refl, ap, ◌∙◌, subst, arith, append-nil, eq-eqb, ne_eqb, ◌≢◌}
-use Rattle.std.specs.Prelude.{flat_map, sum_by, slice_index}
+use Rattle.std.proofs.Common.{◌≡◌, ℕ, ◌+◌, ◌-◌, ◌<◌, ◌==◌, Bool, cond, min, List, [], ◌∷◌, ◌++◌, length, All, sym, ap, ◌∙◌, subst, arith, append-nil, eq-eqb, ne_eqb}
+use Rattle.std.specs.Prelude.{flat_map}
 use Rattle.std.proofs.lemmas.List.Elements.{All-head}
 use mathlib.Core.Logic.{dite}
 use native.Mathlib.Decide.{ℕ_discrete}
@@ -12,7 +12,7 @@ use Rattle.fx_turn.specs.Claims.{SameClaims}
 use Rattle.fx_turn.proofs.CallerLemmas.{same_as_none}
 use Rattle.fx_directory.specs.declared.home.Home.{Home}
 use Rattle.fx_directory.specs.declared.guarded.Guarded.{Guarded}
-use Rattle.fx_directory.specs.Keeps.{AtHome, tally_of}
+use Rattle.fx_directory.specs.Keeps.{AtHome}
 use Rattle.fx_directory.specs.Seats.{Made, AddsUp, totals_of}
 use Rattle.fx_directory.specs.Sitting.{counts_in, flights_in, made_of}
 

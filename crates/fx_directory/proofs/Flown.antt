@@ -1,5 +1,5 @@
 -- Claims and flights as lists of numbers with keys.
-use Rattle.std.proofs.Common.{◌≡◌, ℕ, ◌+◌, ◌≤◌, ◌≢◌, ◌==◌, eqb, ◌⊎◌, Bool, true, false, cond, List, [], ◌∷◌, ◌++◌, Option, Some, None, Contains, sym, refl, ap, ◌∙◌, inl, inr, subst, arith, eq-eqb, ne_eqb}
+use Rattle.std.proofs.Common.{◌≡◌, ℕ, ◌+◌, ◌≤◌, ◌≢◌, eqb, Bool, cond, List, [], ◌∷◌, ◌++◌, Some, None, Contains, sym, refl, ap, ◌∙◌, inl, inr, subst, arith, eq-eqb, ne_eqb}
 use Rattle.std.specs.Prelude.{filter, not}
 use mathlib.Core.Logic.{dite}
 use native.Mathlib.Decide.{ℕ_discrete}

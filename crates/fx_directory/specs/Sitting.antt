@@ -1,6 +1,5 @@
 -- How a directory's seat shows itself.
-use Rattle.std.specs.Prelude.{◌≡◌, ℕ, List, slice_index, None}
-use Rattle.fx_core.specs.declared.totals.Totals.{Totals}
+use Rattle.std.specs.Prelude.{ℕ, List, slice_index}
 use Rattle.fx_turn.specs.Seats.{SeatState}
 use Rattle.fx_directory.specs.declared.home.Home.{Home}
 use Rattle.fx_directory.specs.declared.guarded.Guarded.{Guarded}

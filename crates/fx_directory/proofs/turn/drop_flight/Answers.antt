@@ -1,15 +1,12 @@
-use Rattle.std.proofs.Common.{◌≡◌, ℕ, List, inl, inr, sym, subst}
+use Rattle.std.proofs.Common.{◌≡◌, ℕ, List, sym, subst}
 use Rattle.std.specs.Arc.{arc_value}
-use Rattle.std.specs.Result.{OnOk}
 use Rattle.fx_turn.specs.Claims.{NumbersDiffer}
 use Rattle.fx_turn.specs.Seats.{Agrees}
 use Rattle.fx_directory.specs.declared.guarded.Guarded.{Guarded}
 use Rattle.fx_directory.specs.Keeps.{AtHome, at_home_differ}
 use Rattle.fx_directory.specs.Sitting.{counts_in, flights_in}
-use Rattle.fx_directory.proofs.Turned.{own_left_taken, turned, claims_turned, unchanged}
+use Rattle.fx_directory.proofs.Turned.{own_left_taken, claims_turned}
 use Rattle.fx_directory.proofs.Flown.{Without, stands, only_own, claims_left}
-use Rattle.fx_directory.proofs.Asking.{at_home_after}
-use Rattle.fx_directory.proofs.Ending.{own_left, left_at_ok}
 use Rattle.fx_directory.proofs.turn.drop_flight.Goals as goal
 use Rattle.fx_directory.proofs.turn.drop_flight.Goals.{After-value_mut}
 use Rattle.fx_directory.proofs.turn.drop_flight.Given.{Over}

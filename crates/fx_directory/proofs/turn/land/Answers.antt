@@ -7,7 +7,7 @@ use Rattle.fx_directory.specs.declared.guarded.Guarded.{Guarded}
 use Rattle.fx_directory.specs.Keeps.{AtHome, at_home_differ}
 use Rattle.fx_directory.specs.Sitting.{counts_in, flights_in}
 use Rattle.fx_directory.proofs.Turned.{own_left_taken, turned, claims_turned, unchanged}
-use Rattle.fx_directory.proofs.Flown.{Without, stands, only_own, claims_left}
+use Rattle.fx_directory.proofs.Flown.{Without, stands}
 use Rattle.fx_directory.proofs.Asking.{at_home_after}
 use Rattle.fx_directory.proofs.Ending.{own_left, left_at_ok}
 use Rattle.fx_directory.proofs.turn.land.Goals as goal

@@ -1,4 +1,4 @@
-use Rattle.std.proofs.Common.{◌≡◌, refl, sym, ap, ◌∙◌, subst}
+use Rattle.std.proofs.Common.{refl, ap, ◌∙◌, subst}
 use Rattle.fx_turn.specs.Seats.{SeatState, Agrees}
 use Rattle.fx_directory.specs.declared.home.Home.{Home}
 use Rattle.fx_directory.specs.declared.guarded.Guarded.{Guarded}

@@ -1,4 +1,4 @@
-use Rattle.std.proofs.Common.{◌≡◌, ap, ◌∙◌, sym, subst}
+use Rattle.std.proofs.Common.{◌≡◌, ap, ◌∙◌, subst}
 use Rattle.fx_directory.specs.Rows.{DirRow}
 use Rattle.fx_directory.specs.Seats.{AddsUp, DirSeatState, totals_of}
 use Rattle.fx_directory.specs.Sitting.{made_of}
