@@ -4,6 +4,7 @@ use Rattle.std.specs.List.{sum_by}
 use Rattle.std.specs.Prelude.{[], ◌∷◌, All}
 use Rattle.std.proofs.lemmas.Int.{ints}
 use Rattle.std.proofs.lemmas.List.Elements.{All-nil, All-cons}
+use Rattle.std.proofs.lemmas.List.Sums.{sum_by-cons}
 use Rattle.std.proofs.lemmas.Nat.{div-mul-add, mod-mul-add}
 use Rattle.std.proofs.lemmas.Simd.{map-map}
 use Rattle.fx_base.specs.Bounds.{Bounds}
@@ -57,16 +58,42 @@ reads_are given x y frames =
     map-map (input_pixel given) (λ (r : Read). tap r.0 r.1 x y) (map source_at frames)
     ∙ map-map (λ (r : Read). input_pixel given (tap r.0 r.1 x y)) source_at frames
 
+-- a sample's sum over the frames
+pub sum_is : (given : Given) (t : ℤ) (r : ℕ) (c : Components) (rect : Bounds) (y : ℤ) (i n : ℕ) → n < count c
+    → sum_by (moment_sample given c rect y (n + count c * i)) (around t r)
+    ≡ sum_of n (map (input_pixel given) (own_taps (blend_reads t r) (rect.x1 +ℤ pos i) y))
+sum_is given t r c rect y i n few =
+    let x = rect.x1 +ℤ pos i in
+    sum_by-same (moment_sample given c rect y (n + count c * i)) (λ f. nth (row_pixel given 0 f x y) n) (around t r) (term_is given c rect y i n few)
+    ∙ sym (sum_by-map (λ p. nth p n) (λ f. row_pixel given 0 f x y) (around t r))
+    ∙ sym (ap (sum_of n) (reads_are given x y (around t r)))
+
 pub cell_is : (given : Given) (t : ℤ) (r m : ℕ) (c : Components) (rect : Bounds) (y : ℤ) (cells : List ℕ)
     → AreSums cells (moment_sample given c rect y) (t -ℤ pos r) (2 * r + 1) m → length cells ≡ columns rect * count c
     → (i n : ℕ) → i < columns rect → n < count c
     → slice_index cells (n + count c * i) ≡ sum_of n (map (input_pixel given) (own_taps (blend_reads t r) (rect.x1 +ℤ pos i) y))
 cell_is given t r m c rect y cells sums long i n low few =
-    let x = rect.x1 +ℤ pos i in
-    sums.sums (n + count c * i) (rw long (sample_low c (columns rect) i n low few))
-    ∙ sum_by-same (moment_sample given c rect y (n + count c * i)) (λ f. nth (row_pixel given 0 f x y) n) (around t r) (term_is given c rect y i n few)
-    ∙ sym (sum_by-map (λ p. nth p n) (λ f. row_pixel given 0 f x y) (around t r))
-    ∙ sym (ap (sum_of n) (reads_are given x y (around t r)))
+    sums.sums (n + count c * i) (rw long (sample_low c (columns rect) i n low few)) ∙ sum_is given t r c rect y i n few
+
+sum_of_three : (term : ℤ → ℕ) (t : ℤ) (a b c : ℕ) → a ≡ term (t -ℤ pos 1) → b ≡ term t → c ≡ term (t +ℤ pos 1)
+    → sum_by term (around t 1) ≡ a + b + c
+sum_of_three term t a b c first here last =
+    let x = t -ℤ pos 1 in
+    let y = x +ℤ pos 1 in
+    let z = y +ℤ pos 1 in
+    let y_is : y ≡ t = omega (arith, ints) in
+    let z_is : z ≡ t +ℤ pos 1 = omega (arith, ints) in
+    let here' : b ≡ term y = here ∙ ap term (sym y_is) in
+    let last' : c ≡ term z = last ∙ ap term (sym z_is) in
+    omega (arith, first, here', last', sum_by-cons term x (y ∷ z ∷ []), sum_by-cons term y (z ∷ []), sum_by-cons term z [])
+
+-- a sample's sum over the frames of radius 1
+pub three_is : (given : Given) (t : ℤ) (k : Components) (rect : Bounds) (y : ℤ) (i n a b c : ℕ) → n < count k
+    → a ≡ moment_sample given k rect y (n + count k * i) (t -ℤ pos 1) → b ≡ moment_sample given k rect y (n + count k * i) t
+    → c ≡ moment_sample given k rect y (n + count k * i) (t +ℤ pos 1)
+    → a + b + c ≡ sum_of n (map (input_pixel given) (own_taps (blend_reads t 1) (rect.x1 +ℤ pos i) y))
+three_is given t k rect y i n a b c few first here last =
+    sym (sum_of_three (moment_sample given k rect y (n + count k * i)) t a b c first here last) ∙ sum_is given t 1 k rect y i n few
 
 pub span_moderate : (t a b : ℤ) (r : ℕ) → IsFrame t → r ≤ 16 → a ≡ t -ℤ pos r → b ≡ t +ℤ pos r → All AreModerate ((a, b) ∷ [])
 span_moderate t a b r frame few first last =

@@ -5,7 +5,7 @@ ghost use Rattle.fx_pixel.specs.Pixel.{count, greatest};
 ghost use Rattle.fx_image.specs.Stored.{pixel_size};
 ghost use Rattle.fx_image.specs.Part.{IsPart, SamePart, IsWritten};
 ghost use Rattle.fx_effect.specs.Given.{ShowsClip};
-ghost use Rattle.fx_effect.specs.Rows.{IsRow};
+ghost use Rattle.fx_effect.specs.Rows.{IsRow, ShowsRow};
 ghost use Rattle.fx_effect.specs.Shape.{IsLawful};
 ghost use Rattle.fx_kernel.specs.Sums.{AreSums};
 ghost use Rattle.fx_time.specs.Frameblend.{frameblend, frameblend_shape, radius as radius_of};
@@ -13,6 +13,7 @@ ghost use Rattle.fx_time.specs.FrameblendLaws.{frameblend_laws};
 ghost use Rattle.fx_time.specs.BlendRows.{blend_pixel, moment_sample};
 
 use crate::parts::{SOURCE, blank_bytes};
+use crate::three::write_mean_of_three;
 use fx_base::{Memory, Rect, offset};
 use fx_core::Ticket;
 use fx_effect::{
@@ -141,7 +142,7 @@ fn radius(values: &Values) -> usize
 }
 
 // The rows of a render. There is a cell for the sum of each sample of a row, and the bytes have room for
-// a row of one frame.
+// two rows of a frame.
 #[derive(Drop)]
 struct BlendRows<'a, 'b> {
     inputs: &'a Inputs<'b>,
@@ -158,7 +159,7 @@ impl<'a, 'b> RowKernel for BlendRows<'a, 'b> {
 
     ghost cell_count = { λ k depth c rect. columns rect * count c };
 
-    ghost byte_count = { λ k depth c rect. columns rect * pixel_size depth c };
+    ghost byte_count = { λ k depth c rect. 2 * (columns rect * pixel_size depth c) };
 
     fn fill_row(
         &self,
@@ -170,12 +171,68 @@ impl<'a, 'b> RowKernel for BlendRows<'a, 'b> {
         bytes: &mut [u8],
         row: &mut [u8],
     ) {
-        self.sum(depth, components, rect, y, cells, bytes);
-        write_means(depth, self.mean, cells, row);
+        let (line, other) = bytes.split_at_mut(row.len());
+        if self.radius == 1 {
+            self.blend_three(depth, components, rect, y, line, other, row);
+        } else {
+            self.blend_many(depth, components, rect, y, cells, line, row);
+        }
     }
 }
 
 impl<'a, 'b> BlendRows<'a, 'b> {
+    // Makes a row of the three frames of radius 1. Their sums are kept nowhere, so that the loop is short.
+    fn blend_three(
+        &self,
+        depth: Depth,
+        components: Components,
+        rect: Rect,
+        y: i64,
+        line: &mut [u8],
+        other: &mut [u8],
+        row: &mut [u8],
+    )
+        requires shows { ShowsClip self.now.inputs.now 0 depth components }
+        requires one { self.now.radius ≡ 1 }
+        requires frame { IsFrame self.now.frame }
+        requires row { IsRow depth components rect y row.old }
+        requires line { length line.old ≡ columns rect * pixel_size depth components }
+        requires other { length other.old ≡ columns rect * pixel_size depth components }
+        ensures { let me = self.now in ShowsRow depth components rect y
+            (blend_pixel me.inputs.now me.frame me.radius components) row.new }
+    {
+        let samples = offset(rect.x1, rect.x2) * components.count() as usize;
+        self.inputs.read_row(SOURCE, self.frame - 1, rect, y, line);
+        self.inputs.read_row(SOURCE, self.frame, rect, y, other);
+        self.inputs.read_row(SOURCE, self.frame + 1, rect, y, row);
+        write_mean_of_three(depth, line, other, row, samples);
+    }
+
+    // Makes a row of as many frames as there are, by their sums.
+    fn blend_many(
+        &self,
+        depth: Depth,
+        components: Components,
+        rect: Rect,
+        y: i64,
+        cells: &mut [u64],
+        line: &mut [u8],
+        row: &mut [u8],
+    )
+        requires shows { ShowsClip self.now.inputs.now 0 depth components }
+        requires few { self.now.radius ≤ 16 }
+        requires mean { self.now.mean ≡ 2 * self.now.radius + 1 }
+        requires frame { IsFrame self.now.frame }
+        requires row { IsRow depth components rect y row.old }
+        requires line { length line.old ≡ columns rect * pixel_size depth components }
+        requires cells { length cells.old ≡ columns rect * count components }
+        ensures { let me = self.now in ShowsRow depth components rect y
+            (blend_pixel me.inputs.now me.frame me.radius components) row.new }
+    {
+        self.sum(depth, components, rect, y, cells, line);
+        write_means(depth, self.mean, cells, row);
+    }
+
     // Sums row y of the frames.
     fn sum(
         &self,
@@ -216,7 +273,7 @@ impl<'a, 'b> BlendRows<'a, 'b> {
         ensures ok { let me = self.now in OnOk result (IsWritten out.old out.new
             (blend_pixel me.inputs.now me.frame me.radius out.old.image.now.components)) }
     {
-        let mut bytes = blank_bytes(alloc, out.row_bytes())?;
+        let mut bytes = blank_bytes(alloc, 2 * out.row_bytes())?;
         let rect = out.rect();
         let cells = offset(rect.x1, rect.x2) * out.components().count() as usize;
         let workspace = hold.workspace();

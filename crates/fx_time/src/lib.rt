@@ -8,6 +8,7 @@ mod framediff;
 mod parts;
 #[cfg(test)]
 mod tests;
+mod three;
 mod timeoffset;
 mod weight;
 
