@@ -29,7 +29,7 @@ use fx_props::{PropSet, write_frames};
 use std::alloc::Global;
 
 /// The mean of the pixels of the frames at most as far away as its parameter radius says: a filter. It keeps
-/// its sums in the workspace of its gate, and so is not safe for threads.
+/// its sums, but for those of three frames, in the workspace of its gate, and so is not safe for threads.
 #[derive(Clone, Copy, Debug, PartialEq, Eq)]
 pub struct Frameblend;
 
@@ -181,7 +181,7 @@ impl<'a, 'b> RowKernel for BlendRows<'a, 'b> {
 }
 
 impl<'a, 'b> BlendRows<'a, 'b> {
-    // Makes a row of the three frames of radius 1. Their sums are kept nowhere, so that the loop is short.
+    // Makes a row of the three frames of radius 1. A sum lasts for its sample alone.
     fn blend_three(
         &self,
         depth: Depth,

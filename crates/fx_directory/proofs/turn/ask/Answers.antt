@@ -3,10 +3,8 @@ use Rattle.std.specs.Arc.{arc_value}
 use Rattle.std.specs.Result.{IfOk}
 use Rattle.fx_core.specs.Answer.{Joins}
 use Rattle.fx_turn.specs.Claims.{NumbersDiffer}
-use Rattle.fx_turn.specs.Seats.{Agrees}
-use Rattle.fx_directory.specs.declared.guarded.Guarded.{Guarded}
 use Rattle.fx_directory.specs.Keeps.{AtHome, at_home_differ}
-use Rattle.fx_directory.specs.Sitting.{counts_in, flights_in}
+use Rattle.fx_directory.proofs.Lent.{IsLent, is_lent}
 use Rattle.fx_directory.proofs.Turned.{own_left_taken, turned, claims_turned, unchanged}
 use Rattle.fx_directory.proofs.Asking.{at_home_after, here_suits, none_left, joins_mine, new_to_mine, flies_too}
 use Rattle.fx_directory.proofs.turn.ask.Goals as goal
@@ -14,18 +12,11 @@ use Rattle.fx_directory.proofs.turn.ask.Goals.{After-ask-answer}
 use Rattle.fx_directory.proofs.turn.ask.Given.{Over}
 
 module _ (g : Over) (c : After-ask-answer g) where
-  -- the core as it was taken is the core that was asked
-  lent : c.value_mut.result.now ≡ c.take_with_room-held.result.value
-  lent = c.value_mut.ensures.value
-
-  fit : AtHome g.K.PartialEq.eq g.V.Suits.suits c.args.turns.now.name c.value_mut.result.now.core
-  fit = subst (λ (z : Guarded g.row.K.Denot g.row.V.Denot). AtHome g.K.PartialEq.eq g.V.Suits.suits c.args.turns.now.name z.core) (sym lent) c.take_with_room-held.ensures.fit
-
-  agrees : Agrees counts_in flights_in c.args.seat.now c.value_mut.result.now
-  agrees = subst (λ (z : Guarded g.row.K.Denot g.row.V.Denot). Agrees counts_in flights_in c.args.seat.now z) (sym lent) c.take_with_room-held.ensures.agrees
+  core : IsLent g.K.PartialEq.eq g.V.Suits.suits c.args.turns.now.name c.args.seat.now c.value_mut.result.now
+  core = is_lent g.K.PartialEq.eq g.V.Suits.suits c.args.turns.now.name c.args.seat.now c.value_mut.result.now c.take_with_room-held.result.value c.value_mut.ensures.value c.take_with_room-held.ensures.fit c.take_with_room-held.ensures.agrees
 
   fit_after : AtHome g.K.PartialEq.eq g.V.Suits.suits c.args.turns.now.name c.ask-answer.new.self
-  fit_after = at_home_after g.K.PartialEq.eq g.V.Suits.suits c.args.turns.now.name c.value_mut.result.now.core c.ask-answer.new.self fit c.ask-answer.ensures.same c.ask-answer.ensures.sound (λ e there. inl (c.ask-answer.ensures.kept e there))
+  fit_after = at_home_after g.K.PartialEq.eq g.V.Suits.suits c.args.turns.now.name c.value_mut.result.now.core c.ask-answer.new.self core.fit c.ask-answer.ensures.same c.ask-answer.ensures.sound (λ e there. inl (c.ask-answer.ensures.kept e there))
 
   differ_after : NumbersDiffer c.ask-answer.new.self.flying
   differ_after = at_home_differ g.K.PartialEq.eq g.V.Suits.suits c.args.turns.now.name c.ask-answer.new.self fit_after
@@ -42,12 +33,12 @@ give-requires-clause-leaves g c =
 pub returns-clause-here : goal.returns-clause-here
 returns-clause-here g c =
     let b = (goal.at.returns-clause-here g c).After-ask-answer in
-    here_suits g.K.PartialEq.eq g.V.Suits.suits c.args.turns.now.name g.met.K.Eq.laws (g.met.V.Suits.same_key c.args.turns.now.name.name) c.ask-answer.result c.value_mut.result.now.core (arc_value c.args.key) (fit g b) c.ask-answer.ensures.here
+    here_suits g.K.PartialEq.eq g.V.Suits.suits c.args.turns.now.name g.met.K.Eq.laws (g.met.V.Suits.same_key c.args.turns.now.name.name) c.ask-answer.result c.value_mut.result.now.core (arc_value c.args.key) (core g b).fit c.ask-answer.ensures.here
 
 pub returns-clause-number : goal.returns-clause-number
 returns-clause-number g c =
     let b = (goal.at.returns-clause-number g c).After-ask-answer in
-    new_to_mine c.ask-answer.result c.value_mut.result.now.core.flying c.ask-answer.new.self.flying c.args.seat.now.claims (agrees g b).1 (differ_after g b) c.ask-answer.ensures.joins
+    new_to_mine c.ask-answer.result c.value_mut.result.now.core.flying c.ask-answer.new.self.flying c.args.seat.now.claims (core g b).agrees.1 (differ_after g b) c.ask-answer.ensures.joins
 
 pub returns-clause-aloft : goal.returns-clause-aloft
 returns-clause-aloft g c =
@@ -55,16 +46,16 @@ returns-clause-aloft g c =
     let taken = c.take_with_room-held in
     let claims = claims_turned c.args.seat.now taken.new.seat taken.result.value c.value_mut.result.now taken.ensures.seat c.value_mut.ensures.value c.give.new.seat (record { core = c.ask-answer.new.self }) c.give.ensures in
     subst (λ (l : List (ℕ × g.row.K.Denot)). IfOk c.ask-answer.result (Joins c.args.seat.now.claims l)) (sym claims)
-    (joins_mine c.ask-answer.result c.value_mut.result.now.core.flying c.ask-answer.new.self.flying c.args.seat.now.claims (agrees g b).2 (agrees g b).1 (differ_after g b) c.ask-answer.ensures.joins)
+    (joins_mine c.ask-answer.result c.value_mut.result.now.core.flying c.ask-answer.new.self.flying c.args.seat.now.claims (core g b).agrees.2 (core g b).agrees.1 (differ_after g b) c.ask-answer.ensures.joins)
 
 pub returns-clause-unchanged : goal.returns-clause-unchanged
 returns-clause-unchanged g c =
     let b = (goal.at.returns-clause-unchanged g c).After-ask-answer in
     let taken = c.take_with_room-held in
     let after = turned c.args.seat.now taken.new.seat taken.result.value c.value_mut.result.now taken.ensures.seat c.value_mut.ensures.value c.give.new.seat (record { core = c.ask-answer.new.self }) c.give.ensures in
-    unchanged c.ask-answer.result c.args.seat.now c.give.new.seat c.value_mut.result.now c.ask-answer.new.self taken.ensures.six c.requires.free (agrees g b) after c.ask-answer.ensures.unchanged
+    unchanged c.ask-answer.result c.args.seat.now c.give.new.seat c.value_mut.result.now c.ask-answer.new.self taken.ensures.six c.requires.free (core g b).agrees after c.ask-answer.ensures.unchanged
 
 pub returns-clause-own : goal.returns-clause-own
 returns-clause-own g c = λ any.
     let b = (goal.at.returns-clause-own g c).After-ask-answer in
-    c.ask-answer.ensures.busy.1 (flies_too g.K.PartialEq.eq (arc_value c.args.key) c.args.seat.now.claims c.value_mut.result.now.core.flying (agrees g b).2 (agrees g b).1 any)
+    c.ask-answer.ensures.busy.1 (flies_too g.K.PartialEq.eq (arc_value c.args.key) c.args.seat.now.claims c.value_mut.result.now.core.flying (core g b).agrees.2 (core g b).agrees.1 any)

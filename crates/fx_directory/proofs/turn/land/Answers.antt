@@ -1,13 +1,9 @@
 use Rattle.std.proofs.Common.{◌≡◌, ℕ, List, inl, inr, sym, subst}
 use Rattle.std.specs.Arc.{arc_value}
 use Rattle.std.specs.Result.{OnOk}
-use Rattle.fx_turn.specs.Claims.{NumbersDiffer}
-use Rattle.fx_turn.specs.Seats.{Agrees}
-use Rattle.fx_directory.specs.declared.guarded.Guarded.{Guarded}
-use Rattle.fx_directory.specs.Keeps.{AtHome, at_home_differ}
-use Rattle.fx_directory.specs.Sitting.{counts_in, flights_in}
+use Rattle.fx_directory.proofs.Lent.{IsLent, is_lent, own_stands}
 use Rattle.fx_directory.proofs.Turned.{own_left_taken, turned, claims_turned, unchanged}
-use Rattle.fx_directory.proofs.Flown.{Without, stands}
+use Rattle.fx_directory.proofs.Flown.{Without}
 use Rattle.fx_directory.proofs.Asking.{at_home_after}
 use Rattle.fx_directory.proofs.Ending.{own_left, left_at_ok}
 use Rattle.fx_directory.proofs.turn.land.Goals as goal
@@ -15,29 +11,19 @@ use Rattle.fx_directory.proofs.turn.land.Goals.{After-value_mut}
 use Rattle.fx_directory.proofs.turn.land.Given.{Over}
 
 module _ (g : Over) (c : After-value_mut g) where
-  -- the core as it was taken is the core that is lent
-  lent : c.value_mut.result.now ≡ c.take-held.result.value
-  lent = c.value_mut.ensures.value
-
-  fit : AtHome g.K.PartialEq.eq g.V.Suits.suits c.args.turns.now.name c.value_mut.result.now.core
-  fit = subst (λ (z : Guarded g.row.K.Denot g.row.V.Denot). AtHome g.K.PartialEq.eq g.V.Suits.suits c.args.turns.now.name z.core) (sym lent) c.take-held.ensures.fit
-
-  agrees : Agrees counts_in flights_in c.args.seat.now c.value_mut.result.now
-  agrees = subst (λ (z : Guarded g.row.K.Denot g.row.V.Denot). Agrees counts_in flights_in c.args.seat.now z) (sym lent) c.take-held.ensures.agrees
-
-  differ : NumbersDiffer c.value_mut.result.now.core.flying
-  differ = at_home_differ g.K.PartialEq.eq g.V.Suits.suits c.args.turns.now.name c.value_mut.result.now.core fit
+  core : IsLent g.K.PartialEq.eq g.V.Suits.suits c.args.turns.now.name c.args.seat.now c.value_mut.result.now
+  core = is_lent g.K.PartialEq.eq g.V.Suits.suits c.args.turns.now.name c.args.seat.now c.value_mut.result.now c.take-held.result.value c.value_mut.ensures.value c.take-held.ensures.fit c.take-held.ensures.agrees
 
 pub land-landed-requires-clause-stands : goal.land-landed-requires-clause-stands
 land-landed-requires-clause-stands g c =
     let b = (goal.at.land-landed-requires-clause-stands g c).After-value_mut in
-    stands c.args.seat.now.claims c.value_mut.result.now.core.flying (c.args.flight.ticket.number, arc_value c.args.flight.key) (agrees g b).2 (agrees g b).1 c.requires.own
+    own_stands g.K.PartialEq.eq g.V.Suits.suits c.args.turns.now.name c.args.seat.now c.value_mut.result.now (core g b) (c.args.flight.ticket.number, arc_value c.args.flight.key) c.requires.own
 
 pub give-requires-clause-fit : goal.give-requires-clause-fit
 give-requires-clause-fit g c =
     let b = (goal.at.give-requires-clause-fit g c).After-value_mut in
     let suits = g.V.Suits.suits c.args.turns.now.name.name in
-    at_home_after g.K.PartialEq.eq g.V.Suits.suits c.args.turns.now.name c.value_mut.result.now.core c.land-landed.new.self (fit g b) c.land-landed.ensures.same c.land-landed.ensures.sound
+    at_home_after g.K.PartialEq.eq g.V.Suits.suits c.args.turns.now.name c.value_mut.result.now.core c.land-landed.new.self (core g b).fit c.land-landed.ensures.same c.land-landed.ensures.sound
     (λ e there. elim (c.land-landed.ensures.kept e there) [ inl old ↦ inl old | inr new ↦ inr (subst (λ (z : g.row.K.Denot × g.row.V.Denot). suits z.0 z.1) (sym new) c.requires.suits) ])
 
 pub give-requires-clause-leaves : goal.give-requires-clause-leaves
@@ -45,13 +31,13 @@ give-requires-clause-leaves g c =
     let b = (goal.at.give-requires-clause-leaves g c).After-value_mut in
     let ended : ℕ × g.row.K.Denot = (c.args.flight.ticket.number, arc_value c.args.flight.key) in
     own_left_taken c.args.seat.now c.take-held.new.seat c.take-held.result.value c.value_mut.result.now c.take-held.ensures.seat c.value_mut.ensures.value c.land-landed.new.self.flying
-    (own_left c.value_mut.result.now.core c.land-landed.new.self c.args.seat.now.claims ended (differ g b) (agrees g b).1 (agrees g b).2 c.requires.own c.land-landed.result c.land-landed.ensures.leaves c.land-landed.ensures.unchanged)
+    (own_left c.value_mut.result.now.core c.land-landed.new.self c.args.seat.now.claims ended (core g b).differ (core g b).agrees.1 (core g b).agrees.2 c.requires.own c.land-landed.result c.land-landed.ensures.leaves c.land-landed.ensures.unchanged)
 
 pub returns-clause-unchanged : goal.returns-clause-unchanged
 returns-clause-unchanged g c =
     let b = (goal.at.returns-clause-unchanged g c).After-value_mut in
     let after = turned c.args.seat.now c.take-held.new.seat c.take-held.result.value c.value_mut.result.now c.take-held.ensures.seat c.value_mut.ensures.value c.give.new.seat (record { core = c.land-landed.new.self }) c.give.ensures in
-    unchanged c.land-landed.result c.args.seat.now c.give.new.seat c.value_mut.result.now c.land-landed.new.self c.take-held.ensures.six c.requires.free (agrees g b) after c.land-landed.ensures.unchanged
+    unchanged c.land-landed.result c.args.seat.now c.give.new.seat c.value_mut.result.now c.land-landed.new.self c.take-held.ensures.six c.requires.free (core g b).agrees after c.land-landed.ensures.unchanged
 
 pub returns-clause-aloft : goal.returns-clause-aloft
 returns-clause-aloft g c =
@@ -59,4 +45,4 @@ returns-clause-aloft g c =
     let ended : ℕ × g.row.K.Denot = (c.args.flight.ticket.number, arc_value c.args.flight.key) in
     let claims = claims_turned c.args.seat.now c.take-held.new.seat c.take-held.result.value c.value_mut.result.now c.take-held.ensures.seat c.value_mut.ensures.value c.give.new.seat (record { core = c.land-landed.new.self }) c.give.ensures in
     subst (λ (l : List (ℕ × g.row.K.Denot)). OnOk c.land-landed.result (Without c.args.seat.now.claims ended l)) (sym claims)
-    (left_at_ok c.value_mut.result.now.core c.land-landed.new.self c.args.seat.now.claims ended (differ g b) (agrees g b).1 (agrees g b).2 c.requires.own c.land-landed.result c.land-landed.ensures.leaves)
+    (left_at_ok c.value_mut.result.now.core c.land-landed.new.self c.args.seat.now.claims ended (core g b).differ (core g b).agrees.1 (core g b).agrees.2 c.requires.own c.land-landed.result c.land-landed.ensures.leaves)
