@@ -1,4 +1,4 @@
-use Rattle.std.proofs.Common.{◌≡◌, ℕ, List, inl, sym, subst}
+use Rattle.std.proofs.Common.{ℕ, List, inl, sym, subst}
 use Rattle.std.specs.Arc.{arc_value}
 use Rattle.std.specs.Result.{IfOk}
 use Rattle.fx_core.specs.Answer.{Joins}

@@ -1,4 +1,4 @@
-use Rattle.std.proofs.Common.{◌≡◌, ℕ, List, sym, subst}
+use Rattle.std.proofs.Common.{ℕ, List, sym, subst}
 use Rattle.std.specs.Arc.{arc_value}
 use Rattle.fx_directory.proofs.Lent.{IsLent, is_lent, own_stands}
 use Rattle.fx_directory.proofs.Turned.{own_left_taken, claims_turned}

@@ -1,4 +1,4 @@
-use Rattle.std.proofs.Common.{◌≡◌, ℕ, List, inl, inr, sym, subst}
+use Rattle.std.proofs.Common.{ℕ, List, inl, inr, sym, subst}
 use Rattle.std.specs.Arc.{arc_value}
 use Rattle.std.specs.Result.{OnOk}
 use Rattle.fx_directory.proofs.Lent.{IsLent, is_lent, own_stands}
