@@ -26,7 +26,6 @@ use Rattle.fx_app.specs.declared.frames.PutFailure.{PutFailure}
 use Rattle.fx_app.specs.declared.frames.PutFailure.TheVariants as put
 use Rattle.fx_app.specs.declared.report.ReportFailure.{ReportFailure}
 use Rattle.fx_app.specs.declared.report.ReportFailure.TheVariants as report
-use Rattle.fx_app.specs.Words.{order_of}
 use Rattle.fx_app.specs.Graphs.{Graph, graph_under, first_of, last_of, frame_count}
 use Rattle.fx_app.specs.Texts.{report_of, status_of}
 use Rattle.fx_app.proofs.WantedLemmas.{wanted_once}
@@ -40,55 +39,55 @@ no_call a x = record { count = refl; last_one = refl }
 pub untouched : (files : Files) → SameFiles files files
 untouched files name = refl
 
--- ---- the words
+-- ---- the asked
 
-pub words_rose : (library depot : ℕ × ℕ × List ℕ) (out : ℕ × ℕ) (words : List (List ℕ)) (e : RunFault)
-    → ((e ≡ run.Usage) × (order_of words ≡ None)) ⊎ (e ≡ run.Memory) → Rose library depot out e
-words_rose library depot out words e (inl h) = subst (Rose library depot out) (sym h.0) tt
-words_rose library depot out words e (inr h) = subst (Rose library depot out) (sym h) tt
+pub words_rose : (library depot : ℕ × ℕ × List ℕ) (out : ℕ × ℕ) (asked : Option Ordered) (e : RunFault)
+    → ((e ≡ run.Usage) × (asked ≡ None)) ⊎ (e ≡ run.Memory) → Rose library depot out e
+words_rose library depot out asked e (inl h) = subst (Rose library depot out) (sym h.0) tt
+words_rose library depot out asked e (inr h) = subst (Rose library depot out) (sym h) tt
 
-pub words_cause : (words : List (List ℕ)) (library : Files) (e : RunFault)
-    → ((e ≡ run.Usage) × (order_of words ≡ None)) ⊎ (e ≡ run.Memory) → Cause words library e
-words_cause words library e (inl h) = subst (Cause words library) (sym h.0) h.1
-words_cause words library e (inr h) = subst (Cause words library) (sym h) tt
+pub words_cause : (asked : Option Ordered) (library : Files) (e : RunFault)
+    → ((e ≡ run.Usage) × (asked ≡ None)) ⊎ (e ≡ run.Memory) → Cause asked library e
+words_cause asked library e (inl h) = subst (Cause asked library) (sym h.0) h.1
+words_cause asked library e (inr h) = subst (Cause asked library) (sym h) tt
 
-pub words_leaves : (words : List (List ℕ)) (library : Files) (old : Files) (e : RunFault)
-    → ((e ≡ run.Usage) × (order_of words ≡ None)) ⊎ (e ≡ run.Memory) → Leaves words library e old old
-words_leaves words library old e (inl h) = subst (λ (f : RunFault). Leaves words library f old old) (sym h.0) (untouched old)
-words_leaves words library old e (inr h) = subst (λ (f : RunFault). Leaves words library f old old) (sym h) (inl (untouched old))
+pub words_leaves : (asked : Option Ordered) (library : Files) (old : Files) (e : RunFault)
+    → ((e ≡ run.Usage) × (asked ≡ None)) ⊎ (e ≡ run.Memory) → Leaves asked library e old old
+words_leaves asked library old e (inl h) = subst (λ (f : RunFault). Leaves asked library f old old) (sym h.0) (untouched old)
+words_leaves asked library old e (inr h) = subst (λ (f : RunFault). Leaves asked library f old old) (sym h) (inl (untouched old))
 
-pub words_report : (words : List (List ℕ)) (old : List ℕ) (e : RunFault)
-    → ((e ≡ run.Usage) × (order_of words ≡ None)) ⊎ (e ≡ run.Memory) → LeavesReport e old old
-words_report words old e (inl h) = subst (λ (f : RunFault). LeavesReport f old old) (sym h.0) refl
-words_report words old e (inr h) = subst (λ (f : RunFault). LeavesReport f old old) (sym h) refl
+pub words_report : (asked : Option Ordered) (old : List ℕ) (e : RunFault)
+    → ((e ≡ run.Usage) × (asked ≡ None)) ⊎ (e ≡ run.Memory) → LeavesReport e old old
+words_report asked old e (inl h) = subst (λ (f : RunFault). LeavesReport f old old) (sym h.0) refl
+words_report asked old e (inr h) = subst (λ (f : RunFault). LeavesReport f old old) (sym h) refl
 
-pub words_own : (words : List (List ℕ)) (library : Files) (old new : List ℕ) (e : RunFault)
-    → ((e ≡ run.Usage) × (order_of words ≡ None)) ⊎ (e ≡ run.Memory) → LeavesOwnReport words library e old new
-words_own words library old new e (inl h) = subst (λ (f : RunFault). LeavesOwnReport words library f old new) (sym h.0) tt
-words_own words library old new e (inr h) = subst (λ (f : RunFault). LeavesOwnReport words library f old new) (sym h) tt
+pub words_own : (asked : Option Ordered) (library : Files) (old new : List ℕ) (e : RunFault)
+    → ((e ≡ run.Usage) × (asked ≡ None)) ⊎ (e ≡ run.Memory) → LeavesOwnReport asked library e old new
+words_own asked library old new e (inl h) = subst (λ (f : RunFault). LeavesOwnReport asked library f old new) (sym h.0) tt
+words_own asked library old new e (inr h) = subst (λ (f : RunFault). LeavesOwnReport asked library f old new) (sym h) tt
 
-pub words_library : (words : List (List ℕ)) (a : ℕ) (x : List ℕ) (e : RunFault)
-    → ((e ≡ run.Usage) × (order_of words ≡ None)) ⊎ (e ≡ run.Memory) → LeavesLibrary e a a x x
-words_library words a x e (inl h) = subst (λ (f : RunFault). LeavesLibrary f a a x x) (sym h.0) (no_call a x)
-words_library words a x e (inr h) = subst (λ (f : RunFault). LeavesLibrary f a a x x) (sym h) tt
+pub words_library : (asked : Option Ordered) (a : ℕ) (x : List ℕ) (e : RunFault)
+    → ((e ≡ run.Usage) × (asked ≡ None)) ⊎ (e ≡ run.Memory) → LeavesLibrary e a a x x
+words_library asked a x e (inl h) = subst (λ (f : RunFault). LeavesLibrary f a a x x) (sym h.0) (no_call a x)
+words_library asked a x e (inr h) = subst (λ (f : RunFault). LeavesLibrary f a a x x) (sym h) tt
 
-pub words_depot : (words : List (List ℕ)) (a : ℕ) (x : List ℕ) (e : RunFault)
-    → ((e ≡ run.Usage) × (order_of words ≡ None)) ⊎ (e ≡ run.Memory) → LeavesDepot e a a x x
-words_depot words a x e (inl h) = subst (λ (f : RunFault). LeavesDepot f a a x x) (sym h.0) (no_call a x)
-words_depot words a x e (inr h) = subst (λ (f : RunFault). LeavesDepot f a a x x) (sym h) (no_call a x)
+pub words_depot : (asked : Option Ordered) (a : ℕ) (x : List ℕ) (e : RunFault)
+    → ((e ≡ run.Usage) × (asked ≡ None)) ⊎ (e ≡ run.Memory) → LeavesDepot e a a x x
+words_depot asked a x e (inl h) = subst (λ (f : RunFault). LeavesDepot f a a x x) (sym h.0) (no_call a x)
+words_depot asked a x e (inr h) = subst (λ (f : RunFault). LeavesDepot f a a x x) (sym h) (no_call a x)
 
-pub words_usage : (words : List (List ℕ)) (e : RunFault) → ((e ≡ run.Usage) × (order_of words ≡ None)) ⊎ (e ≡ run.Memory)
-    → e ≡ run.Usage → order_of words ≡ None
-words_usage words e (inl h) is = h.1
-words_usage words e (inr h) is = absurd (apart (sym h ∙ is))
+pub words_usage : (asked : Option Ordered) (e : RunFault) → ((e ≡ run.Usage) × (asked ≡ None)) ⊎ (e ≡ run.Memory)
+    → e ≡ run.Usage → asked ≡ None
+words_usage asked e (inl h) is = h.1
+words_usage asked e (inr h) is = absurd (apart (sym h ∙ is))
   where
     apart : run.Memory ≡ run.Usage → ⊥
     apart same = cc
 
-pub words_other : (words : List (List ℕ)) (e : RunFault) → ((e ≡ run.Usage) × (order_of words ≡ None)) ⊎ (e ≡ run.Memory)
+pub words_other : (asked : Option Ordered) (e : RunFault) → ((e ≡ run.Usage) × (asked ≡ None)) ⊎ (e ≡ run.Memory)
     → (e ≡ run.Usage) ⊎ (e ≡ run.Memory)
-words_other words e (inl h) = inl h.0
-words_other words e (inr h) = inr h
+words_other asked e (inl h) = inl h.0
+words_other asked e (inr h) = inr h
 
 -- ---- the graph
 
@@ -98,29 +97,29 @@ graph_rose name a b x y depot out (graph.Read other) fetch = (fetch.0, fetch.1)
 graph_rose name a b x y depot out (graph.Refused code path) fetch = tt
 graph_rose name a b x y depot out graph.Memory fetch = tt
 
-pub graph_cause : (words : List (List ℕ)) (library : Files) (order : Ordered) (a b : ℕ) (x y : List ℕ) (e : GraphFailure)
-    → order_of words ≡ Some order → GraphCause library order.graph e → GraphFetch order.graph a b x y e
-    → Cause words library (graph_fault e)
-graph_cause words library order a b x y (graph.Read other) ordered cause fetch = inl (order, ordered, fetch.2)
-graph_cause words library order a b x y (graph.Refused code path) ordered cause fetch =
+pub graph_cause : (asked : Option Ordered) (library : Files) (order : Ordered) (a b : ℕ) (x y : List ℕ) (e : GraphFailure)
+    → asked ≡ Some order → GraphCause library order.graph e → GraphFetch order.graph a b x y e
+    → Cause asked library (graph_fault e)
+graph_cause asked library order a b x y (graph.Read other) ordered cause fetch = inl (order, ordered, fetch.2)
+graph_cause asked library order a b x y (graph.Refused code path) ordered cause fetch =
     record { order = order; ordered = ordered; refused = cause }
-graph_cause words library order a b x y graph.Memory ordered cause fetch = tt
+graph_cause asked library order a b x y graph.Memory ordered cause fetch = tt
 
-pub graph_leaves : (words : List (List ℕ)) (library old : Files) (e : GraphFailure) → Leaves words library (graph_fault e) old old
-graph_leaves words library old (graph.Read other) = untouched old
-graph_leaves words library old (graph.Refused code path) = untouched old
-graph_leaves words library old graph.Memory = inl (untouched old)
+pub graph_leaves : (asked : Option Ordered) (library old : Files) (e : GraphFailure) → Leaves asked library (graph_fault e) old old
+graph_leaves asked library old (graph.Read other) = untouched old
+graph_leaves asked library old (graph.Refused code path) = untouched old
+graph_leaves asked library old graph.Memory = inl (untouched old)
 
 pub graph_report : (old : List ℕ) (e : GraphFailure) → LeavesReport (graph_fault e) old old
 graph_report old (graph.Read other) = refl
 graph_report old (graph.Refused code path) = refl
 graph_report old graph.Memory = refl
 
-pub graph_own : (words : List (List ℕ)) (library : Files) (old new : List ℕ) (e : GraphFailure)
-    → LeavesOwnReport words library (graph_fault e) old new
-graph_own words library old new (graph.Read other) = tt
-graph_own words library old new (graph.Refused code path) = tt
-graph_own words library old new graph.Memory = tt
+pub graph_own : (asked : Option Ordered) (library : Files) (old new : List ℕ) (e : GraphFailure)
+    → LeavesOwnReport asked library (graph_fault e) old new
+graph_own asked library old new (graph.Read other) = tt
+graph_own asked library old new (graph.Refused code path) = tt
+graph_own asked library old new graph.Memory = tt
 
 pub graph_library : (name : List ℕ) (a b : ℕ) (x y : List ℕ) (e : GraphFailure) → GraphFetch name a b x y e
     → LeavesLibrary (graph_fault e) a b x y
@@ -186,10 +185,10 @@ fill_fetch g a b x y ws seq.Memory e fetch quiet is = subst (SourceFetch a b x y
 pub both : (P : ℕ → ℕ → Type 0) (a b c d : ℕ) → a ≡ c → b ≡ d → P a b → P c d
 both P a b c d ac bd p = subst (λ (n : ℕ). P c n) bd (subst (λ (m : ℕ). P m b) ac p)
 
-abbrev pub job_of : (words : List (List ℕ)) (library : Files) (order : Ordered) (g : Graph) (a b : ℕ) (wanted : List Wanted)
-    → order_of words ≡ Some order → graph_under library order.graph ≡ Some (Ok g) → a ≡ first_of g order → b ≡ last_of g order
-    → AreWantedBy g a b wanted → Job words library
-job_of words library order g a b wanted ordered there first last are =
+abbrev pub job_of : (asked : Option Ordered) (library : Files) (order : Ordered) (g : Graph) (a b : ℕ) (wanted : List Wanted)
+    → asked ≡ Some order → graph_under library order.graph ≡ Some (Ok g) → a ≡ first_of g order → b ≡ last_of g order
+    → AreWantedBy g a b wanted → Job asked library
+job_of asked library order g a b wanted ordered there first last are =
     record {
       order = order;
       ordered = ordered;
@@ -199,12 +198,12 @@ job_of words library order g a b wanted ordered there first last are =
       are = both (λ m n. AreWantedBy g m n wanted) a b (first_of g order) (last_of g order) first last are;
     }
 
-abbrev pub accepted_of : (words : List (List ℕ)) (library : Files) (order : Ordered) (g : Graph) (a b : ℕ) (images : Images)
-    → order_of words ≡ Some order → graph_under library order.graph ≡ Some (Ok g) → a ≡ first_of g order → b ≡ last_of g order
-    → HasSources library g a b images → IsAccepted words library
-accepted_of words library order g a b images ordered there first last sources =
+abbrev pub accepted_of : (asked : Option Ordered) (library : Files) (order : Ordered) (g : Graph) (a b : ℕ) (images : Images)
+    → asked ≡ Some order → graph_under library order.graph ≡ Some (Ok g) → a ≡ first_of g order → b ≡ last_of g order
+    → HasSources library g a b images → IsAccepted asked library
+accepted_of asked library order g a b images ordered there first last sources =
     record {
-      job = job_of words library order g a b sources.wanted ordered there first last sources.are;
+      job = job_of asked library order g a b sources.wanted ordered there first last sources.are;
       accepted = sources.accepted;
     }
 
@@ -215,31 +214,31 @@ source_rose a b c x y z depot out (source.Read name) quiet fetch =
 source_rose a b c x y z depot out (source.Refused name t why) quiet fetch = tt
 source_rose a b c x y z depot out source.Memory quiet fetch = tt
 
-pub source_cause : (words : List (List ℕ)) (library : Files) (order : Ordered) (g : Graph) (a b : ℕ) (e : SourceFailure)
-    → order_of words ≡ Some order → graph_under library order.graph ≡ Some (Ok g) → a ≡ first_of g order → b ≡ last_of g order
-    → SourceCause library g a b e → Cause words library (source_fault e)
-source_cause words library order g a b (source.Read name) ordered there first last cause =
-    inr (job_of words library order g a b cause.0 ordered there first last cause.1, cause.2, cause.3, cause.4)
-source_cause words library order g a b (source.Refused name t why) ordered there first last cause =
-    (job_of words library order g a b cause.0 ordered there first last cause.1, cause.2, cause.3, cause.4)
-source_cause words library order g a b source.Memory ordered there first last cause = tt
+pub source_cause : (asked : Option Ordered) (library : Files) (order : Ordered) (g : Graph) (a b : ℕ) (e : SourceFailure)
+    → asked ≡ Some order → graph_under library order.graph ≡ Some (Ok g) → a ≡ first_of g order → b ≡ last_of g order
+    → SourceCause library g a b e → Cause asked library (source_fault e)
+source_cause asked library order g a b (source.Read name) ordered there first last cause =
+    inr (job_of asked library order g a b cause.0 ordered there first last cause.1, cause.2, cause.3, cause.4)
+source_cause asked library order g a b (source.Refused name t why) ordered there first last cause =
+    (job_of asked library order g a b cause.0 ordered there first last cause.1, cause.2, cause.3, cause.4)
+source_cause asked library order g a b source.Memory ordered there first last cause = tt
 
-pub source_leaves : (words : List (List ℕ)) (library old : Files) (e : SourceFailure)
-    → Leaves words library (source_fault e) old old
-source_leaves words library old (source.Read name) = untouched old
-source_leaves words library old (source.Refused name t why) = untouched old
-source_leaves words library old source.Memory = inl (untouched old)
+pub source_leaves : (asked : Option Ordered) (library old : Files) (e : SourceFailure)
+    → Leaves asked library (source_fault e) old old
+source_leaves asked library old (source.Read name) = untouched old
+source_leaves asked library old (source.Refused name t why) = untouched old
+source_leaves asked library old source.Memory = inl (untouched old)
 
 pub source_report : (old : List ℕ) (e : SourceFailure) → LeavesReport (source_fault e) old old
 source_report old (source.Read name) = refl
 source_report old (source.Refused name t why) = refl
 source_report old source.Memory = refl
 
-pub source_own : (words : List (List ℕ)) (library : Files) (old new : List ℕ) (e : SourceFailure)
-    → LeavesOwnReport words library (source_fault e) old new
-source_own words library old new (source.Read name) = tt
-source_own words library old new (source.Refused name t why) = tt
-source_own words library old new source.Memory = tt
+pub source_own : (asked : Option Ordered) (library : Files) (old new : List ℕ) (e : SourceFailure)
+    → LeavesOwnReport asked library (source_fault e) old new
+source_own asked library old new (source.Read name) = tt
+source_own asked library old new (source.Refused name t why) = tt
+source_own asked library old new source.Memory = tt
 
 pub source_library : (a b c : ℕ) (x y z : List ℕ) (e : SourceFailure) → IsQuiet a b x y → SourceFetch b c y z e
     → LeavesLibrary (source_fault e) a c x z
@@ -264,30 +263,30 @@ pub put_rose : (g : Graph) (first n a b : ℕ) (x y : List ℕ) (library : ℕ �
 put_rose g first n a b x y library out (put.Write name) fault = (fault.0, fault.1)
 put_rose g first n a b x y library out put.Memory fault = tt
 
-pub put_cause : (words : List (List ℕ)) (library : Files) (order : Ordered) (g : Graph) (a b : ℕ) (images : Images)
+pub put_cause : (asked : Option Ordered) (library : Files) (order : Ordered) (g : Graph) (a b : ℕ) (images : Images)
     (c d : ℕ) (x y : List ℕ) (e : PutFailure)
-    → order_of words ≡ Some order → graph_under library order.graph ≡ Some (Ok g)
+    → asked ≡ Some order → graph_under library order.graph ≡ Some (Ok g)
     → (first : a ≡ first_of g order) → (last : b ≡ last_of g order)
-    → HasSources library g a b images → FilesPut g a (frame_count a b) c d x y e → Cause words library (put_fault e)
-put_cause words library order g a b images c d x y (put.Write name) ordered there first last sources fault =
+    → HasSources library g a b images → FilesPut g a (frame_count a b) c d x y e → Cause asked library (put_fault e)
+put_cause asked library order g a b images c d x y (put.Write name) ordered there first last sources fault =
     let few = fault.3 in
     let is = fault.4 in (
-      accepted_of words library order g a b images ordered there first last sources,
+      accepted_of asked library order g a b images ordered there first last sources,
       fault.2,
       both (λ m n. fault.2 < frame_count m n) a b (first_of g order) (last_of g order) first last few,
       subst (λ (m : ℕ). file_name g (m + fault.2) ≡ name) first is,
     )
-put_cause words library order g a b images c d x y put.Memory ordered there first last sources fault = tt
+put_cause asked library order g a b images c d x y put.Memory ordered there first last sources fault = tt
 
-pub put_leaves : (words : List (List ℕ)) (library : Files) (order : Ordered) (g : Graph) (a b : ℕ) (images : Images)
+pub put_leaves : (asked : Option Ordered) (library : Files) (order : Ordered) (g : Graph) (a b : ℕ) (images : Images)
     (e : PutFailure) (old new : Files)
-    → order_of words ≡ Some order → graph_under library order.graph ≡ Some (Ok g)
+    → asked ≡ Some order → graph_under library order.graph ≡ Some (Ok g)
     → (first : a ≡ first_of g order) → (last : b ≡ last_of g order)
     → HasSources library g a b images → LeavesFiles g images a (frame_count a b) e old new
-    → Leaves words library (put_fault e) old new
-put_leaves words library order g a b images (put.Write name) old new ordered there first last sources leaves =
+    → Leaves asked library (put_fault e) old new
+put_leaves asked library order g a b images (put.Write name) old new ordered there first last sources leaves =
     record {
-      known = accepted_of words library order g a b images ordered there first last sources;
+      known = accepted_of asked library order g a b images ordered there first last sources;
       images = images;
       are = sources.shown;
       n = leaves.0;
@@ -295,11 +294,11 @@ put_leaves words library order g a b images (put.Write name) old new ordered the
       file_is = subst (λ (m : ℕ). name ≡ file_name g (m + leaves.0)) first leaves.2;
       gained = subst (λ (m : ℕ). HasGainedBut g images m leaves.0 old new) first leaves.3;
     }
-put_leaves words library order g a b images put.Memory old new ordered there first last sources leaves =
+put_leaves asked library order g a b images put.Memory old new ordered there first last sources leaves =
     inr (
       leaves.0,
       record {
-        known = accepted_of words library order g a b images ordered there first last sources;
+        known = accepted_of asked library order g a b images ordered there first last sources;
         images = images;
         are = sources.shown;
         few = both (λ m n. leaves.0 ≤ frame_count m n) a b (first_of g order) (last_of g order) first last leaves.1;
@@ -311,10 +310,10 @@ pub put_report : (old : List ℕ) (e : PutFailure) → LeavesReport (put_fault e
 put_report old (put.Write name) = refl
 put_report old put.Memory = refl
 
-pub put_own : (words : List (List ℕ)) (library : Files) (old new : List ℕ) (e : PutFailure)
-    → LeavesOwnReport words library (put_fault e) old new
-put_own words library old new (put.Write name) = tt
-put_own words library old new put.Memory = tt
+pub put_own : (asked : Option Ordered) (library : Files) (old new : List ℕ) (e : PutFailure)
+    → LeavesOwnReport asked library (put_fault e) old new
+put_own asked library old new (put.Write name) = tt
+put_own asked library old new put.Memory = tt
 
 pub put_library : (a b : ℕ) (x y : List ℕ) (e : PutFailure) → IsQuiet a b x y → LeavesLibrary (put_fault e) a b x y
 put_library a b x y (put.Write name) quiet = quiet
@@ -331,14 +330,14 @@ put_usage put.Memory is = cc
 
 -- ---- the report
 
-pub all_put : (words : List (List ℕ)) (library : Files) (order : Ordered) (g : Graph) (a b : ℕ) (images : Images)
+pub all_put : (asked : Option Ordered) (library : Files) (order : Ordered) (g : Graph) (a b : ℕ) (images : Images)
     (old new : Files)
-    → order_of words ≡ Some order → graph_under library order.graph ≡ Some (Ok g)
+    → asked ≡ Some order → graph_under library order.graph ≡ Some (Ok g)
     → (first : a ≡ first_of g order) → (last : b ≡ last_of g order)
-    → HasSources library g a b images → HasGained g images a (frame_count a b) old new → HasPutAll words library old new
-all_put words library order g a b images old new ordered there first last sources gained =
+    → HasSources library g a b images → HasGained g images a (frame_count a b) old new → HasPutAll asked library old new
+all_put asked library order g a b images old new ordered there first last sources gained =
     record {
-      known = accepted_of words library order g a b images ordered there first last sources;
+      known = accepted_of asked library order g a b images ordered there first last sources;
       images = images;
       are = sources.shown;
       gained = both (λ m n. HasGained g images m (frame_count m n) old new) a b (first_of g order) (last_of g order) first last gained;
@@ -349,15 +348,15 @@ pub report_rose : (library depot : ℕ × ℕ × List ℕ) (a b : ℕ) (e : Repo
 report_rose library depot a b report.Report rose = rose
 report_rose library depot a b report.Memory rose = tt
 
-pub report_cause : (words : List (List ℕ)) (library : Files) (e : ReportFailure) → IsAccepted words library
-    → Cause words library (report_fault e)
-report_cause words library report.Report known = known
-report_cause words library report.Memory known = tt
+pub report_cause : (asked : Option Ordered) (library : Files) (e : ReportFailure) → IsAccepted asked library
+    → Cause asked library (report_fault e)
+report_cause asked library report.Report known = known
+report_cause asked library report.Memory known = tt
 
-pub report_leaves : (words : List (List ℕ)) (library old new : Files) (e : ReportFailure) → HasPutAll words library old new
-    → Leaves words library (report_fault e) old new
-report_leaves words library old new report.Report all = all
-report_leaves words library old new report.Memory all =
+pub report_leaves : (asked : Option Ordered) (library old new : Files) (e : ReportFailure) → HasPutAll asked library old new
+    → Leaves asked library (report_fault e) old new
+report_leaves asked library old new report.Report all = all
+report_leaves asked library old new report.Memory all =
     inr (count_in all.known.job, record { known = all.known; images = all.images; are = all.are; few = omega arith; gained = all.gained })
 
 pub report_report : (n : ℕ) (old new : List ℕ) (e : ReportFailure) → BeginsReport n e old new
@@ -365,17 +364,17 @@ pub report_report : (n : ℕ) (old new : List ℕ) (e : ReportFailure) → Begin
 report_report n old new report.Report begins = (n, begins)
 report_report n old new report.Memory begins = begins
 
-pub report_own : (words : List (List ℕ)) (library : Files) (order : Ordered) (g : Graph) (a b : ℕ) (images : Images)
+pub report_own : (asked : Option Ordered) (library : Files) (order : Ordered) (g : Graph) (a b : ℕ) (images : Images)
     (old new : List ℕ) (e : ReportFailure)
-    → order_of words ≡ Some order → graph_under library order.graph ≡ Some (Ok g)
+    → asked ≡ Some order → graph_under library order.graph ≡ Some (Ok g)
     → (first : a ≡ first_of g order) → (last : b ≡ last_of g order)
     → HasSources library g a b images → BeginsReport (frame_count a b) e old new
-    → LeavesOwnReport words library (report_fault e) old new
-report_own words library order g a b images old new report.Report ordered there first last sources begins = (
-  job_of words library order g a b sources.wanted ordered there first last sources.are,
+    → LeavesOwnReport asked library (report_fault e) old new
+report_own asked library order g a b images old new report.Report ordered there first last sources begins = (
+  job_of asked library order g a b sources.wanted ordered there first last sources.are,
   both (λ m n. BeginsReport (frame_count m n) report.Report old new) a b (first_of g order) (last_of g order) first last begins,
 )
-report_own words library order g a b images old new report.Memory ordered there first last sources begins = tt
+report_own asked library order g a b images old new report.Memory ordered there first last sources begins = tt
 
 pub report_library : (a b : ℕ) (x y : List ℕ) (e : ReportFailure) → IsQuiet a b x y → LeavesLibrary (report_fault e) a b x y
 report_library a b x y report.Report quiet = quiet
@@ -405,36 +404,36 @@ one_graph g h a p q = cc
 not_both : (g : Graph) (f : Fault) (a : Option (Result Graph Fault)) → a ≡ Some (Ok g) → a ≡ Some (Err f) → ⊥
 not_both g f a p q = cc
 
--- the words and the library have one job
-graph_once : (words : List (List ℕ)) (library : Files) (j k : Job words library) → j.order ≡ k.order → j.graph ≡ k.graph
-graph_once words library j k same =
+-- the asked and the library have one job
+graph_once : (asked : Option Ordered) (library : Files) (j k : Job asked library) → j.order ≡ k.order → j.graph ≡ k.graph
+graph_once asked library j k same =
     one_graph j.graph k.graph (graph_under library j.order.graph) j.there (ap (λ (o : Ordered). graph_under library o.graph) same ∙ k.there)
 
-wanted_in : (words : List (List ℕ)) (library : Files) (j k : Job words library) → j.wanted ≡ k.wanted
-wanted_in words library j k =
+wanted_in : (asked : Option Ordered) (library : Files) (j k : Job asked library) → j.wanted ≡ k.wanted
+wanted_in asked library j k =
     let order : j.order ≡ k.order = same_Some j.order k.order (sym j.ordered ∙ k.ordered) in
-    let graph : j.graph ≡ k.graph = graph_once words library j k order in
+    let graph : j.graph ≡ k.graph = graph_once asked library j k order in
     let are : AreWantedBy k.graph (first_of k.graph k.order) (last_of k.graph k.order) j.wanted =
     subst (λ (g : Graph). AreWantedBy g (first_of g k.order) (last_of g k.order) j.wanted) graph
     (subst (λ (o : Ordered). AreWantedBy j.graph (first_of j.graph o) (last_of j.graph o) j.wanted) order j.are) in
     wanted_once k.graph (first_of k.graph k.order) (last_of k.graph k.order) j.wanted k.wanted are k.are
 
 -- where a run is accepted and no count rose, want of memory alone ends it
-pub only_memory : (words : List (List ℕ)) (library : Files) (fetches puts : ℕ × ℕ × List ℕ) (out : ℕ × ℕ) (e : RunFault)
-    → IsAccepted words library → Cause words library e → Rose fetches puts out e
+pub only_memory : (asked : Option Ordered) (library : Files) (fetches puts : ℕ × ℕ × List ℕ) (out : ℕ × ℕ) (e : RunFault)
+    → IsAccepted asked library → Cause asked library e → Rose fetches puts out e
     → (HasRisen fetches.0 fetches.1 → ⊥) → (HasRisen puts.0 puts.1 → ⊥) → (HasRisen out.0 out.1 → ⊥) → status_of e ≡ 6
-only_memory words library fetches puts out run.Usage known cause rose fetched wrote told =
+only_memory asked library fetches puts out run.Usage known cause rose fetched wrote told =
     absurd (none-some known.job.order (sym cause ∙ known.job.ordered))
-only_memory words library fetches puts out (run.Graph code path) known cause rose fetched wrote told =
+only_memory asked library fetches puts out (run.Graph code path) known cause rose fetched wrote told =
     let order : known.job.order ≡ cause.order = same_Some known.job.order cause.order (sym known.job.ordered ∙ cause.ordered) in
     absurd (not_both known.job.graph _ (graph_under library known.job.order.graph) known.job.there
     (ap (λ (o : Ordered). graph_under library o.graph) order ∙ cause.refused))
-only_memory words library fetches puts out (run.Frame node t why) known cause rose fetched wrote told =
-    absurd (none-some cause.1 (sym known.accepted ∙ ap (frame_refused library) (wanted_in words library known.job cause.0) ∙ cause.2))
-only_memory words library fetches puts out (run.Read name) known cause rose fetched wrote told = absurd (fetched rose.0)
-only_memory words library fetches puts out (run.Write name) known cause rose fetched wrote told = absurd (wrote rose.0)
-only_memory words library fetches puts out run.Memory known cause rose fetched wrote told = refl
-only_memory words library fetches puts out run.Report known cause rose fetched wrote told = absurd (told rose)
+only_memory asked library fetches puts out (run.Frame node t why) known cause rose fetched wrote told =
+    absurd (none-some cause.1 (sym known.accepted ∙ ap (frame_refused library) (wanted_in asked library known.job cause.0) ∙ cause.2))
+only_memory asked library fetches puts out (run.Read name) known cause rose fetched wrote told = absurd (fetched rose.0)
+only_memory asked library fetches puts out (run.Write name) known cause rose fetched wrote told = absurd (wrote rose.0)
+only_memory asked library fetches puts out run.Memory known cause rose fetched wrote told = refl
+only_memory asked library fetches puts out run.Report known cause rose fetched wrote told = absurd (told rose)
 
 pub ends_by_memory : (r : ℕ) (e : RunFault) → (r ≡ status_of e) ⊎ (r ≡ 6) → status_of e ≡ 6 → (r ≡ 0) ⊎ (r ≡ 6)
 ends_by_memory r e (inl is) six = inr (is ∙ six)

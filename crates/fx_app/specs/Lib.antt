@@ -3,4 +3,7 @@ pub mod Graphs
 pub mod Texts
 pub mod Files
 pub mod Run
+pub mod Check
+pub mod Bench
+pub mod Modes
 pub mod Steps

@@ -18,7 +18,6 @@ use Rattle.fx_words.specs.declared.fault.FrameFault.{FrameFault}
 use Rattle.fx_words.specs.declared.fault.FrameFault.TheVariants as fault
 use Rattle.fx_words.specs.declared.fault.RunFault.{RunFault}
 use Rattle.fx_words.specs.declared.fault.RunFault.TheVariants as run
-use Rattle.fx_app.specs.Words.{order_of}
 use Rattle.fx_app.specs.Graphs.{Graph, graph_under, name_at, first_of, last_of, frame_count}
 use Rattle.fx_app.specs.Files.{AreWantedBy, AreImages, frame_refused, file_name, HasGained, HasGainedBut}
 use Rattle.fx_app.specs.Texts.{report_of}
@@ -26,49 +25,49 @@ use Rattle.fx_app.specs.declared.sources.TheConstants.{MOST_BYTES}
 
 -- ---- what is asked for
 
--- the words order a render of a graph that the library tells, whose frames want these source frames
-pub record Job (words : List (List ℕ)) (library : Files) : Type 0 where
+-- an order of a graph that the library tells, whose frames want these source frames
+pub record Job (asked : Option Ordered) (library : Files) : Type 0 where
   pub order : Ordered
-  pub ordered : order_of words ≡ Some order
+  pub ordered : asked ≡ Some order
   pub graph : Graph
   pub there : graph_under library order.graph ≡ Some (Ok graph)
   pub wanted : List Wanted
   pub are : AreWantedBy graph (first_of graph order) (last_of graph order) wanted
 
 -- the first frame of the job, and how many it has
-abbrev pub first_in : {words : List (List ℕ)} {library : Files} → Job words library → ℕ
+abbrev pub first_in : {asked : Option Ordered} {library : Files} → Job asked library → ℕ
 first_in job = first_of job.graph job.order
 
-abbrev pub count_in : {words : List (List ℕ)} {library : Files} → Job words library → ℕ
+abbrev pub count_in : {asked : Option Ordered} {library : Files} → Job asked library → ℕ
 count_in job = frame_count (first_of job.graph job.order) (last_of job.graph job.order)
 
--- the words order a render of a graph that the library tells, and none of its wanted source frames is refused
-pub record IsAccepted (words : List (List ℕ)) (library : Files) : Type 0 where
-  pub job : Job words library
+-- an order of a graph that the library tells, and none of its wanted source frames is refused
+pub record IsAccepted (asked : Option Ordered) (library : Files) : Type 0 where
+  pub job : Job asked library
   pub accepted : frame_refused library job.wanted ≡ None
 
--- the words order a render of bytes that the library tells and that are no graph
-pub record IsRefused (words : List (List ℕ)) (library : Files) (code : GraphCode) (path : List ℕ) : Type 0 where
+-- an order of bytes that the library tells and that are no graph
+pub record IsRefused (asked : Option Ordered) (library : Files) (code : GraphCode) (path : List ℕ) : Type 0 where
   pub order : Ordered
-  pub ordered : order_of words ≡ Some order
+  pub ordered : asked ≡ Some order
   pub refused : graph_under library order.graph ≡ Some (Err (refusal code path))
 
-abbrev pub NamesNoGraph : List (List ℕ) → Files → Type 0
-NamesNoGraph words library = (code : GraphCode) × (path : List ℕ) × IsRefused words library code path
+abbrev pub NamesNoGraph : Option Ordered → Files → Type 0
+NamesNoGraph asked library = (code : GraphCode) × (path : List ℕ) × IsRefused asked library code path
 
 -- ---- what a run leaves in the depot
 
 -- the files of n frames were put, and nothing else
-pub record HasPut (words : List (List ℕ)) (library : Files) (n : ℕ) (old new : Files) : Type 0 where
-  pub known : IsAccepted words library
+pub record HasPut (asked : Option Ordered) (library : Files) (n : ℕ) (old new : Files) : Type 0 where
+  pub known : IsAccepted asked library
   pub images : Images
   pub are : AreImages library known.job.wanted images
   pub few : n ≤ count_in known.job
   pub gained : HasGained known.job.graph images (first_in known.job) n old new
 
 -- the same of some frames, but the file of the frame behind them, which has this name, holds anything or is absent
-pub record HasPutBut (words : List (List ℕ)) (library : Files) (file : List ℕ) (old new : Files) : Type 0 where
-  pub known : IsAccepted words library
+pub record HasPutBut (asked : Option Ordered) (library : Files) (file : List ℕ) (old new : Files) : Type 0 where
+  pub known : IsAccepted asked library
   pub images : Images
   pub are : AreImages library known.job.wanted images
   pub n : ℕ
@@ -77,8 +76,8 @@ pub record HasPutBut (words : List (List ℕ)) (library : Files) (file : List �
   pub gained : HasGainedBut known.job.graph images (first_in known.job) n old new
 
 -- the file of every frame was put, and nothing else
-pub record HasPutAll (words : List (List ℕ)) (library : Files) (old new : Files) : Type 0 where
-  pub known : IsAccepted words library
+pub record HasPutAll (asked : Option Ordered) (library : Files) (old new : Files) : Type 0 where
+  pub known : IsAccepted asked library
   pub images : Images
   pub are : AreImages library known.job.wanted images
   pub gained : HasGained known.job.graph images (first_in known.job) (count_in known.job) old new
@@ -86,12 +85,12 @@ pub record HasPutAll (words : List (List ℕ)) (library : Files) (old new : File
 -- ---- what it reports
 
 -- the report tells how many frames were rendered
-abbrev pub HasTold : List (List ℕ) → Files → List ℕ → List ℕ → Type 0
-HasTold words library old new = (job : Job words library) × (new ≡ old ++ report_of (count_in job))
+abbrev pub HasTold : Option Ordered → Files → List ℕ → List ℕ → Type 0
+HasTold asked library old new = (job : Job asked library) × (new ≡ old ++ report_of (count_in job))
 
 -- a front of that report was written
-abbrev pub HasBegunToTell : List (List ℕ) → Files → List ℕ → List ℕ → Type 0
-HasBegunToTell words library old new = (job : Job words library) × AddsPrefix (report_of (count_in job)) old new
+abbrev pub HasBegunToTell : Option Ordered → Files → List ℕ → List ℕ → Type 0
+HasBegunToTell asked library old new = (job : Job asked library) × AddsPrefix (report_of (count_in job)) old new
 
 -- ---- why it ends early
 
@@ -114,24 +113,24 @@ IsToldAs g (seq.Fetch node frame file) name t why = ⊥
 IsToldAs g seq.Memory name t why = ⊥
 
 -- the name is that of the graph, or of a wanted source frame before which none is refused
-abbrev pub IsReadName : List (List ℕ) → Files → List ℕ → Type 0
-IsReadName words library name =
-    ((order : Ordered) × (order_of words ≡ Some order) × (order.graph ≡ name))
-    ⊎ ((job : Job words library) × (w : Wanted) × ComesTo library GRAPH_SIDE MOST_BYTES job.wanted w × (w.name ≡ name))
+abbrev pub IsReadName : Option Ordered → Files → List ℕ → Type 0
+IsReadName asked library name =
+    ((order : Ordered) × (asked ≡ Some order) × (order.graph ≡ name))
+    ⊎ ((job : Job asked library) × (w : Wanted) × ComesTo library GRAPH_SIDE MOST_BYTES job.wanted w × (w.name ≡ name))
 
 -- the cause of a fault, by what the library tells
-abbrev pub Cause : List (List ℕ) → Files → RunFault → Type 0
-Cause words library run.Usage = order_of words ≡ None
-Cause words library (run.Graph code path) = IsRefused words library code path
-Cause words library (run.Frame node t why) =
-    (job : Job words library) × (first : SeqFault) × (frame_refused library job.wanted ≡ Some first)
+abbrev pub Cause : Option Ordered → Files → RunFault → Type 0
+Cause asked library run.Usage = asked ≡ None
+Cause asked library (run.Graph code path) = IsRefused asked library code path
+Cause asked library (run.Frame node t why) =
+    (job : Job asked library) × (first : SeqFault) × (frame_refused library job.wanted ≡ Some first)
     × IsToldAs job.graph first node t why
-Cause words library (run.Read name) = IsReadName words library name
-Cause words library (run.Write name) =
-    (known : IsAccepted words library) × (k : ℕ) × (k < count_in known.job)
+Cause asked library (run.Read name) = IsReadName asked library name
+Cause asked library (run.Write name) =
+    (known : IsAccepted asked library) × (k : ℕ) × (k < count_in known.job)
     × (file_name known.job.graph (first_in known.job + k) ≡ name)
-Cause words library run.Memory = Unit {0}
-Cause words library run.Report = IsAccepted words library
+Cause asked library run.Memory = Unit {0}
+Cause asked library run.Report = IsAccepted asked library
 
 -- What a fault shows of the outside: of the library and the depot the count of faults before and now and the last name
 -- that failed, of the report the count. It rose, and the name is the fault's.
@@ -142,11 +141,11 @@ Rose library depot out run.Report = HasRisen out.0 out.1
 Rose library depot out other = Unit {0}
 
 -- what a fault leaves in the depot
-abbrev pub Leaves : List (List ℕ) → Files → RunFault → Files → Files → Type 0
-Leaves words library (run.Write name) old new = HasPutBut words library name old new
-Leaves words library run.Memory old new = SameFiles old new ⊎ ((n : ℕ) × HasPut words library n old new)
-Leaves words library run.Report old new = HasPutAll words library old new
-Leaves words library other old new = SameFiles old new
+abbrev pub Leaves : Option Ordered → Files → RunFault → Files → Files → Type 0
+Leaves asked library (run.Write name) old new = HasPutBut asked library name old new
+Leaves asked library run.Memory old new = SameFiles old new ⊎ ((n : ℕ) × HasPut asked library n old new)
+Leaves asked library run.Report old new = HasPutAll asked library old new
+Leaves asked library other old new = SameFiles old new
 
 -- a fault of the report leaves a front of a report, and each other fault nothing
 abbrev pub LeavesReport : RunFault → List ℕ → List ℕ → Type 0
@@ -154,9 +153,9 @@ LeavesReport run.Report old new = (n : ℕ) × AddsPrefix (report_of n) old new
 LeavesReport other old new = new ≡ old
 
 -- a front of this run's own report
-abbrev pub LeavesOwnReport : List (List ℕ) → Files → RunFault → List ℕ → List ℕ → Type 0
-LeavesOwnReport words library run.Report old new = HasBegunToTell words library old new
-LeavesOwnReport words library other old new = Unit {0}
+abbrev pub LeavesOwnReport : Option Ordered → Files → RunFault → List ℕ → List ℕ → Type 0
+LeavesOwnReport asked library run.Report old new = HasBegunToTell asked library old new
+LeavesOwnReport asked library other old new = Unit {0}
 
 -- no fetch failed, but at a fault of reading or of memory
 abbrev pub LeavesLibrary : RunFault → ℕ → ℕ → List ℕ → List ℕ → Type 0

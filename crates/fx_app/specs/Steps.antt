@@ -1,5 +1,5 @@
 -- The failures of a run's steps: which fault of the run each is, what it shows of the outside, and what it leaves.
-use Rattle.std.specs.Prelude.{◌≡◌, ℕ, ◌+◌, ◌≤◌, ◌<◌, List, Some, None, Err}
+use Rattle.std.specs.Prelude.{◌≡◌, ℕ, ◌+◌, ◌≤◌, ◌<◌, List, [], length, Option, Some, None, unwrap_or, Err}
 use Rattle.fx_app.specs.declared.graph.TheConstants.{GRAPH_SIDE}
 use Rattle.fx_outside.specs.Outside.{Files, HasRisen, SameFiles, SameBut, AddsPrefix}
 use Rattle.fx_seq.specs.declared.wanted.Wanted.{Wanted}
@@ -22,7 +22,11 @@ use Rattle.fx_app.specs.declared.report.ReportFailure.TheVariants as report
 use Rattle.fx_app.specs.Graphs.{Graph, graph_under}
 use Rattle.fx_app.specs.Files.{AreWantedBy, AreImages, frame_refused, file_name, HasGained, HasGainedBut}
 use Rattle.fx_app.specs.Run.{IsToldAs}
-use Rattle.fx_app.specs.Texts.{report_of}
+use Rattle.fx_app.specs.Bench.{BenchCause}
+use Rattle.fx_app.specs.declared.bench.TheConstants.{MOST_FILE_BYTES}
+use Rattle.fx_base.specs.Pattern.{runs}
+use Rattle.fx_effect.specs.Shape.{IsProject}
+use Rattle.fx_words.specs.Ordered.{Ordered}
 
 -- ---- the fault of the run that each is
 
@@ -65,6 +69,10 @@ pub record HasSources (library : Files) (g : Graph) (a b : ℕ) (images : Images
   pub are : AreWantedBy g a b wanted
   pub accepted : frame_refused library wanted ≡ None
   pub shown : AreImages library wanted images
+
+-- that many frames are wanted from a to b
+abbrev pub WantsAsMany : Graph → ℕ → ℕ → ℕ → Type 0
+WantsAsMany g a b count = (wanted : List Wanted) × AreWantedBy g a b wanted × (count ≡ length wanted)
 
 abbrev pub SourceFetch : (before now : ℕ) (was last : List ℕ) → SourceFailure → Type 0
 SourceFetch before now was last (source.Read name) = HasRisen before now × (last ≡ name)
@@ -123,6 +131,27 @@ abbrev pub ReportRose : ℕ → ℕ → ReportFailure → Type 0
 ReportRose before now report.Report = HasRisen before now
 ReportRose before now report.Memory = Unit {0}
 
-abbrev pub BeginsReport : ℕ → ReportFailure → List ℕ → List ℕ → Type 0
-BeginsReport count report.Report old new = AddsPrefix (report_of count) old new
-BeginsReport count report.Memory old new = new ≡ old
+-- a front of the text was written
+abbrev pub BeginsReport : List ℕ → ReportFailure → List ℕ → List ℕ → Type 0
+BeginsReport text report.Report old new = AddsPrefix text old new
+BeginsReport text report.Memory old new = new ≡ old
+
+-- ---- what a bench makes
+
+-- a fault before the report
+abbrev pub IsMakingFault : Option Ordered → RunFault → Type 0
+IsMakingFault asked run.Usage = ⊥
+IsMakingFault asked run.Report = ⊥
+IsMakingFault asked other = BenchCause asked other
+
+-- the project's sides are in range, and different frames have different files
+pub record HasFiles (g : Graph) : Type 0 where
+  pub extent : IsProject g.project
+  pub one_run : runs g.file ≡ 1
+
+-- the bytes of a name: none where it has no file
+abbrev pub bytes_under : Files → List ℕ → List ℕ
+bytes_under files name = unwrap_or (files name) []
+
+abbrev pub AreShort : Files → Type 0
+AreShort files = (name : List ℕ) → length (bytes_under files name) ≤ MOST_FILE_BYTES

@@ -1,17 +1,16 @@
--- What the words order. A mode other than render is no use of the command yet.
-use Rattle.std.specs.Prelude.{ℕ, List, Option, Some, None, option_and_then}
+-- What the words order, and in which mode.
+use Rattle.std.specs.Prelude.{◌≡◌, ℕ, List, Option, Some, option_map}
 use Rattle.fx_words.specs.Ordered.{Ordered}
 use Rattle.fx_words.specs.Order as command
 use Rattle.fx_words.specs.declared.order.Mode.{Mode}
-use Rattle.fx_words.specs.declared.order.Mode.TheVariants.{Render}
 
-abbrev pub rendered_by : Mode → Ordered → Option Ordered
-rendered_by Render order = Some order
-rendered_by _ order = None
-
-abbrev pub rendered : Ordered → Option Ordered
-rendered order = rendered_by order.mode order
-
--- the render that the words order
+-- what the words order, or None where they are no use of the command
 unfoldable pub order_of : List (List ℕ) → Option Ordered
-order_of words = option_and_then rendered (command.order_of words)
+order_of words = command.order_of words
+
+abbrev pub mode_in : Option Ordered → Option Mode
+mode_in asked = option_map (λ order. order.mode) asked
+
+-- the words are an order in this mode
+abbrev pub Orders : List (List ℕ) → Mode → Type 0
+Orders words mode = mode_in (order_of words) ≡ Some mode

@@ -33,6 +33,14 @@ pub(crate) enum GraphFailure {
     Memory,
 }
 
+impl From<Memory> for GraphFailure {
+    ghost from_gives = { λ _ e. e ≡ OutOfMemory };
+
+    fn from(_: Memory) -> GraphFailure {
+        GraphFailure::Memory
+    }
+}
+
 impl From<GraphFailure> for RunFault {
     ghost from_gives = { λ failure fault. fault ≡ graph_fault failure };
 

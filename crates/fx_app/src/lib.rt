@@ -4,6 +4,7 @@
 //! graph's value.
 #![tactic(auto)]
 
+mod bench;
 mod effects;
 mod frames;
 mod graph;

@@ -8,20 +8,14 @@ ghost use Rattle.fx_app.specs.Graphs.{first_of, last_of, frame_count};
 
 use fx_graph::Graph;
 use fx_shipped::Shipped;
-use fx_words::{Mode, Order, WordFault, read_words};
+use fx_words::{Order, WordFault, read_words};
 use std::alloc::Global;
 
-/// The render that the words order. `Usage` comes where they are no use of the command, and where they ask
-/// for another mode.
+/// What the words order. `Usage` comes where they are no use of the command.
 pub(crate) fn order_of(alloc: Global, words: &[String]) -> Result<Order, WordFault>
     ensures { Reads result (order_of (map string_bytes words.now)) }
 {
-    let order = read_words(alloc, words)?;
-    match order.mode {
-        Mode::Render => Ok(order),
-        Mode::Check => Err(WordFault::Usage),
-        Mode::Bench => Err(WordFault::Usage),
-    }
+    read_words(alloc, words)
 }
 
 /// The first frame that is rendered: that of the graph's range, or a later one that is ordered.

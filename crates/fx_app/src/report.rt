@@ -1,11 +1,12 @@
 //! The report of a run.
 ghost use Rattle.std.specs.Prelude.{◌≡◌, ◌++◌, IfOk, IfErr, OnOk, string_bytes};
+ghost use Rattle.fx_words.specs.Texts.{report_text};
 ghost use Rattle.fx_app.specs.Texts.{report_of};
 ghost use Rattle.fx_app.specs.Steps.{report_fault, BeginsReport, ReportRose};
 
 use fx_base::Memory;
 use fx_outside::{PutFault, Sink};
-use fx_words::RunFault;
+use fx_words::{Report, RunFault, report_text};
 use std::alloc::Global;
 
 /// Why the report was not written.
@@ -45,11 +46,35 @@ pub(crate) fn report_frames<O: Sink>(
     frames: u64,
 ) -> Result<(), ReportFailure>
     ensures ok { O.tells → OnOk result (O.written out.new ≡ O.written out.old ++ report_of frames) }
-    ensures leaves { O.tells → IfErr result (λ e. BeginsReport frames e (O.written out.old) (O.written out.new)) }
+    ensures leaves { let text = report_of frames in
+        O.tells → IfErr result (λ e. BeginsReport text e (O.written out.old) (O.written out.new)) }
     ensures rose { IfErr result (λ e. ReportRose (O.faults out.old) (O.faults out.new) e) }
 {
     let text = report_of(alloc, frames)?;
-    match out.write(alloc, text.as_bytes()) {
+    written(alloc, out, text.as_bytes())
+}
+
+/// Writes a report's lines, in one write.
+pub(crate) fn report_lines<O: Sink>(
+    alloc: Global,
+    out: &mut O,
+    report: &Report,
+) -> Result<(), ReportFailure>
+    ensures ok { O.tells → OnOk result (O.written out.new ≡ O.written out.old ++ report_text report.now) }
+    ensures leaves { let text = report_text report.now in
+        O.tells → IfErr result (λ e. BeginsReport text e (O.written out.old) (O.written out.new)) }
+    ensures rose { IfErr result (λ e. ReportRose (O.faults out.old) (O.faults out.new) e) }
+{
+    let text = lines_of(alloc, report)?;
+    written(alloc, out, &text)
+}
+
+fn written<O: Sink>(alloc: Global, out: &mut O, text: &[u8]) -> Result<(), ReportFailure>
+    ensures ok { O.tells → OnOk result (O.written out.new ≡ O.written out.old ++ text.now) }
+    ensures leaves { O.tells → IfErr result (λ e. BeginsReport text.now e (O.written out.old) (O.written out.new)) }
+    ensures rose { IfErr result (λ e. ReportRose (O.faults out.old) (O.faults out.new) e) }
+{
+    match out.write(alloc, text) {
         Ok(()) => Ok(()),
         Err(PutFault::Failed) => Err(ReportFailure::Report),
         Err(PutFault::Memory) => Err(ReportFailure::Memory),
@@ -60,4 +85,12 @@ fn report_of(alloc: Global, frames: u64) -> Result<String, Memory>
     ensures { IfOk result (λ text. string_bytes text ≡ report_of frames) }
 {
     Ok(format!(in alloc; "frames {frames}\n")?)
+}
+
+fn lines_of(alloc: Global, report: &Report) -> Result<Vec<u8>, Memory>
+    ensures { IfOk result (λ text. text.items ≡ report_text report.now) }
+{
+    let mut text = Vec::new(alloc);
+    report_text(alloc, report, &mut text)?;
+    Ok(text)
 }

@@ -7,6 +7,8 @@ ghost use Rattle.fx_scene.specs.Scenes.{graph_shown, images_in};
 ghost use Rattle.fx_app.specs.Graphs.{name_at};
 ghost use Rattle.fx_app.specs.Run.{frame_fault};
 ghost use Rattle.fx_app.specs.Steps.{source_fault, HasSources, SourceCause, SourceFetch, IsSourceFailure};
+ghost use Rattle.fx_app.specs.Steps.{WantsAsMany};
+ghost use Rattle.fx_app.specs.declared.sources.SourceFailure.TheVariants.{Memory as OutOfMemory};
 
 use crate::graph::GRAPH_SIDE;
 use fx_base::{Memory, Name};
@@ -80,6 +82,21 @@ pub(crate) fn sources_of<L: Library>(
         Ok(store) => Ok(store),
         Err(fault) => Err(source_failure(alloc, graph, fault)),
     }
+}
+
+/// How many source frames the frames from `first` to `last` want.
+pub(crate) fn count_wanted(
+    alloc: Global,
+    graph: &Graph<Shipped>,
+    first: u32,
+    last: u32,
+) -> Result<u64, SourceFailure>
+    requires { last ≤ LAST_FRAME }
+    ensures ok { let g = graph_shown graph.now in IfOk result (λ count. WantsAsMany g first last count) }
+    ensures err { IfErr result (λ e. e ≡ OutOfMemory) }
+{
+    let wanted = wants(alloc, graph, first, last)?;
+    Ok(wanted.len() as u64)
 }
 
 // Tells of a node by its name.

@@ -1,32 +1,41 @@
 //! The top call, as a list of steps: words, graph, source frames, frame by frame rendering and put, report.
-ghost use Rattle.std.specs.Prelude.{◌≡◌, ◌≢◌, ◌⊎◌, Some, None, IsTrue, map, string_bytes, IfOk, IfErr, OnOk};
+ghost use Rattle.std.specs.Prelude.{◌≡◌, ◌≢◌, ◌⊎◌, ℕ, List, Some, None, IsTrue, map, string_bytes, IfOk, IfErr, OnOk};
 ghost use Rattle.fx_outside.specs.Outside.{HasRisen, AddsPrefix};
 ghost use Rattle.fx_seq.specs.Filling.{IsQuiet};
-ghost use Rattle.fx_words.specs.Texts.{fault_text};
+ghost use Rattle.fx_words.specs.Order.{is_bench_number};
+ghost use Rattle.fx_words.specs.Ordered.{Ordered};
+ghost use Rattle.fx_words.specs.Texts.{fault_text, report_text};
+ghost use Rattle.fx_words.specs.declared.order.Mode.TheVariants.{Render, Check, Bench};
 ghost use Rattle.fx_words.specs.declared.fault.RunFault.{RunFault};
 ghost use Rattle.fx_words.specs.declared.fault.RunFault.TheVariants.{Memory as OutOfMemory, Usage as OtherWords};
-ghost use Rattle.fx_app.specs.Words.{order_of};
+ghost use Rattle.fx_app.specs.Words.{order_of, mode_in, Orders};
 ghost use Rattle.fx_app.specs.Texts.{status_of, GainsLine};
-ghost use Rattle.fx_app.specs.Run.{is_status, IsAccepted, NamesNoGraph, HasPutAll, HasTold};
+ghost use Rattle.fx_app.specs.Run.{is_status, Job, IsAccepted, NamesNoGraph, HasPutAll, HasTold};
 ghost use Rattle.fx_app.specs.Run.{Cause, Rose, Leaves, LeavesReport, LeavesOwnReport, LeavesLibrary, LeavesDepot};
+ghost use Rattle.fx_app.specs.Check.{HasChecked, CheckCause, LeavesCheckReport};
+ghost use Rattle.fx_app.specs.Bench.{made_of, made_for, IsBenchReport, HasBenched, BenchCause, LeavesBenchReport};
+ghost use Rattle.fx_app.specs.Modes.{CauseIn, LeavesIn, LeavesReportIn};
+ghost use Rattle.fx_app.specs.Steps.{IsMakingFault};
 
+use crate::bench::{file_names, made_of, totals_of};
 use crate::frames::put_frames;
 use crate::graph::graph_of;
 use crate::order::{first_of, frame_count, last_of, order_of};
-use crate::report::report_frames;
-use crate::sources::sources_of;
+use crate::report::{report_frames, report_lines};
+use crate::sources::{count_wanted, sources_of};
 use crate::tell::tell;
-use fx_outside::{Depot, Library, Pace, Sink};
-use fx_words::{Order, RunFault, WordFault};
+use fx_outside::{Depot, Library, Pace, Sink, SureDepot};
+use fx_words::{Mode, Order, Report, RunFault, WordFault};
 use std::alloc::Global;
 use std::sync::Wait;
 use std::thread::Threads;
 
-/// Renders the frames of a graph, as the words order. The answer is the exit status of the program: 0 done, 1
-/// words that are no use of the command, or ask for another mode than render, 2 a graph that is refused, 3 a
-/// source frame that is refused, 4 a fetch that failed, 5 a put that failed, 6 want of memory, 7 a report that
-/// could not be written. Each other than 0 writes its line on `err`. The options on tiles, their cache and the
-/// workers have no effect yet.
+/// Does what the words order: it renders the frames of a graph and puts their files, checks a graph, or renders in
+/// memory what is made of a number. The answer is the exit status of the program: 0 done, 1 words that are no use
+/// of the command, 2 a graph that is refused, 3 a source frame that is refused, 4 a fetch that failed, 5 a put that
+/// failed, 6 want of memory, 7 a report that could not be written. Each other than 0 writes its line on `err`. A
+/// check fetches the graph alone and puts nothing, and a bench does neither. The options on tiles, their cache and
+/// the workers have no effect yet.
 pub fn run<R: Threads + Wait + Sync, L: Library, D: Depot, O: Sink, F: Sink, P: Pace>(
     _rt: &R,
     alloc: Global,
@@ -37,33 +46,64 @@ pub fn run<R: Threads + Wait + Sync, L: Library, D: Depot, O: Sink, F: Sink, P: 
     err: &mut F,
     _pace: &P,
 ) -> u8
-    // At status 0 the run was accepted; the depot has gained the file of each frame's picture, and nothing else; the
-    // report was written, and no line.
-    ensures accepted { L.tells → result ≡ 0 → IsAccepted (map string_bytes words.now) (L.file library.old) }
-    ensures frames { L.tells → D.tells → result ≡ 0
-        → HasPutAll (map string_bytes words.now) (L.file library.old) (D.file depot.old) (D.file depot.new) }
-    ensures reports { L.tells → O.tells → result ≡ 0
-        → HasTold (map string_bytes words.now) (L.file library.old) (O.written out.old) (O.written out.new) }
-    ensures silent { result ≡ 0 → F.written err.new ≡ F.written err.old }
-    // Where the run is accepted, and no count of faults rose, the status is 0 or want of memory.
-    ensures completes { L.tells → IsAccepted (map string_bytes words.now) (L.file library.old)
+    // A render at status 0 was accepted; the depot has gained the file of each frame's picture, and nothing else; the
+    // report was written.
+    ensures accepted { Orders (map string_bytes words.now) Render → L.tells → result ≡ 0
+        → IsAccepted (order_of (map string_bytes words.now)) (L.file library.old) }
+    ensures frames { Orders (map string_bytes words.now) Render → L.tells → D.tells → result ≡ 0
+        → HasPutAll (order_of (map string_bytes words.now)) (L.file library.old) (D.file depot.old) (D.file depot.new) }
+    ensures reports { Orders (map string_bytes words.now) Render → L.tells → O.tells → result ≡ 0
+        → HasTold (order_of (map string_bytes words.now)) (L.file library.old) (O.written out.old) (O.written out.new) }
+    // Where it is accepted, and no count of faults rose, the status is 0 or want of memory.
+    ensures completes { Orders (map string_bytes words.now) Render → L.tells
+        → IsAccepted (order_of (map string_bytes words.now)) (L.file library.old)
         → (HasRisen (L.faults library.old) (L.faults library.new) → ⊥)
         → (HasRisen (D.faults depot.old) (D.faults depot.new) → ⊥)
         → (HasRisen (O.faults out.old) (O.faults out.new) → ⊥)
         → (result ≡ 0) ⊎ (result ≡ 6) }
 
+    // A check at status 0 has accepted the graph, and its report was written. It leaves the depot as it was, refuses no
+    // source frame, and reads nothing but the graph.
+    ensures checked { Orders (map string_bytes words.now) Check → L.tells → result ≡ 0
+        → Job (order_of (map string_bytes words.now)) (L.file library.old) }
+    ensures check_reports { Orders (map string_bytes words.now) Check → L.tells → O.tells → result ≡ 0
+        → HasChecked (order_of (map string_bytes words.now)) (L.file library.old) (O.written out.old) (O.written out.new) }
+    ensures check_keeps { Orders (map string_bytes words.now) Check → depot.new ≡ depot.old }
+    ensures check_statuses { Orders (map string_bytes words.now) Check → (result ≢ 3) × (result ≢ 5) }
+    ensures check_reads { Orders (map string_bytes words.now) Check → result ≡ 4 → (order : Ordered)
+        × (order_of (map string_bytes words.now) ≡ Some order) × (L.last library.new ≡ order.graph) }
+    ensures check_completes { Orders (map string_bytes words.now) Check → L.tells
+        → Job (order_of (map string_bytes words.now)) (L.file library.old)
+        → (HasRisen (L.faults library.old) (L.faults library.new) → ⊥)
+        → (HasRisen (O.faults out.old) (O.faults out.new) → ⊥)
+        → (result ≡ 0) ⊎ (result ≡ 6) }
+
+    // A bench at status 0 has rendered what is made of the number, and its report was written. It leaves library and
+    // depot as they were.
+    ensures benched { Orders (map string_bytes words.now) Bench → result ≡ 0
+        → IsAccepted (order_of (map string_bytes words.now)) (made_for (order_of (map string_bytes words.now))) }
+    ensures bench_reports { Orders (map string_bytes words.now) Bench → O.tells → result ≡ 0
+        → HasBenched (order_of (map string_bytes words.now)) (O.written out.old) (O.written out.new) }
+    ensures bench_keeps { Orders (map string_bytes words.now) Bench
+        → (library.new ≡ library.old) × (depot.new ≡ depot.old) }
+    ensures bench_statuses { Orders (map string_bytes words.now) Bench → (result ≢ 4) × (result ≢ 5) }
+    ensures bench_completes { Orders (map string_bytes words.now) Bench
+        → IsAccepted (order_of (map string_bytes words.now)) (made_for (order_of (map string_bytes words.now)))
+        → (HasRisen (O.faults out.old) (O.faults out.new) → ⊥)
+        → (result ≡ 0) ⊎ (result ≡ 6) }
+
     // Each other status has a fault, which the outside shows, which has its cause, leaves what it leaves, and is told
     // on `err`.
-    ensures ends { result ≢ 0 → (fault : RunFault)
+    ensures silent { result ≡ 0 → F.written err.new ≡ F.written err.old }
+    ensures ends { let asked = order_of (map string_bytes words.now) in result ≢ 0 → (fault : RunFault)
         × ((result ≡ status_of fault) ⊎ (result ≡ 6))
         × Rose (L.faults library.old, L.faults library.new, L.last library.new)
         (D.faults depot.old, D.faults depot.new, D.last depot.new) (O.faults out.old, O.faults out.new) fault
-        × (L.tells → Cause (map string_bytes words.now) (L.file library.old) fault)
+        × CauseIn (mode_in asked) L.tells asked (L.file library.old) fault
         × (L.tells → D.tells
-        → Leaves (map string_bytes words.now) (L.file library.old) fault (D.file depot.old) (D.file depot.new))
-        × (O.tells → LeavesReport fault (O.written out.old) (O.written out.new))
-        × (L.tells → O.tells
-        → LeavesOwnReport (map string_bytes words.now) (L.file library.old) fault (O.written out.old) (O.written out.new))
+        → LeavesIn (mode_in asked) asked (L.file library.old) fault (D.file depot.old) (D.file depot.new))
+        × (O.tells → LeavesReportIn (mode_in asked) L.tells asked (L.file library.old) fault
+        (O.written out.old) (O.written out.new))
         × (F.tells → result ≢ 6
         → GainsLine (fault_text fault) (F.written err.old) (F.written err.new) (F.faults err.old) (F.faults err.new)) }
     ensures memory_line { F.tells → result ≡ 6
@@ -78,7 +118,8 @@ pub fn run<R: Threads + Wait + Sync, L: Library, D: Depot, O: Sink, F: Sink, P: 
     ensures causes_write { result ≡ 5 → HasRisen (D.faults depot.old) (D.faults depot.new) }
     ensures causes_report { result ≡ 7 → HasRisen (O.faults out.old) (O.faults out.new) }
     ensures refuses_words { order_of (map string_bytes words.now) ≡ None → (result ≡ 1) ⊎ (result ≡ 6) }
-    ensures refuses_graph { L.tells → NamesNoGraph (map string_bytes words.now) (L.file library.old)
+    ensures refuses_graph { (Orders (map string_bytes words.now) Bench → ⊥) → L.tells
+        → NamesNoGraph (order_of (map string_bytes words.now)) (L.file library.old)
         → (HasRisen (L.faults library.old) (L.faults library.new) → ⊥) → (result ≡ 2) ⊎ (result ≡ 6) }
     ensures statuses { IsTrue (is_status result) }
 {
@@ -88,7 +129,7 @@ pub fn run<R: Threads + Wait + Sync, L: Library, D: Depot, O: Sink, F: Sink, P: 
     }
 }
 
-// The steps, up to the first that fails.
+// The steps of what the words order, up to the first that fails.
 fn outcome<L: Library, D: Depot, O: Sink>(
     alloc: Global,
     words: &[String],
@@ -96,11 +137,27 @@ fn outcome<L: Library, D: Depot, O: Sink>(
     depot: &mut D,
     out: &mut O,
 ) -> Result<(), RunFault>
-    ensures accepted { L.tells → OnOk result (IsAccepted (map string_bytes words.now) (L.file library.old)) }
-    ensures done { L.tells → D.tells
-        → OnOk result (HasPutAll (map string_bytes words.now) (L.file library.old) (D.file depot.old) (D.file depot.new)) }
-    ensures told { L.tells → O.tells
-        → OnOk result (HasTold (map string_bytes words.now) (L.file library.old) (O.written out.old) (O.written out.new)) }
+    ensures accepted { Orders (map string_bytes words.now) Render → L.tells
+        → OnOk result (IsAccepted (order_of (map string_bytes words.now)) (L.file library.old)) }
+    ensures done { let asked = order_of (map string_bytes words.now) in
+        Orders (map string_bytes words.now) Render → L.tells → D.tells
+        → OnOk result (HasPutAll asked (L.file library.old) (D.file depot.old) (D.file depot.new)) }
+    ensures told { let asked = order_of (map string_bytes words.now) in
+        Orders (map string_bytes words.now) Render → L.tells → O.tells
+        → OnOk result (HasTold asked (L.file library.old) (O.written out.old) (O.written out.new)) }
+    ensures checked { Orders (map string_bytes words.now) Check → L.tells
+        → OnOk result (Job (order_of (map string_bytes words.now)) (L.file library.old)) }
+    ensures check_told { let asked = order_of (map string_bytes words.now) in
+        Orders (map string_bytes words.now) Check → L.tells → O.tells
+        → OnOk result (HasChecked asked (L.file library.old) (O.written out.old) (O.written out.new)) }
+    ensures check_keeps { Orders (map string_bytes words.now) Check → depot.new ≡ depot.old }
+    ensures benched { let asked = order_of (map string_bytes words.now) in
+        Orders (map string_bytes words.now) Bench → OnOk result (IsAccepted asked (made_for asked)) }
+    ensures bench_told { let asked = order_of (map string_bytes words.now) in
+        Orders (map string_bytes words.now) Bench → O.tells
+        → OnOk result (HasBenched asked (O.written out.old) (O.written out.new)) }
+    ensures bench_keeps { Orders (map string_bytes words.now) Bench
+        → (library.new ≡ library.old) × (depot.new ≡ depot.old) }
     ensures quiet_library { OnOk result
         (IsQuiet (L.faults library.old) (L.faults library.new) (L.last library.old) (L.last library.new)) }
     ensures quiet_depot { OnOk result
@@ -108,13 +165,14 @@ fn outcome<L: Library, D: Depot, O: Sink>(
     ensures rose { IfErr result
         (λ e. Rose (L.faults library.old, L.faults library.new, L.last library.new)
         (D.faults depot.old, D.faults depot.new, D.last depot.new) (O.faults out.old, O.faults out.new) e) }
-    ensures cause { L.tells → IfErr result (λ e. Cause (map string_bytes words.now) (L.file library.old) e) }
-    ensures leaves { L.tells → D.tells
-        → IfErr result (λ e. Leaves (map string_bytes words.now) (L.file library.old) e (D.file depot.old) (D.file depot.new)) }
-    ensures report { O.tells → IfErr result (λ e. LeavesReport e (O.written out.old) (O.written out.new)) }
-    ensures own_report { L.tells → O.tells
+    ensures cause { let asked = order_of (map string_bytes words.now) in
+        IfErr result (λ e. CauseIn (mode_in asked) L.tells asked (L.file library.old) e) }
+    ensures leaves { let asked = order_of (map string_bytes words.now) in L.tells → D.tells
         → IfErr result
-        (λ e. LeavesOwnReport (map string_bytes words.now) (L.file library.old) e (O.written out.old) (O.written out.new)) }
+        (λ e. LeavesIn (mode_in asked) asked (L.file library.old) e (D.file depot.old) (D.file depot.new)) }
+    ensures report { let asked = order_of (map string_bytes words.now) in O.tells
+        → IfErr result (λ e. LeavesReportIn (mode_in asked) L.tells asked (L.file library.old) e
+        (O.written out.old) (O.written out.new)) }
     ensures library { let last = L.last library.new in
         IfErr result (λ e. LeavesLibrary e (L.faults library.old) (L.faults library.new) (L.last library.old) last) }
     ensures depot { let last = D.last depot.new in
@@ -124,16 +182,14 @@ fn outcome<L: Library, D: Depot, O: Sink>(
         → IfErr result (λ e. (e ≡ OtherWords) ⊎ (e ≡ OutOfMemory)) × OnOk result ⊥ }
 {
     let order = ordered(alloc, words)?;
-    let graph = graph_of(alloc, &order.graph, library)?;
-    let first = first_of(&graph, &order);
-    let last = last_of(&graph, &order);
-    let store = sources_of(alloc, &graph, first, last, library)?;
-    put_frames(alloc, graph, store, first, last, depot)?;
-    report_frames(alloc, out, frame_count(first, last))?;
-    Ok(())
+    match order.mode {
+        Mode::Render => render(alloc, &order, library, depot, out),
+        Mode::Check => check(alloc, &order, library, out),
+        Mode::Bench => bench(alloc, &order, out),
+    }
 }
 
-// The render that the words order.
+// What the words order.
 fn ordered(alloc: Global, words: &[String]) -> Result<Order, RunFault>
     ensures ok { IfOk result (λ order. order_of (map string_bytes words.now) ≡ Some order) }
     ensures err { IfErr result
@@ -144,4 +200,120 @@ fn ordered(alloc: Global, words: &[String]) -> Result<Order, RunFault>
         Err(WordFault::Usage) => Err(RunFault::Usage),
         Err(WordFault::Memory) => Err(RunFault::Memory),
     }
+}
+
+// Renders the graph's frames and puts them.
+fn render<L: Library, D: Depot, O: Sink>(
+    alloc: Global,
+    order: &Order,
+    library: &mut L,
+    depot: &mut D,
+    out: &mut O,
+) -> Result<(), RunFault>
+    ensures accepted { L.tells → OnOk result (IsAccepted (Some order.now) (L.file library.old)) }
+    ensures done { L.tells → D.tells
+        → OnOk result (HasPutAll (Some order.now) (L.file library.old) (D.file depot.old) (D.file depot.new)) }
+    ensures told { L.tells → O.tells
+        → OnOk result (HasTold (Some order.now) (L.file library.old) (O.written out.old) (O.written out.new)) }
+    ensures quiet_library { OnOk result
+        (IsQuiet (L.faults library.old) (L.faults library.new) (L.last library.old) (L.last library.new)) }
+    ensures quiet_depot { OnOk result
+        (IsQuiet (D.faults depot.old) (D.faults depot.new) (D.last depot.old) (D.last depot.new)) }
+    ensures rose { IfErr result
+        (λ e. Rose (L.faults library.old, L.faults library.new, L.last library.new)
+        (D.faults depot.old, D.faults depot.new, D.last depot.new) (O.faults out.old, O.faults out.new) e) }
+    ensures cause { L.tells → IfErr result (λ e. Cause (Some order.now) (L.file library.old) e) }
+    ensures leaves { L.tells → D.tells
+        → IfErr result (λ e. Leaves (Some order.now) (L.file library.old) e (D.file depot.old) (D.file depot.new)) }
+    ensures report { O.tells → IfErr result (λ e. LeavesReport e (O.written out.old) (O.written out.new)) }
+    ensures own_report { L.tells → O.tells
+        → IfErr result
+        (λ e. LeavesOwnReport (Some order.now) (L.file library.old) e (O.written out.old) (O.written out.new)) }
+    ensures library { let last = L.last library.new in
+        IfErr result (λ e. LeavesLibrary e (L.faults library.old) (L.faults library.new) (L.last library.old) last) }
+    ensures depot { let last = D.last depot.new in
+        IfErr result (λ e. LeavesDepot e (D.faults depot.old) (D.faults depot.new) (D.last depot.old) last) }
+    ensures words { IfErr result (λ e. e ≢ OtherWords) }
+{
+    let graph = graph_of(alloc, &order.graph, library)?;
+    let first = first_of(&graph, order);
+    let last = last_of(&graph, order);
+    let store = sources_of(alloc, &graph, first, last, library)?;
+    put_frames(alloc, graph, store, first, last, depot)?;
+    report_frames(alloc, out, frame_count(first, last))?;
+    Ok(())
+}
+
+// Accepts the graph, and reports what a render of it takes.
+fn check<L: Library, O: Sink>(
+    alloc: Global,
+    order: &Order,
+    library: &mut L,
+    out: &mut O,
+) -> Result<(), RunFault>
+    ensures checked { L.tells → OnOk result (Job (Some order.now) (L.file library.old)) }
+    ensures told { L.tells → O.tells
+        → OnOk result (HasChecked (Some order.now) (L.file library.old) (O.written out.old) (O.written out.new)) }
+    ensures quiet { OnOk result
+        (IsQuiet (L.faults library.old) (L.faults library.new) (L.last library.old) (L.last library.new)) }
+    ensures rose { (depot : ℕ × ℕ × List ℕ) → IfErr result
+        (λ e. Rose (L.faults library.old, L.faults library.new, L.last library.new) depot
+        (O.faults out.old, O.faults out.new) e) }
+    ensures cause { IfErr result (λ e. CheckCause L.tells (Some order.now) (L.file library.old) e) }
+    ensures report { O.tells
+        → IfErr result (λ e. LeavesCheckReport L.tells (Some order.now) (L.file library.old) e
+        (O.written out.old) (O.written out.new)) }
+    ensures library { let last = L.last library.new in
+        IfErr result (λ e. LeavesLibrary e (L.faults library.old) (L.faults library.new) (L.last library.old) last) }
+    ensures words { IfErr result (λ e. e ≢ OtherWords) }
+{
+    let graph = graph_of(alloc, &order.graph, library)?;
+    let first = first_of(&graph, order);
+    let last = last_of(&graph, order);
+    let report = Report::Check {
+        nodes: graph.nodes.len() as u64,
+        frames: frame_count(first, last),
+        wanted: count_wanted(alloc, &graph, first, last)?,
+    };
+    report_lines(alloc, out, &report)?;
+    Ok(())
+}
+
+// Renders what is made of a number, in memory, and reports what was put.
+fn bench<O: Sink>(alloc: Global, order: &Order, out: &mut O) -> Result<(), RunFault>
+    requires { IsTrue (is_bench_number order.now.graph) }
+    ensures benched { OnOk result (IsAccepted (Some order.now) (made_of order.now.graph)) }
+    ensures told { O.tells → OnOk result (HasBenched (Some order.now) (O.written out.old) (O.written out.new)) }
+    ensures rose { (library depot : ℕ × ℕ × List ℕ) → IfErr result
+        (λ e. Rose library depot (O.faults out.old, O.faults out.new) e) }
+    ensures cause { IfErr result (λ e. BenchCause (Some order.now) e) }
+    ensures report { O.tells
+        → IfErr result (λ e. LeavesBenchReport (Some order.now) e (O.written out.old) (O.written out.new)) }
+    ensures words { IfErr result (λ e. e ≢ OtherWords) }
+{
+    let report = bench_report(alloc, order)?;
+    report_lines(alloc, out, &report)?;
+    Ok(())
+}
+
+// What a bench reports. The graph that is made is rendered as every other.
+fn bench_report(alloc: Global, order: &Order) -> Result<Report, RunFault>
+    requires { IsTrue (is_bench_number order.now.graph) }
+    ensures ok { IfOk result (λ report. IsBenchReport (Some order.now) (report_text report)) }
+    ensures cause { IfErr result (λ e. IsMakingFault (Some order.now) e) }
+{
+    let mut library = made_of(alloc, &order.graph)?;
+    let mut depot = SureDepot::new(alloc);
+    let graph = graph_of(alloc, &order.graph, &mut library)?;
+    let first = first_of(&graph, order);
+    let last = last_of(&graph, order);
+    let names = file_names(alloc, &graph, first, last)?;
+    let store = sources_of(alloc, &graph, first, last, &mut library)?;
+    put_frames(alloc, graph, store, first, last, &mut depot)?;
+    let totals = totals_of(&names, &depot);
+    Ok(Report::Bench {
+        frames: frame_count(first, last),
+        size: totals.size,
+        sum: totals.sum,
+    })
 }

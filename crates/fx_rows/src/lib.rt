@@ -27,6 +27,8 @@ mod lives;
 #[cfg(test)]
 mod mixes;
 #[cfg(test)]
+mod modes;
+#[cfg(test)]
 mod moves;
 #[cfg(test)]
 mod outcome;
