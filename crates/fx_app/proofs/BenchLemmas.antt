@@ -1,5 +1,5 @@
 -- What a bench has put, file by file.
-use Rattle.std.proofs.Common.{◌≡◌, ◌≤◌, ◌<◌, ◌≤ℤ◌, ◌+◌, ◌^◌, ℕ, zero, suc, ℤ, pos, Bool, true, false, List, [], ◌∷◌, ◌++◌, length, map, Option, Some, None, if◌then◌else◌, refl, sym, ap, subst, ◌∙◌, arith}
+use Rattle.std.proofs.Common.{◌≡◌, ◌≤◌, ◌<◌, ◌≤ℤ◌, ◌+◌, ◌^◌, ℕ, zero, suc, ℤ, pos, Bool, true, false, List, [], ◌∷◌, ◌++◌, length, sum, map, inl, inr, Ok, Err, Option, Some, None, if◌then◌else◌, refl, sym, ap, subst, ◌∙◌, arith}
 use mathlib.Core.Path.{fun_ext}
 use Rattle.std.specs.Prelude.{unwrap_or}
 use Rattle.std.specs.List.{flat_map, range_with_len}
@@ -12,14 +12,20 @@ use Rattle.fx_base.specs.Bounds.{Bounds}
 use Rattle.fx_base.specs.Pattern.{runs, name_of}
 use Rattle.fx_base.specs.Rect.{columns, rows}
 use Rattle.fx_base.proofs.PatternLaws.{name_of-apart}
-use Rattle.fx_outside.specs.Outside.{Files, SameFiles}
+use Rattle.fx_outside.specs.Outside.{Files, HasRisen, SameFiles}
 use Rattle.fx_effect.specs.Shape.{IsProject}
 use Rattle.fx_scene.specs.Scenes.{Images, picture}
 use Rattle.fx_shipped.specs.Shipped.{meaning_of}
-use Rattle.fx_app.specs.Graphs.{Graph}
+use Rattle.fx_app.specs.Graphs.{Graph, graph_under, first_of, last_of, frame_count}
 use Rattle.fx_app.specs.Files.{HasGained, file_name, file_text, with_frames}
-use Rattle.fx_app.specs.Bench.{bytes_of}
-use Rattle.fx_app.specs.Steps.{HasFiles, bytes_under, AreShort}
+use Rattle.fx_graph.specs.Refusal.{refusal}
+use Rattle.fx_words.specs.Ordered.{Ordered}
+use Rattle.fx_words.specs.Texts.{bench_text}
+use Rattle.fx_app.specs.declared.graph.GraphFailure.{GraphFailure}
+use Rattle.fx_app.specs.declared.graph.GraphFailure.TheVariants as graph
+use Rattle.fx_app.specs.Bench.{bytes_of, made_of, IsBenchReport}
+use Rattle.fx_app.specs.Steps.{graph_fault, GraphCause, GraphFetch, HasSources, HasFiles, IsMakingFault, bytes_under, AreShort}
+use Rattle.fx_app.proofs.StepsLemmas.{accepted_of, both}
 use Rattle.fx_app.proofs.LengthLemmas.{short_text}
 
 abbrev no_files : Files
@@ -99,3 +105,45 @@ module _ (g : Graph) (images : Images) (a n : ℕ) (old new : Files) (has : HasF
       behind (bytes_under new) (file_name g) (file_text g images) a n
       (λ j below. ap (λ o. unwrap_or o []) (gained (file_name g (a + j))
       ∙ found g images a n j old (λ k m small_k small_m same. name_of-apart g.file k m has.one_run small_k small_m same) (omega (arith, low)) below))
+
+-- ---- the report
+
+pub bench_graph : (order : Ordered) (library : Files) (e : GraphFailure) → library ≡ made_of order.graph
+    → GraphCause library order.graph e → GraphFetch order.graph 0 0 [] [] e → IsMakingFault (Some order) (graph_fault e)
+bench_graph order library (graph.Read name) made cause fetch = never fetch.0
+  where
+    never : HasRisen 0 0 → ⊥
+    never (inl low) = omega (arith, low)
+    never (inr high) = omega (arith, high)
+bench_graph order library (graph.Refused code path) made cause fetch =
+    record {
+      order = order;
+      ordered = refl;
+      refused = subst (λ (f : Files). graph_under f order.graph ≡ Some (Err (refusal code path))) made cause;
+    }
+bench_graph order library graph.Memory made cause fetch = tt
+
+pub bench_is : (order : Ordered) (library : Files) (g : Graph) (images : Images) (a b frames size total : ℕ) → library ≡ made_of order.graph
+    → graph_under library order.graph ≡ Some (Ok g) → (first : a ≡ first_of g order) → (last : b ≡ last_of g order)
+    → HasSources library g a b images → frames ≡ frame_count a b → size ≡ length (bytes_of g images a (frame_count a b))
+    → total ≡ sum (bytes_of g images a (frame_count a b)) → IsBenchReport (Some order) (bench_text frames size total)
+bench_is order library g images a b frames size total made there first last sources many long adds =
+    subst (λ (f : Files). graph_under f order.graph ≡ Some (Ok g) → HasSources f g a b images → IsBenchReport (Some order) (bench_text frames size total))
+    (sym made) is there sources
+  where
+    is : graph_under (made_of order.graph) order.graph ≡ Some (Ok g) → HasSources (made_of order.graph) g a b images
+        → IsBenchReport (Some order) (bench_text frames size total)
+    is at have =
+        let m = first_of g order in
+        let n = last_of g order in
+        let same : bytes_of g images a (frame_count a b) ≡ bytes_of g images m (frame_count m n) =
+        both (λ x y. bytes_of g images a (frame_count a b) ≡ bytes_of g images x (frame_count x y)) a b m n first last refl in
+        record {
+          known = accepted_of (Some order) (made_of order.graph) order g a b images refl at first last have;
+          images = images;
+          are = have.shown;
+          told =
+              ap (λ k. bench_text k size total) (many ∙ both (λ x y. frame_count a b ≡ frame_count x y) a b m n first last refl)
+              ∙ ap (λ k. bench_text (frame_count m n) k total) (long ∙ ap length same)
+              ∙ ap (λ k. bench_text (frame_count m n) (length (bytes_of g images m (frame_count m n))) k) (adds ∙ ap sum same);
+        }

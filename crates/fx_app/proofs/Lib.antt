@@ -1,4 +1,9 @@
-
+pub mod WordLemmas
+pub mod GraphLemmas
+pub mod EffectLemmas
+pub mod WantedLemmas
+pub mod FilesLemmas
+pub mod StepsLemmas
 pub mod MadeLemmas
 pub mod LengthLemmas
 pub mod BenchLemmas

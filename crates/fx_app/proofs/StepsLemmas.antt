@@ -39,56 +39,6 @@ no_call a x = record { count = refl; last_one = refl }
 pub untouched : (files : Files) → SameFiles files files
 untouched files name = refl
 
--- ---- the asked
-
-pub words_rose : (library depot : ℕ × ℕ × List ℕ) (out : ℕ × ℕ) (asked : Option Ordered) (e : RunFault)
-    → ((e ≡ run.Usage) × (asked ≡ None)) ⊎ (e ≡ run.Memory) → Rose library depot out e
-words_rose library depot out asked e (inl h) = subst (Rose library depot out) (sym h.0) tt
-words_rose library depot out asked e (inr h) = subst (Rose library depot out) (sym h) tt
-
-pub words_cause : (asked : Option Ordered) (library : Files) (e : RunFault)
-    → ((e ≡ run.Usage) × (asked ≡ None)) ⊎ (e ≡ run.Memory) → Cause asked library e
-words_cause asked library e (inl h) = subst (Cause asked library) (sym h.0) h.1
-words_cause asked library e (inr h) = subst (Cause asked library) (sym h) tt
-
-pub words_leaves : (asked : Option Ordered) (library : Files) (old : Files) (e : RunFault)
-    → ((e ≡ run.Usage) × (asked ≡ None)) ⊎ (e ≡ run.Memory) → Leaves asked library e old old
-words_leaves asked library old e (inl h) = subst (λ (f : RunFault). Leaves asked library f old old) (sym h.0) (untouched old)
-words_leaves asked library old e (inr h) = subst (λ (f : RunFault). Leaves asked library f old old) (sym h) (inl (untouched old))
-
-pub words_report : (asked : Option Ordered) (old : List ℕ) (e : RunFault)
-    → ((e ≡ run.Usage) × (asked ≡ None)) ⊎ (e ≡ run.Memory) → LeavesReport e old old
-words_report asked old e (inl h) = subst (λ (f : RunFault). LeavesReport f old old) (sym h.0) refl
-words_report asked old e (inr h) = subst (λ (f : RunFault). LeavesReport f old old) (sym h) refl
-
-pub words_own : (asked : Option Ordered) (library : Files) (old new : List ℕ) (e : RunFault)
-    → ((e ≡ run.Usage) × (asked ≡ None)) ⊎ (e ≡ run.Memory) → LeavesOwnReport asked library e old new
-words_own asked library old new e (inl h) = subst (λ (f : RunFault). LeavesOwnReport asked library f old new) (sym h.0) tt
-words_own asked library old new e (inr h) = subst (λ (f : RunFault). LeavesOwnReport asked library f old new) (sym h) tt
-
-pub words_library : (asked : Option Ordered) (a : ℕ) (x : List ℕ) (e : RunFault)
-    → ((e ≡ run.Usage) × (asked ≡ None)) ⊎ (e ≡ run.Memory) → LeavesLibrary e a a x x
-words_library asked a x e (inl h) = subst (λ (f : RunFault). LeavesLibrary f a a x x) (sym h.0) (no_call a x)
-words_library asked a x e (inr h) = subst (λ (f : RunFault). LeavesLibrary f a a x x) (sym h) tt
-
-pub words_depot : (asked : Option Ordered) (a : ℕ) (x : List ℕ) (e : RunFault)
-    → ((e ≡ run.Usage) × (asked ≡ None)) ⊎ (e ≡ run.Memory) → LeavesDepot e a a x x
-words_depot asked a x e (inl h) = subst (λ (f : RunFault). LeavesDepot f a a x x) (sym h.0) (no_call a x)
-words_depot asked a x e (inr h) = subst (λ (f : RunFault). LeavesDepot f a a x x) (sym h) (no_call a x)
-
-pub words_usage : (asked : Option Ordered) (e : RunFault) → ((e ≡ run.Usage) × (asked ≡ None)) ⊎ (e ≡ run.Memory)
-    → e ≡ run.Usage → asked ≡ None
-words_usage asked e (inl h) is = h.1
-words_usage asked e (inr h) is = absurd (apart (sym h ∙ is))
-  where
-    apart : run.Memory ≡ run.Usage → ⊥
-    apart same = cc
-
-pub words_other : (asked : Option Ordered) (e : RunFault) → ((e ≡ run.Usage) × (asked ≡ None)) ⊎ (e ≡ run.Memory)
-    → (e ≡ run.Usage) ⊎ (e ≡ run.Memory)
-words_other asked e (inl h) = inl h.0
-words_other asked e (inr h) = inr h
-
 -- ---- the graph
 
 pub graph_rose : (name : List ℕ) (a b : ℕ) (x y : List ℕ) (depot : ℕ × ℕ × List ℕ) (out : ℕ × ℕ) (e : GraphFailure)
@@ -359,7 +309,7 @@ report_leaves asked library old new report.Report all = all
 report_leaves asked library old new report.Memory all =
     inr (count_in all.known.job, record { known = all.known; images = all.images; are = all.are; few = omega arith; gained = all.gained })
 
-pub report_report : (n : ℕ) (old new : List ℕ) (e : ReportFailure) → BeginsReport n e old new
+pub report_report : (n : ℕ) (old new : List ℕ) (e : ReportFailure) → BeginsReport (report_of n) e old new
     → LeavesReport (report_fault e) old new
 report_report n old new report.Report begins = (n, begins)
 report_report n old new report.Memory begins = begins
@@ -368,11 +318,11 @@ pub report_own : (asked : Option Ordered) (library : Files) (order : Ordered) (g
     (old new : List ℕ) (e : ReportFailure)
     → asked ≡ Some order → graph_under library order.graph ≡ Some (Ok g)
     → (first : a ≡ first_of g order) → (last : b ≡ last_of g order)
-    → HasSources library g a b images → BeginsReport (frame_count a b) e old new
+    → HasSources library g a b images → BeginsReport (report_of (frame_count a b)) e old new
     → LeavesOwnReport asked library (report_fault e) old new
 report_own asked library order g a b images old new report.Report ordered there first last sources begins = (
   job_of asked library order g a b sources.wanted ordered there first last sources.are,
-  both (λ m n. BeginsReport (frame_count m n) report.Report old new) a b (first_of g order) (last_of g order) first last begins,
+  both (λ m n. BeginsReport (report_of (frame_count m n)) report.Report old new) a b (first_of g order) (last_of g order) first last begins,
 )
 report_own asked library order g a b images old new report.Memory ordered there first last sources begins = tt
 
@@ -404,7 +354,7 @@ one_graph g h a p q = cc
 not_both : (g : Graph) (f : Fault) (a : Option (Result Graph Fault)) → a ≡ Some (Ok g) → a ≡ Some (Err f) → ⊥
 not_both g f a p q = cc
 
--- the asked and the library have one job
+-- what is asked for and the library have one job
 graph_once : (asked : Option Ordered) (library : Files) (j k : Job asked library) → j.order ≡ k.order → j.graph ≡ k.graph
 graph_once asked library j k same =
     one_graph j.graph k.graph (graph_under library j.order.graph) j.there (ap (λ (o : Ordered). graph_under library o.graph) same ∙ k.there)

@@ -4,17 +4,17 @@ use Rattle.std.proofs.lemmas.Bool.{and_parts}
 use Rattle.clap.specs.Faults.{fault_of}
 use Rattle.clap.specs.Kinds.{Kinds}
 use Rattle.clap.specs.Simple.{matches_of}
-use Rattle.clap.specs.Walk.{Row}
+use Rattle.clap.specs.Walk.{Row, first_of}
 use Rattle.fx_words.specs.Command.{ofxr}
 use Rattle.fx_words.specs.Ordered.{Ordered}
-use Rattle.fx_words.specs.Order.{given, is_bench_number, is_graph_for, fits_memory, order_with, order_in, order_by}
+use Rattle.fx_words.specs.Order.{given, mode_of, option_of, default_cache, is_bench_number, is_graph_for, fits_memory, order_with, order_in, order_by}
+use Rattle.fx_words.specs.declared.order.TheConstants.{MOST_CACHE, MOST_WORKERS}
+use Rattle.fx_base.specs.declared.limits.TheConstants.{LAST_FRAME, MOST_TILE_SIDE}
+use Rattle.std.specs.Prelude.{option_and_then, codes}
+use Rattle.std.proofs.lemmas.Option.{none-some, same_Some}
 use Rattle.fx_words.specs.declared.order.Mode.TheVariants.{Render, Check, Bench}
 use Rattle.fx_words.specs.declared.order.Mode.{Mode}
 use Rattle.fx_app.specs.Words.{order_of}
-
-given_some : {A B : Type 0} (a : Option A) (next : A → Option B) (b : B) → given a next ≡ Some b → (x : A) × (next x ≡ Some b)
-given_some (Some x) next b is = (x, is)
-given_some None next b is = cc
 
 for_bench : (mode : Mode) (graph : List ℕ) → is_graph_for mode graph ≡ true → mode ≡ Bench → is_bench_number graph ≡ true
 for_bench Render graph fits is = cc
@@ -27,8 +27,9 @@ made_with mode graph first last tile cache workers order is bench =
     by (is_graph_for mode graph && fits_memory cache tile) refl
   where
     by : (b : Bool) → (is_graph_for mode graph && fits_memory cache tile) ≡ b → is_bench_number order.graph ≡ true
-    by true e =
-        let made : Some (record {
+    by true e = made (rw e at is)
+      where
+        made : Some (record {
           mode = mode;
           graph = graph;
           first = first;
@@ -36,20 +37,48 @@ made_with mode graph first last tile cache workers order is bench =
           tile = tile;
           cache = cache;
           workers = workers;
-        }) ≡ Some order = rw e at is in
-        ?
-    by false e = ?
+        }) ≡ Some order → is_bench_number order.graph ≡ true
+        made one =
+            let same = same_Some (record {
+              mode = mode;
+              graph = graph;
+              first = first;
+              last = last;
+              tile = tile;
+              cache = cache;
+              workers = workers;
+            }) order one in
+            subst (λ (o : Ordered). is_bench_number o.graph ≡ true) same
+            (for_bench mode graph (and_parts (is_graph_for mode graph) (fits_memory cache tile) e).0
+            (ap (λ (o : Ordered). o.mode) same ∙ bench))
+    by false e = absurd (none-some order (rw e at is))
+
+from_cache : (mode : Mode) (graph : List ℕ) (first last tile : ℕ) (cache workers : Option ℕ) (order : Ordered)
+    → given cache (λ c. given workers (λ w. order_with mode graph first last tile c w)) ≡ Some order → order.mode ≡ Bench
+    → is_bench_number order.graph ≡ true
+from_cache mode graph first last tile None workers order is bench = absurd (none-some order is)
+from_cache mode graph first last tile (Some cache) None order is bench = absurd (none-some order is)
+from_cache mode graph first last tile (Some cache) (Some workers) order is bench =
+    made_with mode graph first last tile cache workers order is bench
+
+from_mode : (mode : Option Mode) (graph : Option (List ℕ)) (first last tile : Option ℕ) (cache : ℕ → Option ℕ) (workers : Option ℕ)
+    (order : Ordered)
+    → given mode (λ m. given graph (λ g. given first (λ f. given last (λ l. given tile (λ t. given (cache t) (λ c.
+    given workers (λ w. order_with m g f l t c w))))))) ≡ Some order → order.mode ≡ Bench → is_bench_number order.graph ≡ true
+from_mode None graph first last tile cache workers order is bench = absurd (none-some order is)
+from_mode (Some mode) None first last tile cache workers order is bench = absurd (none-some order is)
+from_mode (Some mode) (Some graph) None last tile cache workers order is bench = absurd (none-some order is)
+from_mode (Some mode) (Some graph) (Some first) None tile cache workers order is bench = absurd (none-some order is)
+from_mode (Some mode) (Some graph) (Some first) (Some last) None cache workers order is bench = absurd (none-some order is)
+from_mode (Some mode) (Some graph) (Some first) (Some last) (Some tile) cache workers order is bench =
+    from_cache mode graph first last tile (cache tile) workers order is bench
 
 numbered : (rows : List Row) (order : Ordered) → order_in rows ≡ Some order → order.mode ≡ Bench → is_bench_number order.graph ≡ true
 numbered rows order is bench =
-    let mode = given_some _ _ order is in
-    let graph = given_some _ _ order mode.1 in
-    let first = given_some _ _ order graph.1 in
-    let last = given_some _ _ order first.1 in
-    let tile = given_some _ _ order last.1 in
-    let cache = given_some _ _ order tile.1 in
-    let workers = given_some _ _ order cache.1 in
-    made_with mode.0 graph.0 first.0 last.0 tile.0 cache.0 workers.0 order workers.1 bench
+    from_mode (option_and_then mode_of (first_of (codes "mode") rows)) (first_of (codes "graph") rows)
+    (option_of (codes "first") 0 LAST_FRAME 0 rows) (option_of (codes "last") 0 LAST_FRAME LAST_FRAME rows)
+    (option_of (codes "tile") 1 MOST_TILE_SIDE 64 rows) (λ tile. option_of (codes "cache") 0 MOST_CACHE (default_cache tile) rows)
+    (option_of (codes "workers") 1 MOST_WORKERS 4 rows) order is bench
 
 numbered_by : (faults : Kinds) (rows : List Row) (order : Ordered) → order_by faults rows ≡ Some order → order.mode ≡ Bench
     → is_bench_number order.graph ≡ true

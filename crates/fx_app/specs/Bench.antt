@@ -39,7 +39,7 @@ made_of word = or_empty (files_in (made_files word))
 
 abbrev pub made_for : Option Ordered → Files
 made_for (Some order) = made_of order.graph
-made_for None name = None
+made_for None = λ name. None
 
 -- ---- what it reports
 

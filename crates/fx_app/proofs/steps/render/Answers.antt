@@ -7,6 +7,7 @@ use Rattle.fx_seq.proofs.FillingLemmas.{quiet_more}
 use Rattle.fx_scene.specs.Scenes.{graph_shown, images_in}
 use Rattle.fx_words.specs.Ordered.{Ordered}
 use Rattle.fx_app.specs.Graphs.{graph_under, frame_count}
+use Rattle.fx_app.specs.Texts.{report_of}
 use Rattle.fx_app.specs.Steps.{BeginsReport, GraphCause, GraphFetch, HasSources, SourceCause}
 use Rattle.fx_app.proofs.StepsLemmas as step
 use Rattle.fx_app.proofs.steps.render.Goals as goal
@@ -15,7 +16,7 @@ pub returns-in_err-graph-clause-rose : goal.returns-in_err-graph-clause-rose
 returns-in_err-graph-clause-rose g c =
     let at : c.order.inside.graph ≡ c.args.order.now.graph = ap (λ (o : Ordered). o.graph) c.order.view_is in
     let fetch : GraphFetch c.args.order.now.graph (g.L.Library.faults c.args.library.now) (g.L.Library.faults c.graph_of.new.library) (g.L.Library.last c.args.library.now) (g.L.Library.last c.graph_of.new.library) c.in_err-graph.field-0.0 = subst (λ (n : List ℕ). GraphFetch n (g.L.Library.faults c.args.library.now) (g.L.Library.faults c.graph_of.new.library) (g.L.Library.last c.args.library.now) (g.L.Library.last c.graph_of.new.library) c.in_err-graph.field-0.0) at c.in_err-graph.ensures.fetch in
-    let p = err_from_is_err_and c.from_residual-in_err-graph.result c.from_residual-in_err-graph.ensures.1 in
+    let p = err_from_is_err_and c.from_residual.result c.from_residual.ensures.1 in
     rw (p.1, p.2) (step.graph_rose c.args.order.now.graph (g.L.Library.faults c.args.library.now) (g.L.Library.faults c.graph_of.new.library) (g.L.Library.last c.args.library.now) (g.L.Library.last c.graph_of.new.library) ((g.D.Depot.faults c.args.depot.now), (g.D.Depot.faults c.args.depot.now), (g.D.Depot.last c.args.depot.now)) ((g.O.Sink.faults c.args.out.now), (g.O.Sink.faults c.args.out.now)) c.in_err-graph.field-0.0 fetch)
 
 pub returns-in_err-graph-clause-cause : goal.returns-in_err-graph-clause-cause
@@ -23,39 +24,39 @@ returns-in_err-graph-clause-cause g c = λ tells.
     let at : c.order.inside.graph ≡ c.args.order.now.graph = ap (λ (o : Ordered). o.graph) c.order.view_is in
     let fetch : GraphFetch c.args.order.now.graph (g.L.Library.faults c.args.library.now) (g.L.Library.faults c.graph_of.new.library) (g.L.Library.last c.args.library.now) (g.L.Library.last c.graph_of.new.library) c.in_err-graph.field-0.0 = subst (λ (n : List ℕ). GraphFetch n (g.L.Library.faults c.args.library.now) (g.L.Library.faults c.graph_of.new.library) (g.L.Library.last c.args.library.now) (g.L.Library.last c.graph_of.new.library) c.in_err-graph.field-0.0) at c.in_err-graph.ensures.fetch in
     let cause : GraphCause (g.L.Library.file c.args.library.now) c.args.order.now.graph c.in_err-graph.field-0.0 = subst (λ (n : List ℕ). GraphCause (g.L.Library.file c.args.library.now) n c.in_err-graph.field-0.0) at (c.in_err-graph.ensures.cause tells) in
-    let p = err_from_is_err_and c.from_residual-in_err-graph.result c.from_residual-in_err-graph.ensures.1 in
+    let p = err_from_is_err_and c.from_residual.result c.from_residual.ensures.1 in
     rw (p.1, p.2) (step.graph_cause (Some c.args.order.now) (g.L.Library.file c.args.library.now) c.args.order.now (g.L.Library.faults c.args.library.now) (g.L.Library.faults c.graph_of.new.library) (g.L.Library.last c.args.library.now) (g.L.Library.last c.graph_of.new.library) c.in_err-graph.field-0.0 refl cause fetch)
 
 pub returns-in_err-graph-clause-leaves : goal.returns-in_err-graph-clause-leaves
 returns-in_err-graph-clause-leaves g c = λ tells told.
-    let p = err_from_is_err_and c.from_residual-in_err-graph.result c.from_residual-in_err-graph.ensures.1 in
+    let p = err_from_is_err_and c.from_residual.result c.from_residual.ensures.1 in
     rw (p.1, p.2) (step.graph_leaves (Some c.args.order.now) (g.L.Library.file c.args.library.now) (g.D.Depot.file c.args.depot.now) c.in_err-graph.field-0.0)
 
 pub returns-in_err-graph-clause-report : goal.returns-in_err-graph-clause-report
 returns-in_err-graph-clause-report g c = λ told.
-    let p = err_from_is_err_and c.from_residual-in_err-graph.result c.from_residual-in_err-graph.ensures.1 in
+    let p = err_from_is_err_and c.from_residual.result c.from_residual.ensures.1 in
     rw (p.1, p.2) (step.graph_report (g.O.Sink.written c.args.out.now) c.in_err-graph.field-0.0)
 
 pub returns-in_err-graph-clause-own_report : goal.returns-in_err-graph-clause-own_report
 returns-in_err-graph-clause-own_report g c = λ tells told.
-    let p = err_from_is_err_and c.from_residual-in_err-graph.result c.from_residual-in_err-graph.ensures.1 in
+    let p = err_from_is_err_and c.from_residual.result c.from_residual.ensures.1 in
     rw (p.1, p.2) (step.graph_own (Some c.args.order.now) (g.L.Library.file c.args.library.now) (g.O.Sink.written c.args.out.now) (g.O.Sink.written c.args.out.now) c.in_err-graph.field-0.0)
 
 pub returns-in_err-graph-clause-library : goal.returns-in_err-graph-clause-library
 returns-in_err-graph-clause-library g c =
     let at : c.order.inside.graph ≡ c.args.order.now.graph = ap (λ (o : Ordered). o.graph) c.order.view_is in
     let fetch : GraphFetch c.args.order.now.graph (g.L.Library.faults c.args.library.now) (g.L.Library.faults c.graph_of.new.library) (g.L.Library.last c.args.library.now) (g.L.Library.last c.graph_of.new.library) c.in_err-graph.field-0.0 = subst (λ (n : List ℕ). GraphFetch n (g.L.Library.faults c.args.library.now) (g.L.Library.faults c.graph_of.new.library) (g.L.Library.last c.args.library.now) (g.L.Library.last c.graph_of.new.library) c.in_err-graph.field-0.0) at c.in_err-graph.ensures.fetch in
-    let p = err_from_is_err_and c.from_residual-in_err-graph.result c.from_residual-in_err-graph.ensures.1 in
+    let p = err_from_is_err_and c.from_residual.result c.from_residual.ensures.1 in
     rw (p.1, p.2) (step.graph_library c.args.order.now.graph (g.L.Library.faults c.args.library.now) (g.L.Library.faults c.graph_of.new.library) (g.L.Library.last c.args.library.now) (g.L.Library.last c.graph_of.new.library) c.in_err-graph.field-0.0 fetch)
 
 pub returns-in_err-graph-clause-depot : goal.returns-in_err-graph-clause-depot
 returns-in_err-graph-clause-depot g c =
-    let p = err_from_is_err_and c.from_residual-in_err-graph.result c.from_residual-in_err-graph.ensures.1 in
+    let p = err_from_is_err_and c.from_residual.result c.from_residual.ensures.1 in
     rw (p.1, p.2) (step.graph_depot (g.D.Depot.faults c.args.depot.now) (g.D.Depot.last c.args.depot.now) c.in_err-graph.field-0.0)
 
 pub returns-in_err-graph-clause-words : goal.returns-in_err-graph-clause-words
 returns-in_err-graph-clause-words g c =
-    let p = err_from_is_err_and c.from_residual-in_err-graph.result c.from_residual-in_err-graph.ensures.1 in
+    let p = err_from_is_err_and c.from_residual.result c.from_residual.ensures.1 in
     rw (p.1, p.2) (step.graph_usage c.in_err-graph.field-0.0)
 
 pub returns-in_err-store-clause-rose : goal.returns-in_err-store-clause-rose
@@ -186,7 +187,7 @@ returns-in_err-report_frames-clause-own_report g c = λ tells told.
     let same : g.L.Library.file c.graph_of.new.library ≡ g.L.Library.file c.args.library.now = fun_ext (c.in_ok-graph.ensures.same tells) in
     let sources : HasSources (g.L.Library.file c.args.library.now) (graph_shown c.in_ok-graph.graph) c.first_of-first.result c.last_of-last.result (images_in c.in_ok-store.store) = subst (λ (f : Files). HasSources f (graph_shown c.in_ok-graph.graph) c.first_of-first.result c.last_of-last.result (images_in c.in_ok-store.store)) same (c.in_ok-store.ensures.ok tells) in
     let count : c.frame_count.result ≡ (frame_count c.first_of-first.result c.last_of-last.result) = c.frame_count.ensures in
-    let begins : BeginsReport (frame_count c.first_of-first.result c.last_of-last.result) c.in_err-report_frames.field-0.0 (g.O.Sink.written c.args.out.now) (g.O.Sink.written c.report_frames.new.out) = subst (λ (n : ℕ). BeginsReport n c.in_err-report_frames.field-0.0 (g.O.Sink.written c.args.out.now) (g.O.Sink.written c.report_frames.new.out)) count (c.in_err-report_frames.ensures.leaves told) in
+    let begins : BeginsReport (report_of (frame_count c.first_of-first.result c.last_of-last.result)) c.in_err-report_frames.field-0.0 (g.O.Sink.written c.args.out.now) (g.O.Sink.written c.report_frames.new.out) = subst (λ (n : ℕ). BeginsReport (report_of n) c.in_err-report_frames.field-0.0 (g.O.Sink.written c.args.out.now) (g.O.Sink.written c.report_frames.new.out)) count (c.in_err-report_frames.ensures.leaves told) in
     let p = err_from_is_err_and c.from_residual-in_err-report_frames.result c.from_residual-in_err-report_frames.ensures.1 in
     rw (p.1, p.2) (step.report_own (Some c.args.order.now) (g.L.Library.file c.args.library.now) c.args.order.now (graph_shown c.in_ok-graph.graph) c.first_of-first.result c.last_of-last.result (images_in c.in_ok-store.store) (g.O.Sink.written c.args.out.now) (g.O.Sink.written c.report_frames.new.out) c.in_err-report_frames.field-0.0 refl there c.first_of-first.ensures.value c.last_of-last.ensures.value sources begins)
 
