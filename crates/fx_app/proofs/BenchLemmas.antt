@@ -23,9 +23,13 @@ use Rattle.fx_words.specs.Ordered.{Ordered}
 use Rattle.fx_words.specs.Texts.{bench_text}
 use Rattle.fx_app.specs.declared.graph.GraphFailure.{GraphFailure}
 use Rattle.fx_app.specs.declared.graph.GraphFailure.TheVariants as graph
+use Rattle.fx_words.specs.declared.fault.RunFault.TheVariants as run
+use Rattle.fx_app.specs.declared.sources.SourceFailure.{SourceFailure}
+use Rattle.fx_app.specs.declared.sources.SourceFailure.TheVariants as source
+use Rattle.fx_app.specs.Run.{Cause}
 use Rattle.fx_app.specs.Bench.{bytes_of, made_of, IsBenchReport}
-use Rattle.fx_app.specs.Steps.{graph_fault, GraphCause, GraphFetch, HasSources, HasFiles, IsMakingFault, bytes_under, AreShort}
-use Rattle.fx_app.proofs.StepsLemmas.{accepted_of, both}
+use Rattle.fx_app.specs.Steps.{graph_fault, source_fault, GraphCause, GraphFetch, SourceCause, SourceFetch, HasSources, HasFiles, IsMakingFault, bytes_under, AreShort}
+use Rattle.fx_app.proofs.StepsLemmas.{accepted_of, both, source_cause}
 use Rattle.fx_app.proofs.LengthLemmas.{short_text}
 
 abbrev no_files : Files
@@ -108,13 +112,14 @@ module _ (g : Graph) (images : Images) (a n : ℕ) (old new : Files) (has : HasF
 
 -- ---- the report
 
+-- a count that stands still has not risen
+never : HasRisen 0 0 → ⊥
+never (inl low) = omega (arith, low)
+never (inr high) = omega (arith, high)
+
 pub bench_graph : (order : Ordered) (library : Files) (e : GraphFailure) → library ≡ made_of order.graph
     → GraphCause library order.graph e → GraphFetch order.graph 0 0 [] [] e → IsMakingFault (Some order) (graph_fault e)
 bench_graph order library (graph.Read name) made cause fetch = never fetch.0
-  where
-    never : HasRisen 0 0 → ⊥
-    never (inl low) = omega (arith, low)
-    never (inr high) = omega (arith, high)
 bench_graph order library (graph.Refused code path) made cause fetch =
     record {
       order = order;
@@ -122,6 +127,15 @@ bench_graph order library (graph.Refused code path) made cause fetch =
       refused = subst (λ (f : Files). graph_under f order.graph ≡ Some (Err (refusal code path))) made cause;
     }
 bench_graph order library graph.Memory made cause fetch = tt
+
+pub bench_store : (order : Ordered) (library : Files) (g : Graph) (a b : ℕ) (e : SourceFailure) → library ≡ made_of order.graph
+    → graph_under library order.graph ≡ Some (Ok g) → a ≡ first_of g order → b ≡ last_of g order
+    → SourceCause library g a b e → SourceFetch 0 0 [] [] e → IsMakingFault (Some order) (source_fault e)
+bench_store order library g a b (source.Read name) made there first last cause fetch = never fetch.0
+bench_store order library g a b (source.Refused name t why) made there first last cause fetch =
+    subst (λ (f : Files). Cause (Some order) f (run.Frame name t why)) made
+    (source_cause (Some order) library order g a b (source.Refused name t why) refl there first last cause)
+bench_store order library g a b source.Memory made there first last cause fetch = tt
 
 pub bench_is : (order : Ordered) (library : Files) (g : Graph) (images : Images) (a b frames size total : ℕ) → library ≡ made_of order.graph
     → graph_under library order.graph ≡ Some (Ok g) → (first : a ≡ first_of g order) → (last : b ≡ last_of g order)

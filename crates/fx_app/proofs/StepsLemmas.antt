@@ -30,7 +30,7 @@ use Rattle.fx_app.specs.Graphs.{Graph, graph_under, first_of, last_of, frame_cou
 use Rattle.fx_app.specs.Texts.{report_of, status_of}
 use Rattle.fx_app.proofs.WantedLemmas.{wanted_once}
 use Rattle.fx_app.specs.Files.{AreWantedBy, AreImages, frame_refused, file_name, HasGained, HasGainedBut}
-use Rattle.fx_app.specs.Run.{Job, IsAccepted, HasPutAll, count_in, Cause, Rose, Leaves, LeavesReport, LeavesOwnReport, LeavesLibrary, LeavesDepot}
+use Rattle.fx_app.specs.Run.{Job, IsAccepted, NamesNoGraph, HasPutAll, count_in, Cause, Rose, Leaves, LeavesReport, LeavesOwnReport, LeavesLibrary, LeavesDepot}
 use Rattle.fx_app.specs.Steps.{graph_fault, source_fault, put_fault, report_fault, GraphFetch, GraphCause, HasSources, SourceFetch, SourceCause, IsSourceFailure, FilesPut, LeavesFiles, ReportRose, BeginsReport}
 
 pub no_call : (a : ℕ) (x : List ℕ) → IsQuiet a a x x
@@ -368,6 +368,13 @@ wanted_in asked library j k =
     (subst (λ (o : Ordered). AreWantedBy j.graph (first_of j.graph o) (last_of j.graph o) j.wanted) order j.are) in
     wanted_once k.graph (first_of k.graph k.order) (last_of k.graph k.order) j.wanted k.wanted are k.are
 
+-- the library has no graph and no refusal of it at once
+pub refused_not : (asked : Option Ordered) (library : Files) → Job asked library → NamesNoGraph asked library → ⊥
+refused_not asked library job (code, path, refused) =
+    let order : job.order ≡ refused.order = same_Some job.order refused.order (sym job.ordered ∙ refused.ordered) in
+    not_both job.graph _ (graph_under library job.order.graph) job.there
+    (ap (λ (o : Ordered). graph_under library o.graph) order ∙ refused.refused)
+
 -- where a run is accepted and no count rose, want of memory alone ends it
 pub only_memory : (asked : Option Ordered) (library : Files) (fetches puts : ℕ × ℕ × List ℕ) (out : ℕ × ℕ) (e : RunFault)
     → IsAccepted asked library → Cause asked library e → Rose fetches puts out e
@@ -375,9 +382,7 @@ pub only_memory : (asked : Option Ordered) (library : Files) (fetches puts : ℕ
 only_memory asked library fetches puts out run.Usage known cause rose fetched wrote told =
     absurd (none-some known.job.order (sym cause ∙ known.job.ordered))
 only_memory asked library fetches puts out (run.Graph code path) known cause rose fetched wrote told =
-    let order : known.job.order ≡ cause.order = same_Some known.job.order cause.order (sym known.job.ordered ∙ cause.ordered) in
-    absurd (not_both known.job.graph _ (graph_under library known.job.order.graph) known.job.there
-    (ap (λ (o : Ordered). graph_under library o.graph) order ∙ cause.refused))
+    absurd (refused_not asked library known.job (code, path, cause))
 only_memory asked library fetches puts out (run.Frame node t why) known cause rose fetched wrote told =
     absurd (none-some cause.1 (sym known.accepted ∙ ap (frame_refused library) (wanted_in asked library known.job cause.0) ∙ cause.2))
 only_memory asked library fetches puts out (run.Read name) known cause rose fetched wrote told = absurd (fetched rose.0)

@@ -1,5 +1,5 @@
 //! From a graph's name to the graph.
-ghost use Rattle.std.specs.Prelude.{◌≡◌, ◌≤◌, ◌⊎◌, Some, Ok, IfOk, IfErr, OnOk};
+ghost use Rattle.std.specs.Prelude.{◌≡◌, ◌≤◌, ◌⊎◌, Some, Ok, IfOk, IfErr, OnOk, length};
 ghost use Rattle.fx_outside.specs.Outside.{SameFiles};
 ghost use Rattle.fx_seq.specs.Filling.{IsQuiet};
 ghost use Rattle.fx_text.specs.Answers.{Refuses};
@@ -74,6 +74,13 @@ pub(crate) fn graph_of<L: Library>(
         Err(GraphFault::Refused(code, path)) => Err(GraphFailure::Refused(code, path)),
         Err(GraphFault::Memory) => Err(GraphFailure::Memory),
     }
+}
+
+/// How many nodes a graph has.
+pub(crate) fn node_count(graph: &Graph<Shipped>) -> u64
+    ensures { result ≡ length (graph_shown graph.now).nodes }
+{
+    graph.nodes.as_slice().len() as u64
 }
 
 // The graph that the bytes are.

@@ -19,7 +19,7 @@ ghost use Rattle.fx_app.specs.Steps.{IsMakingFault};
 
 use crate::bench::{file_names, made_of, totals_of};
 use crate::frames::put_frames;
-use crate::graph::graph_of;
+use crate::graph::{graph_of, node_count};
 use crate::order::{first_of, frame_count, last_of, order_of};
 use crate::report::{report_frames, report_lines};
 use crate::sources::{count_wanted, sources_of};
@@ -271,7 +271,7 @@ fn check<L: Library, O: Sink>(
     let first = first_of(&graph, order);
     let last = last_of(&graph, order);
     let report = Report::Check {
-        nodes: graph.nodes.len() as u64,
+        nodes: node_count(&graph),
         frames: frame_count(first, last),
         wanted: count_wanted(alloc, &graph, first, last)?,
     };

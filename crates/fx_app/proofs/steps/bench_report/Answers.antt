@@ -10,8 +10,8 @@ use Rattle.fx_words.specs.Ordered.{Ordered}
 use Rattle.fx_app.specs.Bench.{made_of, bytes_of}
 use Rattle.fx_app.specs.Files.{file_name}
 use Rattle.fx_app.specs.Graphs.{graph_under, frame_count}
-use Rattle.fx_app.specs.Steps.{bytes_under, GraphCause, GraphFetch, HasSources}
-use Rattle.fx_app.proofs.BenchLemmas.{are_short, bytes_put, bench_graph, bench_is}
+use Rattle.fx_app.specs.Steps.{bytes_under, GraphCause, GraphFetch, SourceCause, HasSources}
+use Rattle.fx_app.proofs.BenchLemmas.{are_short, bytes_put, bench_graph, bench_store, bench_is}
 use Rattle.fx_app.proofs.steps.bench_report.Goals as goal
 
 made_as : (inside word : List ℕ) (library : Files) → inside ≡ word → ((name : List ℕ) → library name ≡ made_of inside name)
@@ -26,6 +26,18 @@ returns-in_err-graph-clause-cause c =
     rw (p.1, p.2) (bench_graph c.args.order.now (sure_library_files c.in_ok-library.library) c.in_err-graph.field-0.0 made
     (subst (λ (n : List ℕ). GraphCause (sure_library_files c.in_ok-library.library) n c.in_err-graph.field-0.0) at (c.in_err-graph.ensures.cause tt))
     (subst (λ (n : List ℕ). GraphFetch n 0 0 [] [] c.in_err-graph.field-0.0) at c.in_err-graph.ensures.fetch))
+
+pub returns-in_err-store-clause-cause : goal.returns-in_err-store-clause-cause
+returns-in_err-store-clause-cause c =
+    let at : c.order.inside.graph ≡ c.args.order.now.graph = ap (λ (o : Ordered). o.graph) c.order.view_is in
+    let made : sure_library_files c.in_ok-library.library ≡ made_of c.args.order.now.graph = made_as c.order.inside.graph c.args.order.now.graph (sure_library_files c.in_ok-library.library) at c.in_ok-library.ensures.ok in
+    let there : graph_under (sure_library_files c.in_ok-library.library) c.args.order.now.graph ≡ Some (Ok (graph_shown c.in_ok-graph.graph)) =
+    subst (λ (n : List ℕ). graph_under (sure_library_files c.in_ok-library.library) n ≡ Some (Ok (graph_shown c.in_ok-graph.graph))) at (c.in_ok-graph.ensures.ok tt) in
+    let cause : SourceCause (sure_library_files c.in_ok-library.library) (graph_shown c.in_ok-graph.graph) c.first_of-first.result c.last_of-last.result c.in_err-store.field-0.0 =
+    subst (λ (f : Files). SourceCause f (graph_shown c.in_ok-graph.graph) c.first_of-first.result c.last_of-last.result c.in_err-store.field-0.0) (fun_ext (c.in_ok-graph.ensures.same tt)) (c.in_err-store.ensures.cause tt) in
+    let p = err_from_is_err_and c.from_residual-in_err-store.result c.from_residual-in_err-store.ensures.1 in
+    rw (p.1, p.2) (bench_store c.args.order.now (sure_library_files c.in_ok-library.library) (graph_shown c.in_ok-graph.graph) c.first_of-first.result c.last_of-last.result c.in_err-store.field-0.0 made there
+    c.first_of-first.ensures.value c.last_of-last.ensures.value cause c.in_err-store.ensures.fetch)
 
 pub totals_of-totals-requires-clause-few : goal.totals_of-totals-requires-clause-few
 totals_of-totals-requires-clause-few c =

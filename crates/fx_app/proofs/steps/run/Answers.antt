@@ -1,0 +1,106 @@
+use Rattle.std.proofs.Common.{map, string_bytes}
+use Rattle.fx_words.specs.declared.order.Mode.TheVariants.{Render, Check, Bench}
+use Rattle.fx_app.specs.Words.{order_of}
+use Rattle.fx_app.proofs.StepsLemmas.{only_memory, ends_by_memory}
+use Rattle.fx_app.proofs.ModeLemmas as mode
+use Rattle.fx_app.proofs.steps.run.Goals as goal
+
+pub returns-in-Ok-clause-accepted : goal.returns-in-Ok-clause-accepted
+returns-in-Ok-clause-accepted g c = λ render told done. c.in-Ok.ensures.accepted render told
+
+pub returns-in-Ok-clause-frames : goal.returns-in-Ok-clause-frames
+returns-in-Ok-clause-frames g c = λ render told tells done. c.in-Ok.ensures.done render told tells
+
+pub returns-in-Ok-clause-reports : goal.returns-in-Ok-clause-reports
+returns-in-Ok-clause-reports g c = λ render told tells done. c.in-Ok.ensures.told render told tells
+
+pub returns-in-Ok-clause-checked : goal.returns-in-Ok-clause-checked
+returns-in-Ok-clause-checked g c = λ check told done. c.in-Ok.ensures.checked check told
+
+pub returns-in-Ok-clause-check_reports : goal.returns-in-Ok-clause-check_reports
+returns-in-Ok-clause-check_reports g c = λ check told tells done. c.in-Ok.ensures.check_told check told tells
+
+pub returns-in-Ok-clause-benched : goal.returns-in-Ok-clause-benched
+returns-in-Ok-clause-benched g c = λ bench done. c.in-Ok.ensures.benched bench
+
+pub returns-in-Ok-clause-bench_reports : goal.returns-in-Ok-clause-bench_reports
+returns-in-Ok-clause-bench_reports g c = λ bench tells done. c.in-Ok.ensures.bench_told bench tells
+
+pub returns-in-Ok-clause-refuses_graph : goal.returns-in-Ok-clause-refuses_graph
+returns-in-Ok-clause-refuses_graph g c = λ other told bad fetched.
+    absurd (mode.not_refused g.L.Library.tells (order_of (map string_bytes c.args.words.now)) (g.L.Library.file c.args.library.now) other told bad
+    c.in-Ok.ensures.accepted c.in-Ok.ensures.checked)
+
+pub returns-in-Err-clause-completes : goal.returns-in-Err-clause-completes
+returns-in-Err-clause-completes g c = λ render told known fetched wrote reported.
+    let library = g.L.Library in
+    let depot = g.D.Depot in
+    let sink = g.O.Sink in
+    ends_by_memory c.tell.result c.in-Err.fault c.tell.ensures.status
+    (only_memory (order_of (map string_bytes c.args.words.now)) (library.file c.args.library.now)
+    (library.faults c.args.library.now, library.faults c.outcome.new.library, library.last c.outcome.new.library)
+    (depot.faults c.args.depot.now, depot.faults c.outcome.new.depot, depot.last c.outcome.new.depot)
+    (sink.faults c.args.out.now, sink.faults c.outcome.new.out)
+    c.in-Err.fault known (mode.cause_at Render library.tells (order_of (map string_bytes c.args.words.now)) (library.file c.args.library.now) c.in-Err.fault render c.in-Err.ensures.cause told)
+    c.in-Err.ensures.rose fetched wrote reported)
+
+pub returns-in-Err-clause-check_completes : goal.returns-in-Err-clause-check_completes
+returns-in-Err-clause-check_completes g c = λ check told job fetched reported.
+    let library = g.L.Library in
+    let depot = g.D.Depot in
+    let sink = g.O.Sink in
+    ends_by_memory c.tell.result c.in-Err.fault c.tell.ensures.status
+    (mode.only_check_memory library.tells (order_of (map string_bytes c.args.words.now)) (library.file c.args.library.now)
+    (library.faults c.args.library.now, library.faults c.outcome.new.library, library.last c.outcome.new.library)
+    (depot.faults c.args.depot.now, depot.faults c.outcome.new.depot, depot.last c.outcome.new.depot)
+    (sink.faults c.args.out.now, sink.faults c.outcome.new.out)
+    c.in-Err.fault told job (mode.cause_at Check library.tells (order_of (map string_bytes c.args.words.now)) (library.file c.args.library.now) c.in-Err.fault check c.in-Err.ensures.cause)
+    c.in-Err.ensures.rose fetched reported)
+
+pub returns-in-Err-clause-check_statuses : goal.returns-in-Err-clause-check_statuses
+returns-in-Err-clause-check_statuses g c = λ check.
+    let library = g.L.Library in
+    mode.check_answers library.tells (order_of (map string_bytes c.args.words.now)) (library.file c.args.library.now) c.tell.result c.in-Err.fault c.tell.ensures.status
+    (mode.cause_at Check library.tells (order_of (map string_bytes c.args.words.now)) (library.file c.args.library.now) c.in-Err.fault check c.in-Err.ensures.cause)
+
+pub returns-in-Err-clause-check_reads : goal.returns-in-Err-clause-check_reads
+returns-in-Err-clause-check_reads g c = λ check four.
+    let library = g.L.Library in
+    let depot = g.D.Depot in
+    let sink = g.O.Sink in
+    mode.check_read library.tells (order_of (map string_bytes c.args.words.now)) (library.file c.args.library.now)
+    (library.faults c.args.library.now) (library.faults c.outcome.new.library) (library.last c.outcome.new.library)
+    (depot.faults c.args.depot.now, depot.faults c.outcome.new.depot, depot.last c.outcome.new.depot)
+    (sink.faults c.args.out.now, sink.faults c.outcome.new.out)
+    c.tell.result c.in-Err.fault c.tell.ensures.status
+    (mode.cause_at Check library.tells (order_of (map string_bytes c.args.words.now)) (library.file c.args.library.now) c.in-Err.fault check c.in-Err.ensures.cause) c.in-Err.ensures.rose four
+
+pub returns-in-Err-clause-bench_completes : goal.returns-in-Err-clause-bench_completes
+returns-in-Err-clause-bench_completes g c = λ bench known reported.
+    let library = g.L.Library in
+    let depot = g.D.Depot in
+    let sink = g.O.Sink in
+    ends_by_memory c.tell.result c.in-Err.fault c.tell.ensures.status
+    (mode.only_bench_memory (order_of (map string_bytes c.args.words.now))
+    (library.faults c.args.library.now, library.faults c.outcome.new.library, library.last c.outcome.new.library)
+    (depot.faults c.args.depot.now, depot.faults c.outcome.new.depot, depot.last c.outcome.new.depot)
+    (sink.faults c.args.out.now, sink.faults c.outcome.new.out)
+    c.in-Err.fault known (mode.cause_at Bench library.tells (order_of (map string_bytes c.args.words.now)) (library.file c.args.library.now) c.in-Err.fault bench c.in-Err.ensures.cause)
+    c.in-Err.ensures.rose reported)
+
+pub returns-in-Err-clause-bench_statuses : goal.returns-in-Err-clause-bench_statuses
+returns-in-Err-clause-bench_statuses g c = λ bench.
+    let library = g.L.Library in
+    mode.bench_answers (order_of (map string_bytes c.args.words.now)) c.tell.result c.in-Err.fault c.tell.ensures.status
+    (mode.cause_at Bench library.tells (order_of (map string_bytes c.args.words.now)) (library.file c.args.library.now) c.in-Err.fault bench c.in-Err.ensures.cause)
+
+pub returns-in-Err-clause-refuses_graph : goal.returns-in-Err-clause-refuses_graph
+returns-in-Err-clause-refuses_graph g c = λ other told bad fetched.
+    let library = g.L.Library in
+    let depot = g.D.Depot in
+    let sink = g.O.Sink in
+    mode.refused_answers library.tells (order_of (map string_bytes c.args.words.now)) (library.file c.args.library.now)
+    (library.faults c.args.library.now, library.faults c.outcome.new.library, library.last c.outcome.new.library)
+    (depot.faults c.args.depot.now, depot.faults c.outcome.new.depot, depot.last c.outcome.new.depot)
+    (sink.faults c.args.out.now, sink.faults c.outcome.new.out)
+    c.tell.result c.in-Err.fault c.tell.ensures.status other told bad c.in-Err.ensures.cause c.in-Err.ensures.rose fetched
