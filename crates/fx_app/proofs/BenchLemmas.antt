@@ -94,7 +94,6 @@ short_file g images t has =
 
 module _ (g : Graph) (images : Images) (a n : ℕ) (old new : Files) (has : HasFiles g) (empty : (name : List ℕ) → old name ≡ None)
     (gained : HasGained g images a n old new) where
-
   from_none : (name : List ℕ) → new name ≡ with_frames g images a n no_files name
   from_none name = gained name ∙ ap (λ (f : Files). with_frames g images a n f name) (fun_ext empty)
 

@@ -236,4 +236,3 @@ returns-clause-told g c = λ tells told.
 pub returns-clause-quiet_library : goal.returns-clause-quiet_library
 returns-clause-quiet_library g c =
     quiet_more c.in_ok-graph.ensures.quiet c.in_ok-store.ensures.quiet
-
