@@ -1,9 +1,10 @@
 -- Pieces of a region.
-use Rattle.std.proofs.Common.{◌≡◌, ℤ, pos, neg_ℤ, ◌+ℤ◌, ◌≤ℤ◌, ◌<ℤ◌, Bool, true, false, ◌||◌, List, [], ◌∷◌, ◌++◌, refl, sym, ap, ◌∙◌, subst, arith}
+use Rattle.std.proofs.Common.{◌≡◌, ◌≤◌, ◌<◌, ◌+◌, ◌*◌, ℕ, ℤ, pos, neg_ℤ, ◌+ℤ◌, ◌≤ℤ◌, ◌<ℤ◌, Bool, true, false, ◌||◌, List, [], ◌∷◌, ◌++◌, refl, sym, ap, ◌∙◌, subst, arith}
 use Rattle.std.proofs.lemmas.Int.{ints, clamps}
 use Rattle.std.proofs.lemmas.Bool.{cases_Bool, or_right}
 use Rattle.std.proofs.lemmas.List.Elements.{All-nil, All-cons, All-append}
-use Rattle.std.specs.Int.{int_min}
+use Rattle.std.proofs.Math.Nat.{add-mul}
+use Rattle.std.specs.Int.{int_min, int_gap}
 use Rattle.std.specs.Int.Signed.{lt_z}
 use Rattle.std.specs.List.{All}
 use mathlib.Core.Logic.{◌⊎◌, inl, inr}
@@ -11,7 +12,7 @@ use Rattle.fx_base.specs.Bounds.{Bounds, IsRect, none}
 use Rattle.fx_base.specs.Rect.{Holds, within, rect_of}
 use Rattle.fx_base.proofs.RectLemmas.{Holds-from_inside, IsInside-from_holds}
 use Rattle.fx_image.proofs.ImageLaws.{gap_is}
-use Rattle.fx_eval.specs.Cuts.{AddsUpTo, Cover, IsCut, IsNearSpan, has_place}
+use Rattle.fx_eval.specs.Cuts.{AddsUpTo, Cover, IsCut, IsNearSpan, along, has_place}
 
 lt_is : (a b : ℤ) → a <ℤ b → lt_z a b ≡ true
 lt_is a b h = grind (arith, ints)
@@ -97,3 +98,21 @@ rows_step r bottom top to old new ends next done row =
 
 pub rows_whole : (r : Bounds) (to : ℤ) (cuts : List Bounds) → r.y2 ≤ℤ to → Rows r to cuts → Cover cuts r
 rows_whole r to cuts past done x y h = let at = (IsInside-from_holds r x y h).top in done.covers x y h (omega (arith, ints))
+
+-- ---- how many
+
+count_of : (gap n : ℕ) → gap ≤ n * 4096 → n * 4096 < gap + 4096 → n ≡ along gap
+count_of gap n a b = omega arith
+
+pub count_is : (from to : ℤ) (n : ℕ) → from ≤ℤ to → to ≤ℤ (from +ℤ pos (n * 4096)) → (from +ℤ pos (n * 4096)) <ℤ (to +ℤ pos 4096)
+    → n ≡ along (int_gap from to)
+count_is from to n rises a b =
+    let g = gap_is from to rises in count_of (int_gap from to) n (omega (arith, ints)) (omega (arith, ints))
+
+one_mul : (c : ℕ) → 1 * c ≡ c
+one_mul c = omega arith
+
+-- one more row of so many
+pub count_more : (j c old new : ℕ) → old ≡ j * c → new ≡ old + c → new ≡ (j + 1) * c
+count_more j c old new is e =
+    e ∙ ap (λ (k : ℕ). k + c) is ∙ sym (add-mul j 1 c ∙ ap (λ (k : ℕ). j * c + k) (one_mul c))

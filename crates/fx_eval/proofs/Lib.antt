@@ -5,5 +5,7 @@ pub mod PieceLemmas
 pub mod WholeLemmas
 pub mod OrderLemmas
 pub mod ReaderLemmas
+pub mod FlightLemmas
+pub mod RenderLemmas
 pub mod LifeLemmas
 pub mod PictureLemmas

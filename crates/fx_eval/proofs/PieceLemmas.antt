@@ -32,7 +32,7 @@ use Rattle.fx_scene.proofs.Equations.{area_is, value_is}
 use Rattle.fx_scene.proofs.Outside.{Covered, dot, in_dot, in_frames, not_within, outside_zero}
 use Rattle.fx_eval.specs.declared.whole.Whole.{Whole}
 use Rattle.fx_eval.specs.Cuts.{has_place}
-use Rattle.fx_eval.specs.Wholes.{HasRegion, IsImageOf, IsWhole, rect_of}
+use Rattle.fx_eval.specs.Wholes.{HasRegion, IsImageOf, IsWhole, images_made, rect_of}
 use Rattle.fx_eval.specs.Inputs.{Adds, IsOne, IsSomeOf, IsTruePiece, Reads, blank, has_piece, piece_of}
 use Rattle.fx_eval.specs.Filled.{IsWindowOf}
 
@@ -193,9 +193,9 @@ area_here nodes node c m d j f g x y is at e inside =
 
 pub images_add : (nodes : Nodes) (node : ℕ → Option ℕ) (c m : ℕ) (f : ℤ) (o : EffectNode) (w : Whole) (old new : Given)
     → node c ≡ Some m → nodes m ≡ Effect o → IsWhole nodes m f w
-    → new ≡ record old { pieces = old.pieces ++ map (piece_of c f []) w.images.items } → Adds nodes node (IsOne c f) old new
+    → new ≡ record old { pieces = old.pieces ++ map (piece_of c f []) (images_made w) } → Adds nodes node (IsOne c f) old new
 images_add nodes node c m f o w old new is stands h made =
-    let images = w.images.items in
+    let images = images_made w in
     let region : HasRegion (Effect o) w.area images = subst (λ (q : Node). HasRegion q w.area images) stands h.covers in
     record {
       added = map (piece_of c f []) images;

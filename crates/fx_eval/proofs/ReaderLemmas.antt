@@ -17,7 +17,7 @@ use Rattle.fx_scene.proofs.Members.{In, in_left, in_right}
 use Rattle.fx_scene.proofs.RankLemmas.{has_key, is_lower, key_of}
 use Rattle.fx_scene.proofs.ReachLemmas.{exact_moments, is_same}
 use Rattle.fx_eval.specs.declared.whole.Whole.{Whole}
-use Rattle.fx_eval.specs.Readers.{AreLast, IsNoEarlier, LetsGo, Makes, Marks, is_reader}
+use Rattle.fx_eval.specs.Readers.{AreLast, IsNoEarlier, LetsGo, Makes, Marks}
 use Rattle.fx_eval.specs.Wholes.{AreWhole, IsWhole, look}
 use Rattle.fx_effect.specs.Meaning.{Meaning}
 use Rattle.fx_graph.specs.Shown.{GraphShown}
@@ -187,13 +187,6 @@ lets_then last reader old mid new a b m =
       | inl same ↦ elim (a m) [ inl e ↦ inl (same ∙ e) | inr e ↦ inr (e.0, same ∙ e.1) ]
       | inr e ↦ inr e
     ]
-
-pub reader_is : (o : Option Moment) (reader : Moment) → is_reader o reader ≡ true → o ≡ Some reader
-reader_is None reader e = absurd cc
-reader_is (Some by) reader e =
-    let q = and_parts (nat_eq by.node reader.node) (int_eq by.frame reader.frame) e in
-    ap (λ (n : ℕ). Some (moment n by.frame)) (nat_same by.node reader.node q.0)
-    ∙ ap (λ (t : ℤ). Some (moment reader.node t)) (int_same by.frame reader.frame q.1)
 
 -- one that this moment reads last
 pub lets_one : (last : BTreeMap Moment Moment) (read reader : Moment) (old new : BTreeMap Moment Whole)

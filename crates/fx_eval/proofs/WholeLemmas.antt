@@ -5,8 +5,10 @@ use Rattle.std.proofs.lemmas.List.FromFn.{get_or-map-range_with_len, length-map-
 use Rattle.std.proofs.lemmas.List.{get_or-map}
 use Rattle.std.proofs.lemmas.List.Elements.{All-nil, All-cons, All-append}
 use Rattle.std.specs.List.{All, range_with_len}
+use Rattle.std.specs.Arc.{arc_value}
 use Rattle.std.specs.BTreeMap.{BTreeMap}
 use Rattle.std.specs.declared.alloc.Global.{Global}
+use Rattle.std.specs.declared.sync.Arc.{Arc}
 use Rattle.std.specs.declared.vec.Vec.{Vec}
 use Rattle.fx_base.specs.Bounds.{Bounds}
 use Rattle.fx_base.specs.Rect.{Holds, hull, within}
@@ -36,7 +38,7 @@ use Rattle.fx_scene.proofs.Members.{all_in, all_from}
 use Rattle.fx_scene.proofs.NearLemmas.{listed_frames}
 use Rattle.fx_eval.specs.declared.whole.Whole.{Whole}
 use Rattle.fx_eval.specs.Cuts.{IsCut}
-use Rattle.fx_eval.specs.Wholes.{AreWhole, HasRegion, IsImageOf, IsMade, IsReady, IsWhole, look, rect_of}
+use Rattle.fx_eval.specs.Wholes.{AreWhole, HasRegion, IsImageOf, IsMade, IsReady, IsWhole, images_made, look, rect_of}
 use Rattle.fx_eval.specs.Inputs.{Adds, AreMade, AreReads, IsOne, Reads, blank}
 use Rattle.fx_eval.specs.Filled.{AreWindows, IsFilled, IsWindowOf}
 use Rattle.fx_eval.proofs.PieceLemmas.{in_has, read_is, source_area_is, window_image}
@@ -59,6 +61,11 @@ rects_more images now image cuts i r low pushed rect at h =
     ap (map rect_of) pushed ∙ map-append rect_of images (image ∷ [])
     ∙ ap (λ (rs : List Bounds). rs ++ image.rect ∷ []) h ∙ ap (λ (q : Bounds). take i cuts ++ q ∷ []) (rect ∙ at)
     ∙ sym (take_more cuts i r low)
+
+-- what shared values are, with one more
+pub values_more : {X : Type 0} (xs ys : List (Arc X Global)) (x : Arc X Global) → ys ≡ xs ++ x ∷ []
+    → map arc_value ys ≡ map arc_value xs ++ arc_value x ∷ []
+values_more {X} xs ys x pushed = ap (map arc_value) pushed ∙ map-append arc_value xs (x ∷ [])
 
 -- ---- areas
 
@@ -124,11 +131,12 @@ clip_made o t made c (Some m) fs ready at is =
 pub source_whole : (nodes : Nodes) → AreNodes nodes → (k : ℕ) (t : ℤ) (s : SourceFrames) (w : Whole) → nodes k ≡ Source s
     → w.area ≡ source_area s (s.named t) → w.images.items ≡ [] → IsWhole nodes k t w
 source_whole nodes ok k t s w stands is none =
+    let none_made : images_made w ≡ [] = ap (λ (images : List (Arc Stored Global)). map arc_value images) none in
     record {
       area_is = is ∙ sym (source_area_is nodes ok k t s stands);
-      right = subst (All (IsImageOf nodes k t)) (sym none) (All-nil (IsImageOf nodes k t));
-      small = subst (λ (images : List Stored). All IsCut (map rect_of images)) (sym none) (All-nil IsCut);
-      covers = subst (λ (q : Node). HasRegion q w.area w.images.items) (sym stands) tt;
+      right = subst (All (IsImageOf nodes k t)) (sym none_made) (All-nil (IsImageOf nodes k t));
+      small = subst (λ (images : List Stored). All IsCut (map rect_of images)) (sym none_made) (All-nil IsCut);
+      covers = subst (λ (q : Node). HasRegion q w.area (images_made w)) (sym stands) tt;
     }
 
 -- windows of its area are the whole of an effect's node
@@ -137,9 +145,9 @@ pub windows_whole : (nodes : Nodes) → AreNodes nodes → (k : ℕ) (o : Effect
     → Adds nodes (clip_node o) (Reads o t (length o.clips)) (blank o.depth ks) given
     → ((clip : ℕ) → clip < length o.clips → get_or ks clip Rgba ≡ seen o clip)
     → w.area ≡ area nodes k t
-    → AreWindows o.meaning (o.values t) given o.depth o.components w.area w.images.items → IsWhole nodes k t w
+    → AreWindows o.meaning (o.values t) given o.depth o.components w.area (images_made w) → IsWhole nodes k t w
 windows_whole nodes ok k o stands t ks given w adds sees area_is windows =
-    let images = w.images.items in
+    let images = images_made w in
     record {
       area_is = area_is;
       right = all_from (IsImageOf nodes k t) images (λ image i.

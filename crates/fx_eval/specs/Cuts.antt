@@ -1,5 +1,5 @@
 -- Regions in pieces.
-use Rattle.std.specs.Prelude.{◌≡◌, ◌≢◌, ◌≤◌, ◌||◌, ℤ, pos, neg_ℤ, ◌≤ℤ◌, ◌<ℤ◌, List, [], ◌∷◌, Bool, true, false, All}
+use Rattle.std.specs.Prelude.{◌≡◌, ◌≢◌, ◌≤◌, ◌+◌, ◌*◌, ◌/◌, ℕ, ◌||◌, ℤ, pos, neg_ℤ, ◌≤ℤ◌, ◌<ℤ◌, List, [], ◌∷◌, Bool, true, false, All}
 use Rattle.fx_base.specs.Bounds.{Bounds, IsRect, none}
 use Rattle.fx_base.specs.Rect.{Holds, within, IsNear, columns, rows}
 
@@ -19,6 +19,13 @@ pub record IsCut (region : Bounds) : Type 0 where
   pub near : IsNear region
   pub wide : columns region ≤ 4096
   pub high : rows region ≤ 4096
+
+-- how many pieces reach along so many pixels, and how many a region is cut into
+abbrev pub along : ℕ → ℕ
+along n = (n + 4095) / 4096
+
+abbrev pub pieces : Bounds → ℕ
+pieces r = along (rows r) * along (columns r)
 
 -- ---- on the way there
 

@@ -4,4 +4,6 @@ pub mod Wholes
 pub mod Readers
 pub mod Inputs
 pub mod Filled
+pub mod Flights
+pub mod Renders
 pub mod Toy

@@ -1,6 +1,5 @@
 -- The last that reads each node at a frame.
-use Rattle.std.specs.Prelude.{◌≡◌, ◌⊎◌, ◌&&◌, ℕ, ℤ, Option, Some, None, Bool, true, false, nat_eq, IsSome}
-use Rattle.std.specs.Ordering.{int_eq}
+use Rattle.std.specs.Prelude.{◌≡◌, ◌⊎◌, ℕ, ℤ, Some, None, true, IsSome}
 use Rattle.std.specs.declared.cmp.Ordering.TheVariants.{Less}
 use Rattle.std.specs.BTreeMap.{BTreeMap, get}
 use Rattle.std.specs.BTreeSet.{BTreeSet}
@@ -32,11 +31,6 @@ pub record Marks (S : ℕ → ℤ → Type 0) (reader : Moment) (old new : BTree
   pub only :
       (m : ℕ) (f : ℤ) → (get moment_cmp new (moment m f) ≡ get moment_cmp old (moment m f))
       ⊎ ((get moment_cmp new (moment m f) ≡ Some reader) × S m f)
-
--- whether it is this reader
-abbrev pub is_reader : Option Moment → Moment → Bool
-is_reader None reader = false
-is_reader (Some by) reader = nat_eq by.node reader.node && int_eq by.frame reader.frame
 
 -- none is let go but those that this moment reads last
 abbrev pub LetsGo : BTreeMap Moment Moment → Moment → BTreeMap Moment Whole → BTreeMap Moment Whole → Type 0

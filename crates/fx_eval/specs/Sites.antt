@@ -1,14 +1,18 @@
 -- What renders are made from, and effects in their places of a graph.
-use Rattle.std.specs.Prelude.{◌≡◌, ℕ, ℤ, Bool, Option, Some, None, slice_get, if◌then◌else◌}
+use Rattle.std.specs.Prelude.{◌≡◌, ℕ, ℤ, map, Bool, Option, Some, None, slice_get, if◌then◌else◌}
 use Rattle.fx_base.specs.Bounds.{Bounds, none}
 use Rattle.fx_pixel.specs.declared.Components.{Components}
 use Rattle.fx_pixel.specs.declared.Components.TheVariants as components
 use Rattle.fx_image.specs.Stored.{Stored}
+use Rattle.fx_effect.specs.Given.{Given}
 use Rattle.fx_effect.specs.Meaning.{Meaning}
+use Rattle.fx_effect.specs.declared.values.Values.{Values}
+use Rattle.fx_graph.specs.Kept.{use_values}
 use Rattle.fx_graph.specs.Shown.{Does, Shown, GraphShown}
 use Rattle.fx_graph.specs.Shown as does
 use Rattle.fx_life.specs.Seats.{Lives, Used, used_by, Plays}
 use Rattle.fx_scene.specs.Nodes.{Nodes, AreNodes}
+use Rattle.fx_scene.specs.Reach.{IsNearFrame}
 use Rattle.fx_scene.specs.Nodes as nodes
 use Rattle.fx_scene.specs.Scenes.{graph_shown, graph_nodes, images_in, effect_node}
 use Rattle.fx_eval.specs.declared.site.Site.{Site}
@@ -27,6 +31,7 @@ abbrev pub site_nodes : {E : Type 0} {c e : _} → (E → Meaning) → Site E c 
 site_nodes meaning site = graph_nodes meaning (graph_shown site.graph.now) (images_in site.store.now)
 
 pub record IsSite {E : Type 0} {c e : _} (meaning : E → Meaning) (number : E → ℕ) (site : Site E c e) : Type 0 where
+  pub scene : site.scene.now.graph ≡ graph_shown site.graph.now
   pub nodes : AreNodes (site_nodes meaning site)
   pub life : HasLife number (graph_shown site.graph.now) site.life.now
 
@@ -52,6 +57,16 @@ effect_at meaning project n =
 -- the components in which a clip is seen that is a mask or not
 abbrev pub seen_in : Components → Bool → Components
 seen_in c mask = if mask then components.Alpha else c
+
+-- the effect in its place is asked with these values, and reads what these inputs give
+pub record IsAsked {E : Type 0} {c e : _} (meaning : E → Meaning) (number : E → ℕ) (site : Site E c e) (n : EffectNode E)
+    (v : Values) (given : Given) : Type 0 where
+  pub of_site : IsSite meaning number site
+  pub there : StandsIn (graph_shown site.graph.now) n
+  pub near : IsNearFrame n.place v.frame
+  pub values : v ≡ use_values site.graph.now.project v.frame n.clips.now n.params.now
+  pub depth : given.depth ≡ n.depth
+  pub components : given.components ≡ map (seen_in n.components) n.masks.now
 
 -- ---- a source in its place
 

@@ -1,5 +1,6 @@
 -- Images that together are a node at a frame, and which of them are kept.
 use Rattle.std.specs.Prelude.{◌≡◌, ℕ, ℤ, List, map, Option, Some, true, All, IsSome}
+use Rattle.std.specs.Arc.{arc_value}
 use Rattle.std.specs.BTreeMap.{BTreeMap, get}
 use Rattle.std.specs.BTreeSet.{BTreeSet}
 use Rattle.fx_base.specs.Bounds.{Bounds}
@@ -22,6 +23,10 @@ pub record IsImageOf (nodes : Nodes) (node : ℕ) (frame : ℤ) (image : Stored)
 abbrev pub rect_of : Stored → Bounds
 rect_of image = image.rect
 
+-- the images of what was made
+abbrev pub images_made : Whole → List Stored
+images_made w = map arc_value w.images.items
+
 -- the frame of a source is held where it is, and an effect's images together have its region
 abbrev pub HasRegion : Node → Bounds → List Stored → Type 0
 HasRegion (Source s) a images = Unit {0}
@@ -30,9 +35,9 @@ HasRegion (Effect o) a images = Cover (map rect_of images) a
 -- the region of definition of a node at a frame, and images of it in pieces
 pub record IsWhole (nodes : Nodes) (n : ℕ) (t : ℤ) (w : Whole) : Type 0 where
   pub area_is : w.area ≡ area nodes n t
-  pub right : All (IsImageOf nodes n t) w.images.items
-  pub small : All IsCut (map rect_of w.images.items)
-  pub covers : HasRegion (nodes n) w.area w.images.items
+  pub right : All (IsImageOf nodes n t) (images_made w)
+  pub small : All IsCut (map rect_of (images_made w))
+  pub covers : HasRegion (nodes n) w.area (images_made w)
 
 -- ---- what is kept
 

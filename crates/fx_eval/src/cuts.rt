@@ -1,8 +1,8 @@
 //! A region in pieces of at most 4,096 by 4,096 pixels.
-ghost use Rattle.std.specs.Prelude.{◌≡◌, ◌*◌, ◌≤ℤ◌, ◌<ℤ◌, ◌+ℤ◌, pos, All, IfOk, OnOk};
-ghost use Rattle.std.specs.Int.{int_min};
+ghost use Rattle.std.specs.Prelude.{◌≡◌, ◌+◌, ◌*◌, ◌≤ℤ◌, ◌<ℤ◌, ◌+ℤ◌, pos, length, All, IfOk, OnOk};
+ghost use Rattle.std.specs.Int.{int_min, int_gap};
 ghost use Rattle.fx_effect.specs.Asked.{IsWindow};
-ghost use Rattle.fx_eval.specs.Cuts.{Cover, IsCut, AddsRow, IsNearSpan};
+ghost use Rattle.fx_eval.specs.Cuts.{Cover, IsCut, AddsRow, IsNearSpan, along, pieces};
 
 use fx_base::{Memory, Rect};
 use std::alloc::Global;
@@ -14,6 +14,7 @@ pub(crate) fn cut(alloc: Global, r: Rect) -> Result<Vec<Rect>, Memory>
     requires { IsWindow r }
     ensures small { IfOk result (λ cuts. All IsCut cuts.items) }
     ensures cover { IfOk result (λ cuts. Cover cuts.items r) }
+    ensures count { IfOk result (λ cuts. length cuts.items ≡ pieces r) }
 {
     let mut cuts = Vec::new(alloc);
     let x1 = r.x1;
@@ -59,7 +60,8 @@ fn add_row(x1: i64, x2: i64, bottom: i64, top: i64, cuts: &mut Vec<Rect>) -> Res
     requires high { IsNearSpan bottom top }
     requires rises { bottom <ℤ top }
     requires small { top ≤ℤ (bottom +ℤ pos 4096) }
-    ensures { OnOk result (AddsRow x1 x2 bottom top cuts.old.items cuts.new.items) }
+    ensures adds { OnOk result (AddsRow x1 x2 bottom top cuts.old.items cuts.new.items) }
+    ensures count { OnOk result (length cuts.new.items ≡ length cuts.old.items + along (int_gap x1 x2)) }
 {
     for i in 0..count(x1, x2) {
         let left = start(x1, i, x2);

@@ -1,5 +1,6 @@
 //! What the render of a node reads: pieces over what is made of the nodes that its clips are.
 ghost use Rattle.std.specs.Prelude.{◌≡◌, ◌<◌, ◌++◌, ◌∷◌, [], ℕ, Option, Some, length, map, All, IfOk, IfSome, OnOk};
+ghost use Rattle.std.specs.Arc.{arc_value};
 ghost use Rattle.fx_scene.specs.Nodes.{Effect, clip_node};
 ghost use Rattle.fx_scene.specs.Scenes.{graph_shown};
 ghost use Rattle.fx_eval.specs.Sites.{IsSite, StandsIn, effect_at, site_nodes, seen_in};
@@ -17,6 +18,7 @@ use fx_pixel::{Components, Depth};
 use fx_scene::Moment;
 use std::alloc::Global;
 use std::collections::BTreeMap;
+use std::sync::Arc;
 
 /// For each clip and each frame that is read, its node's images or its source's frame.
 pub(crate) fn inputs_of<'s, E: Catalogue>(
@@ -158,14 +160,14 @@ fn add_source<'s>(
 
 fn add_images<'s>(
     alloc: Global,
-    images: &'s [Image],
+    images: &'s [Arc<Image>],
     c: u32,
     f: i64,
     inputs: &mut Inputs<'s>,
 ) -> Result<(), Memory>
     requires { c < length inputs.old.components }
     ensures { OnOk result (inputs.new
-        ≡ record inputs.old { pieces = inputs.old.pieces ++ map (piece_of c f []) images.now }) }
+        ≡ record inputs.old { pieces = inputs.old.pieces ++ map (piece_of c f []) (map arc_value images.now) }) }
 {
     for image in images {
         push_image(alloc, c, f, image, Steps::of(Vec::new(alloc)), inputs)?;

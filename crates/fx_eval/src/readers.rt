@@ -1,9 +1,9 @@
 //! The last that reads each node at a frame, after which it is let go.
-ghost use Rattle.std.specs.Prelude.{◌≡◌, ℕ, ℤ, length, true, IfOk, OnOk};
+ghost use Rattle.std.specs.Prelude.{◌≡◌, ◌↔◌, ℕ, ℤ, length, true, Some, IfOk, OnOk};
 ghost use Rattle.std.specs.BTreeMap.{get};
 ghost use Rattle.fx_scene.specs.Reach.{IsPlace, IsReadBy, has, moment_cmp};
 ghost use Rattle.fx_scene.specs.Scenes.{graph_nodes, graph_shown, no_images};
-ghost use Rattle.fx_eval.specs.Readers.{AreLast, LetsGo, Marks, is_reader};
+ghost use Rattle.fx_eval.specs.Readers.{AreLast, LetsGo, Marks};
 
 use crate::whole::Whole;
 use fx_base::Memory;
@@ -87,10 +87,10 @@ fn let_go_read(
 }
 
 fn is_read_last(last: &BTreeMap<Moment, Moment>, read: Moment, reader: Moment) -> bool
-    ensures { result ≡ is_reader (get moment_cmp last.now read) reader }
+    ensures { (result ≡ true) ↔ (get moment_cmp last.now read ≡ Some reader) }
 {
     match last.get(&read) {
-        Some(by) => by.node == reader.node && by.frame == reader.frame,
+        Some(by) => *by == reader,
         None => false,
     }
 }

@@ -1,5 +1,5 @@
 //! The render of a whole image.
-ghost use Rattle.std.specs.Prelude.{◌≢◌, OnOk};
+ghost use Rattle.std.specs.Prelude.{◌≡◌, ◌≢◌, true, OnOk, OnErr};
 ghost use Rattle.fx_base.specs.Bounds.{none};
 ghost use Rattle.fx_base.specs.Rect.{IsFrame};
 ghost use Rattle.fx_effect.specs.Meaning.{rendered};
@@ -19,41 +19,23 @@ use std::alloc::Global;
 pub(crate) fn render_whole<E: Catalogue + Drop>(
     alloc: Global,
     life: &Life<E>,
-    scene: u64,
     node: u32,
     values: &Values,
     inputs: &Inputs<'_>,
+    ticket: &mut Ticket,
     image: &mut Image,
 ) -> Result<(), Memory>
     requires frame { IsFrame values.now.frame }
     requires window { image.old.rect ≢ none }
     requires may { let old = image.old in
         MayPlay E.number_of E.meaning life.now node values.now inputs.now old.depth old.components }
-    ensures { (effect : E) → Plays E.number_of life.now node effect →
+    ensures filled { (effect : E) → Plays E.number_of life.now node effect →
         let pixels = rendered (E.meaning effect) values.now inputs.now image.old.depth image.old.components in
         OnOk result (IsFilled image.old image.new pixels) }
+    ensures stamped { OnOk result (ticket.new ≡ record ticket.old { stamped = true }) }
+    ensures unstamped { OnErr result (ticket.new ≡ ticket.old) }
 {
     let mut hold = Gates::free(alloc);
-    // a ticket of no flight
-    let mut ticket = Ticket {
-        scene,
-        number: 0,
-        stamped: false,
-    };
     let mut part = image.part(image.rect());
-    let outcome = life.render(
-        alloc,
-        node,
-        values,
-        inputs,
-        &mut hold,
-        &mut ticket,
-        &mut part,
-    );
-    let Ticket {
-        scene: _,
-        number: _,
-        stamped: _,
-    } = ticket;
-    outcome
+    life.render(alloc, node, values, inputs, &mut hold, ticket, &mut part)
 }

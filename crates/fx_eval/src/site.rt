@@ -13,17 +13,17 @@ use fx_image::Image;
 use fx_life::Life;
 use fx_params::Param;
 use fx_pixel::{Components, Depth};
-use fx_scene::shown_frame;
+use fx_scene::{Scene, shown_frame};
 use fx_seq::Store;
 use std::alloc::Global;
 
-/// A graph, the frames of its sources that were fetched, the number of their scene, and the instances that
-/// render the graph's effects.
+/// A scene, its graph and the frames of its sources that were fetched, and the instances that render the
+/// graph's effects.
 #[derive(Drop)]
 pub(crate) struct Site<'a, E: Catalogue> {
+    pub scene: &'a Scene<E>,
     pub graph: &'a Graph<E>,
     pub store: &'a Store,
-    pub number: u64,
     pub life: &'a Life<E>,
 }
 

@@ -1,15 +1,17 @@
 //! Pictures that are worked by hand.
 ghost use Rattle.std.specs.Prelude.{◌≡◌, ◌≤◌, [], ◌∷◌, IfOk};
+ghost use Rattle.fx_eval.specs.Flights.{IsIdle};
 
 use crate::frame;
 use crate::toy::Toy;
 use fx_base::{Memory, Name};
+use fx_core::{Core, Permit, Totals};
 use fx_graph::{Graph, accept};
 use fx_image::Image;
 use fx_life::Life;
 use fx_outside::SureLibrary;
 use fx_pixel::Pixel;
-use fx_scene::{Scene, wants};
+use fx_scene::{Key, Scene, wants};
 use fx_seq::Store;
 use fx_text::{GraphFault, read_graph};
 use std::alloc::{AllocError, Global};
@@ -27,9 +29,10 @@ const ALONE: &str = r#"{"name":"z","source":"s##.pam","first":3,"last":5}"#;
 const TWICE: &str =
     r#",{"name":"y","effect":"joined","clips":{"Source":"s"}},{"name":"z","effect":"joined","clips":{"Source":"y"}}"#;
 
-// The source, the effects over it, the project's depth, the format of the files, the frame, and the picture's two
-// columns, of which the files have the first.
-const CASES: &[(&str, &str, &str, &str, u32, &str)] = &[
+// The source, the effects over it, the project's depth, the format of the files, the frame, the picture's two
+// columns, of which the files have the first, and how many renders it takes: a source takes none, and where both frames
+// that an effect reads are black it has no pixels to render.
+const CASES: &[(&str, &str, &str, &str, u32, &str, u64)] = &[
     (
         ALONE,
         "",
@@ -37,8 +40,17 @@ const CASES: &[(&str, &str, &str, &str, u32, &str)] = &[
         "RGB_ALPHA",
         4,
         "8 bytes: 4 0 0 104, 0 0 0 0, ",
+        0,
     ),
-    (ALONE, "", "byte", "RGB", 6, "8 bytes: 0 0 0 0, 0 0 0 0, "),
+    (
+        ALONE,
+        "",
+        "byte",
+        "RGB",
+        6,
+        "8 bytes: 0 0 0 0, 0 0 0 0, ",
+        0,
+    ),
     // r and g of two frames before, and b and a of this one.
     (
         BLACK,
@@ -47,6 +59,7 @@ const CASES: &[(&str, &str, &str, &str, u32, &str)] = &[
         "RGB",
         5,
         "8 bytes: 3 0 0 105, 0 0 0 0, ",
+        3,
     ),
     (
         BLACK,
@@ -55,6 +68,7 @@ const CASES: &[(&str, &str, &str, &str, u32, &str)] = &[
         "RGB",
         4,
         "8 bytes: 0 0 0 104, 0 0 0 0, ",
+        3,
     ),
     (
         HELD,
@@ -63,6 +77,7 @@ const CASES: &[(&str, &str, &str, &str, u32, &str)] = &[
         "RGB",
         4,
         "8 bytes: 3 0 0 104, 0 0 0 0, ",
+        3,
     ),
     (
         BLACK,
@@ -71,6 +86,7 @@ const CASES: &[(&str, &str, &str, &str, u32, &str)] = &[
         "RGB",
         7,
         "8 bytes: 5 0 0 0, 0 0 0 0, ",
+        2,
     ),
     // A picture of the project's depth, from nodes of that depth and from nodes of bytes: 257 times as much.
     (
@@ -80,6 +96,7 @@ const CASES: &[(&str, &str, &str, &str, u32, &str)] = &[
         "RGB",
         5,
         "16 bytes: 771 0 0 26985, 0 0 0 0, ",
+        3,
     ),
     (
         OF_BYTES,
@@ -88,9 +105,10 @@ const CASES: &[(&str, &str, &str, &str, u32, &str)] = &[
         "RGB",
         5,
         "16 bytes: 771 0 0 26985, 0 0 0 0, ",
+        3,
     ),
     // A grey picture is of the alphas.
-    (BLACK, TWICE, "byte", "GRAYSCALE", 5, "2 bytes: 105, 0, "),
+    (BLACK, TWICE, "byte", "GRAYSCALE", 5, "2 bytes: 105, 0, ", 3),
 ];
 
 // The graph of these nodes over a project of one row, whose output is the node z.
@@ -155,16 +173,46 @@ fn toys(alloc: Global) -> Result<Vec<Toy>, Memory>
     Ok(vec![in alloc; Toy]?)
 }
 
-// The picture of a frame, over frames of this width.
-fn picture_of(alloc: Global, graph: Graph<Toy>, width: u32, at: u32) -> Result<Image, Memory>
+// The picture of a frame, over frames of this width, and what the core counted.
+fn picture_of(
+    alloc: Global,
+    graph: Graph<Toy>,
+    width: u32,
+    at: u32,
+) -> Result<(Image, Totals), Memory>
     requires { at ≤ 999999 }
 {
     let store = store_of(alloc, &graph, width, at)?;
-    let life = Life::start(alloc, &graph, toys(alloc)?, 0, 9)?;
-    let (scene, _permit) = Scene::new(graph, store, 7);
-    let picture = frame(alloc, &scene, &life, i64::from(at));
+    let (scene, permit) = Scene::new(graph, store, 7);
+    let mut core = empty_core(alloc, permit)?;
+    let life = Life::start(alloc, scene.graph(), toys(alloc)?, 0, 9)?;
+    let picture = frame(alloc, &scene, &life, &mut core, i64::from(at));
     life.finish();
-    picture
+    let (_, totals) = core.finish();
+    Ok((picture?, totals))
+}
+
+// A core that keeps nothing.
+fn empty_core(alloc: Global, permit: Permit) -> Result<Core<Key, Image>, Memory>
+    ensures { IfOk result IsIdle }
+{
+    match Core::new(alloc, permit, 0) {
+        Ok(core) => Ok(core),
+        Err((_, memory)) => Err(memory),
+    }
+}
+
+// Each render had a flight, which landed.
+fn counted(renders: u64) -> Totals {
+    Totals {
+        asks: renders,
+        hits: 0,
+        busies: 0,
+        flights: renders,
+        landed: renders,
+        dropped: 0,
+        evicted: 0,
+    }
 }
 
 fn told_pixel(alloc: Global, pixel: Pixel) -> Result<String, AllocError> {
@@ -188,12 +236,13 @@ fn told(alloc: Global, picture: &Image, columns: &[i64]) -> Result<String, Alloc
 #[test]
 fn pictures_show_the_output(rt: HostRuntime) -> Result<(), Fail> {
     let alloc = rt.alloc();
-    for (source, effects, depth, format, at, expected) in CASES {
+    for (source, effects, depth, format, at, expected, renders) in CASES {
         let graph = graph_of(alloc, 2, depth, format, source, effects)
             .ok()
             .ok_or("refused")?;
-        let picture = picture_of(alloc, graph, 1, (*at).min(9))?;
+        let (picture, totals) = picture_of(alloc, graph, 1, (*at).min(9))?;
         assert_eq!(rt; told(alloc, &picture, &[0, 1])?.as_str(), *expected);
+        assert_eq!(rt; totals, counted(*renders));
     }
     Ok(())
 }
@@ -204,9 +253,11 @@ fn a_wide_region_is_made_in_pieces(rt: HostRuntime) -> Result<(), Fail> {
     let graph = graph_of(alloc, 4100, "byte", "RGB", BLACK, TWICE)
         .ok()
         .ok_or("refused")?;
-    let picture = picture_of(alloc, graph, 4100, 5)?;
+    let (picture, totals) = picture_of(alloc, graph, 4100, 5)?;
     let expected = "16400 bytes: 3 0 0 105, 3 255 0 105, 3 255 15 105, 3 0 16 105, 3 3 16 105, ";
     let columns = [0, 255, 4095, 4096, 4099];
     assert_eq!(rt; told(alloc, &picture, &columns)?.as_str(), expected);
+    // Three times two pieces.
+    assert_eq!(rt; totals, counted(6));
     Ok(())
 }

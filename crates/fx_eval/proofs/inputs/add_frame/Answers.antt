@@ -1,7 +1,10 @@
 use Rattle.std.proofs.Common.{rules, refl, ◌∙◌, sym, ap, w64, List, [], ◌++◌, map}
 use Rattle.std.proofs.lemmas.Int.{to_z-of_z}
 use Rattle.std.proofs.lemmas.Result.{on_ok_weaker}
+use Rattle.std.specs.Arc.{arc_value}
 use Rattle.std.specs.Option.{option_copied, option_map}
+use Rattle.std.specs.declared.alloc.Global.{Global}
+use Rattle.std.specs.declared.sync.Arc.{Arc}
 use mir.Val.{SFits}
 use Rattle.fx_image.specs.Stored.{Stored, image_of}
 use Rattle.fx_graph.specs.Shown.{does_of, shown}
@@ -66,4 +69,4 @@ returns-in-Effect g c node is =
     let stands = node_is m (graph_shown graph) (images_in site.store.now) c.args.m n _ there (ap does_of e.is) in
     let right = c.requires.whole c.args.m c.args.f c.made_of.result.now (simp to_z-of_z at c.made_of.ensures) in
     on_ok_weaker c.add_images.result (λ made. images_add nodes node c.args.c c.args.m c.args.f _ c.made_of.result.now c.args.inputs.now c.add_images.new.inputs is stands right
-    (made ∙ ap (λ (images : List Stored). record c.args.inputs.now { pieces = c.args.inputs.now.pieces ++ map (piece_of c.args.c c.args.f []) images }) c.as_slice-images.ensures.value)) (simp to_z-of_z at c.add_images.ensures)
+    (made ∙ ap (λ (images : List (Arc Stored Global)). record c.args.inputs.now { pieces = c.args.inputs.now.pieces ++ map (piece_of c.args.c c.args.f []) (map arc_value images) }) c.as_slice-images.ensures.value)) (simp to_z-of_z at c.add_images.ensures)

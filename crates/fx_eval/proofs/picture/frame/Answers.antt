@@ -9,8 +9,11 @@ use Rattle.fx_graph.specs.Shown.{GraphShown, shown}
 use Rattle.fx_scene.specs.Scenes.{graph_nodes, graph_shown, images_in, no_images, picture}
 use Rattle.fx_scene.proofs.NodesLemmas.{are_nodes}
 use Rattle.fx_scene.proofs.StoreLemmas.{store_images}
+use Rattle.fx_scene.specs.Reach.{has}
 use Rattle.fx_eval.specs.Sites.{HasLife}
+use Rattle.fx_eval.specs.Renders.{HasRendered}
 use Rattle.fx_eval.proofs.OrderLemmas.{reach_order, reads_same, unread_output}
+use Rattle.fx_eval.proofs.RenderLemmas.{reach_same}
 use Rattle.fx_eval.proofs.picture.frame.Goals as goal
 
 pub wholes-requires-clause-site : goal.wholes-requires-clause-site
@@ -22,6 +25,7 @@ wholes-requires-clause-site g c =
     let long = length-map graph.nodes.items shown in
     let bound = g.met.E.ImageEffect in
     record {
+      scene = sym c.graph.ensures.shown;
       nodes = are_nodes m graph.project (graph.depth, graph.components) (graph_shown graph).nodes (images_in store) bound.laws graph.extent (omega (arith, few, long))
           (store_images store store.sound) graph.kept;
       life = subst (λ (s : GraphShown _). HasLife g.E.Catalogue.number_of s c.args.life.now) (sym c.graph.ensures.shown) c.requires.life;
@@ -47,6 +51,7 @@ show-requires-clause-site g c =
     let long = length-map graph.nodes.items shown in
     let bound = g.met.E.ImageEffect in
     record {
+      scene = sym c.graph.ensures.shown;
       nodes = are_nodes m graph.project (graph.depth, graph.components) (graph_shown graph).nodes (images_in store) bound.laws graph.extent (omega (arith, few, long))
           (store_images store store.sound) graph.kept;
       life = subst (λ (s : GraphShown _). HasLife g.E.Catalogue.number_of s c.args.life.now) (sym c.graph.ensures.shown) c.requires.life;
@@ -65,11 +70,29 @@ show-requires-clause-made g c =
     (λ n u there r. unread_output (graph_nodes m shown no_images) (graph_nodes m shown (images_in c.store.result.now)) graph.output t t moments
     site.nodes (λ k v j f. reads_same m shown no_images (images_in c.store.result.now) k v j f) least n u there t r)
 
-pub returns : goal.returns
-returns g c =
+pub returns-clause-picture : goal.returns-clause-picture
+returns-clause-picture g c =
     let m = g.E.ImageEffect.meaning in
     let fits : SFits w64 c.args.frame = c.ranges.frame in
     let image = image_of c.show.new.image in
     let same = simp to_z-of_z at c.in_ok-show.ensures in
     subst (λ (s : GraphShown _). SameImage image (picture m s (images_in c.args.scene.now.store) c.args.frame)) c.graph.ensures.shown
     (subst (λ (s : Store). SameImage image (picture m (graph_shown c.graph.result.now) (images_in s) c.args.frame)) c.store.ensures same)
+
+pub returns-clause-renders : goal.returns-clause-renders
+returns-clause-renders g c =
+    let m = g.E.ImageEffect.meaning in
+    let graph = c.graph.result.now in
+    let shown = graph_shown graph in
+    let images = images_in c.store.result.now in
+    let fits : SFits w64 c.args.frame = c.ranges.frame in
+    let least = simp to_z-of_z at c.in_ok-moments.ensures.least in
+    let rendered : HasRendered (graph_nodes m shown images) graph.output c.args.frame c.args.core.now c.wholes.new.core = record {
+      moments = c.in_ok-moments.moments;
+      once = c.in_ok-made.ensures.once;
+      reached = reach_same (graph_nodes m shown no_images) (graph_nodes m shown images) graph.output c.args.frame c.args.frame (has c.in_ok-moments.moments)
+          (λ n t k f. reads_same m shown no_images images n t k f) (λ n t k f. reads_same m shown images no_images n t k f) least;
+      core = c.in_ok-made.ensures.lands;
+    } in
+    subst (λ (s : GraphShown _). HasRendered (graph_nodes m s (images_in c.args.scene.now.store)) s.output c.args.frame c.args.core.now c.wholes.new.core) c.graph.ensures.shown
+    (subst (λ (s : Store). HasRendered (graph_nodes m shown (images_in s)) graph.output c.args.frame c.args.core.now c.wholes.new.core) c.store.ensures rendered)

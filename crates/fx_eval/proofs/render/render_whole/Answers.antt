@@ -6,14 +6,14 @@ use Rattle.fx_eval.specs.Filled.{IsFilled}
 use Rattle.fx_eval.proofs.WholeLemmas.{written_filled}
 use Rattle.fx_eval.proofs.render.render_whole.Goals as goal
 
-pub returns : goal.returns
-returns g c effect plays =
+pub returns-clause-filled : goal.returns-clause-filled
+returns-clause-filled g c effect plays =
     let image = c.args.image.now in
     let f = rendered (g.E.ImageEffect.meaning effect) c.args.values.now c.args.inputs.now in
     let is = c.part-part.ensures.value in
     let part = c.part-part.result.image.now in
-    on_ok_weaker c.render-outcome.result (λ written.
+    on_ok_weaker c.render.result (λ written.
     subst (λ (t : Stored). IsFilled image t (f image.depth image.components)) (search rules)
-    (subst (λ (s : Stored). IsFilled image c.render-outcome.new.out.image.now (f s.depth s.components)) is
-    (written_filled image c.part-part.result c.render-outcome.new.out (f part.depth part.components) is (c.part-part.ensures.rect ∙ c.rect.ensures) written)))
-    (c.render-outcome.ensures.ok effect plays)
+    (subst (λ (s : Stored). IsFilled image c.render.new.out.image.now (f s.depth s.components)) is
+    (written_filled image c.part-part.result c.render.new.out (f part.depth part.components) is (c.part-part.ensures.rect ∙ c.rect.ensures) written)))
+    (c.render.ensures.ok effect plays)

@@ -1,5 +1,6 @@
-use Rattle.std.proofs.Common.{◌∙◌, ap, sym, subst, w64, ℤ, List, map}
+use Rattle.std.proofs.Common.{rules, ◌∙◌, ap, sym, subst, w64, ℤ, List, map}
 use Rattle.std.proofs.lemmas.Int.{to_z-of_z}
+use Rattle.std.specs.Arc.{arc_value}
 use mir.Val.{SFits}
 use Rattle.fx_base.specs.Bounds.{Bounds}
 use Rattle.fx_effect.specs.Asked.{AreRegions, IsWindow}
@@ -16,6 +17,8 @@ use Rattle.fx_eval.specs.Wholes.{IsReady}
 use Rattle.fx_eval.specs.Filled.{AreWindows}
 use Rattle.fx_eval.specs.Inputs.{AreReads}
 use Rattle.fx_eval.proofs.EffectLemmas.{are_reads, effect_is, has_names, is_effect, is_use, sees}
+use Rattle.fx_eval.proofs.FlightLemmas.{drops_none, on_err}
+use Rattle.fx_eval.proofs.RenderLemmas.{effect_renders}
 use Rattle.fx_eval.proofs.WholeLemmas.{effect_area, windows_whole}
 use Rattle.fx_eval.proofs.whole.effect_whole.Goals as goal
 
@@ -89,19 +92,20 @@ inputs_of-requires-clause-reads g c =
     (are_reads m (graph_shown graph) (graph.depth, graph.components) graph.kept node c.requires.there c.args.frame c.in_ok-values.values c.as_slice-frames.result.now values
     (ap (map (items_of {A = ℤ})) c.as_slice-frames.ensures.value ∙ c.in_ok-reads.ensures))
 
-pub images_of-requires-clause-near : goal.images_of-requires-clause-near
-images_of-requires-clause-near g c =
-    let fits : SFits w64 c.args.frame = c.ranges.frame in
-    let values = simp to_z-of_z at c.in_ok-values.ensures in
-    subst (λ (t : ℤ). IsNearFrame c.args.node.now.place t) (sym (ap (λ (v : Values). v.frame) values)) c.requires.near
-
-pub images_of-requires-clause-values : goal.images_of-requires-clause-values
-images_of-requires-clause-values g c =
+pub images_of-requires-clause-asked : goal.images_of-requires-clause-asked
+images_of-requires-clause-asked g c =
     let node = c.args.node.now in
     let project = c.args.site.now.graph.now.project in
     let fits : SFits w64 c.args.frame = c.ranges.frame in
     let values = simp to_z-of_z at c.in_ok-values.ensures in
-    values ∙ ap (λ (t : ℤ). use_values project t node.clips.now node.params.now) (sym (ap (λ (v : Values). v.frame) values))
+    record {
+      of_site = c.requires.site;
+      there = c.requires.there;
+      near = subst (λ (t : ℤ). IsNearFrame c.args.node.now.place t) (sym (ap (λ (v : Values). v.frame) values)) c.requires.near;
+      values = values ∙ ap (λ (t : ℤ). use_values project t node.clips.now node.params.now) (sym (ap (λ (v : Values). v.frame) values));
+      depth = search rules;
+      components = search rules;
+    }
 
 pub images_of-requires-clause-area : goal.images_of-requires-clause-area
 images_of-requires-clause-area g c =
@@ -120,8 +124,8 @@ images_of-requires-clause-area g c =
     ∙ ap (o.meaning.rod o.context (o.values c.args.frame)) (c.as_slice.ensures.value ∙ areas) ∙ effect_area nodes ok node.place o stands c.args.frame in
     subst IsWindow (sym is) (area_window nodes ok node.place c.args.frame i.few)
 
-pub returns : goal.returns
-returns g c =
+pub returns-clause-whole : goal.returns-clause-whole
+returns-clause-whole g c =
     let site = c.args.site.now in
     let graph = site.graph.now in
     let node = c.args.node.now in
@@ -136,6 +140,38 @@ returns g c =
     let is = c.in_ok-area.ensures ∙ ap (λ (v : Values). o.meaning.rod o.context v c.as_slice.result.now) values
     ∙ ap (o.meaning.rod o.context (o.values c.args.frame)) (c.as_slice.ensures.value ∙ areas) ∙ effect_area nodes ok node.place o stands c.args.frame in
     let adds = simp to_z-of_z at c.in_ok-inputs.ensures in
-    let windows = subst (λ (v : Values). AreWindows (m node.effect.now) v c.in_ok-inputs.inputs node.depth node.components c.in_ok-area.area c.in_ok-images.images.items) values c.in_ok-images.ensures in
+    let windows = subst (λ (v : Values). AreWindows (m node.effect.now) v c.in_ok-inputs.inputs node.depth node.components c.in_ok-area.area (map arc_value c.in_ok-images.images.items)) values c.in_ok-images.ensures.windows in
     windows_whole nodes ok node.place o stands c.args.frame (map (seen_in node.components) node.masks.now) c.in_ok-inputs.inputs _ adds
     (sees m (graph_shown graph) (graph.depth, graph.components) graph.kept node c.requires.there) is windows
+
+pub returns-clause-lands : goal.returns-clause-lands
+returns-clause-lands g c =
+    let site = c.args.site.now in
+    let graph = site.graph.now in
+    let node = c.args.node.now in
+    let m = g.E.ImageEffect.meaning in
+    let nodes = site_nodes m site in
+    let ok = c.requires.site.nodes in
+    let o = effect_at m graph.project node in
+    let fits : SFits w64 c.args.frame = c.ranges.frame in
+    let values = simp to_z-of_z at c.in_ok-values.ensures in
+    let areas = simp to_z-of_z at (c.in_ok-areas.ensures nodes c.requires.whole) in
+    let stands = effect_is m (graph_shown graph) (images_in site.store.now) node c.requires.there in
+    let is = c.in_ok-area.ensures ∙ ap (λ (v : Values). o.meaning.rod o.context v c.as_slice.result.now) values
+    ∙ ap (o.meaning.rod o.context (o.values c.args.frame)) (c.as_slice.ensures.value ∙ areas) ∙ effect_area nodes ok node.place o stands c.args.frame in
+    effect_renders nodes node.place c.args.frame o c.in_ok-area.area c.args.core.now c.images_of.new.core stands is c.in_ok-images.ensures.lands
+
+pub returns-in_err-values-clause-drops : goal.returns-in_err-values-clause-drops
+returns-in_err-values-clause-drops g c = on_err c.from_residual.result (drops_none c.args.core.now)
+
+pub returns-in_err-reads-clause-drops : goal.returns-in_err-reads-clause-drops
+returns-in_err-reads-clause-drops g c = on_err c.from_residual-in_err-reads.result (drops_none c.args.core.now)
+
+pub returns-in_err-areas-clause-drops : goal.returns-in_err-areas-clause-drops
+returns-in_err-areas-clause-drops g c = on_err c.from_residual-in_err-areas.result (drops_none c.args.core.now)
+
+pub returns-in_err-area-clause-drops : goal.returns-in_err-area-clause-drops
+returns-in_err-area-clause-drops g c = on_err c.from_residual-in_err-area.result (drops_none c.args.core.now)
+
+pub returns-in_err-inputs-clause-drops : goal.returns-in_err-inputs-clause-drops
+returns-in_err-inputs-clause-drops g c = on_err c.from_residual-in_err-inputs.result (drops_none c.args.core.now)

@@ -14,6 +14,7 @@ use Rattle.fx_eval.specs.Wholes.{IsReady, IsWhole}
 use Rattle.fx_eval.specs.declared.whole.Whole.{Whole}
 use Rattle.fx_eval.proofs.EffectLemmas.{effect_is}
 use Rattle.fx_eval.proofs.SourceLemmas.{shown_area, source_is}
+use Rattle.fx_eval.proofs.RenderLemmas.{source_renders}
 use Rattle.fx_eval.proofs.WholeLemmas.{source_whole}
 use Rattle.fx_eval.proofs.whole.whole_of.Goals as goal
 
@@ -25,8 +26,8 @@ area_shown-requires g c =
     (source_at g.E.ImageEffect.meaning (graph.depth, graph.components) (map shown graph.nodes.items) c.args.moment.node (shown c.index-node.result.now) e.pattern e.first e.last e.hold
     graph.kept there (ap does_of e.is)).frames.order
 
-pub returns-in-Source : goal.returns-in-Source
-returns-in-Source g c =
+pub returns-in-Source-clause-whole : goal.returns-in-Source-clause-whole
+returns-in-Source-clause-whole g c =
     let site = c.args.site.now in
     let graph = site.graph.now in
     let m = g.E.ImageEffect.meaning in
@@ -72,7 +73,24 @@ effect_whole-requires-clause-ready g c =
     subst (λ (node : Node). IsReady node (to_z w64 (of_z w64 c.args.moment.frame)) made) stands
     (subst (λ (t : ℤ). IsReady (site_nodes m site c.args.moment.node) t made) (sym (to_z-of_z w64 _ fits)) c.requires.ready)
 
-pub returns-in-Effect : goal.returns-in-Effect
-returns-in-Effect g c =
+pub returns-in-Effect-clause-whole : goal.returns-in-Effect-clause-whole
+returns-in-Effect-clause-whole g c =
     let fits : SFits w64 c.args.moment.frame = search rules in
-    simp to_z-of_z at c.effect_whole.ensures
+    simp to_z-of_z at c.effect_whole.ensures.whole
+
+pub returns-in-Effect-clause-lands : goal.returns-in-Effect-clause-lands
+returns-in-Effect-clause-lands g c =
+    let fits : SFits w64 c.args.moment.frame = search rules in
+    simp to_z-of_z at c.effect_whole.ensures.lands
+
+pub returns-in-Source-clause-lands : goal.returns-in-Source-clause-lands
+returns-in-Source-clause-lands g c =
+    let site = c.args.site.now in
+    let graph = site.graph.now in
+    let m = g.E.ImageEffect.meaning in
+    let e = c.in-Source in
+    let there = shown_at graph.nodes.items c.args.moment.node c.index-node.result.now c.requires.place.there (search rules) in
+    let n = shown c.index-node.result.now in
+    let s = source_node (images_in site.store.now c.args.moment.node) n.depth n.components e.first e.last e.hold in
+    let stands = source_is m (graph_shown graph) (images_in site.store.now) c.args.moment.node n e.pattern e.first e.last e.hold there (ap does_of e.is) in
+    source_renders (site_nodes m site) c.args.moment.node c.args.moment.frame s c.args.core.now stands

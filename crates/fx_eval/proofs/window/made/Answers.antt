@@ -1,0 +1,47 @@
+use Rattle.std.proofs.Common.{◌≡◌, ◌≤◌, ◌*◌, sym, subst, rules, arith}
+use Rattle.std.proofs.Math.Nat.{mul-le-mul_right}
+use Rattle.std.proofs.lemmas.Int.{ints}
+use Rattle.fx_base.specs.Rect.{rows}
+use Rattle.fx_image.specs.Stored.{Stored}
+use Rattle.fx_scene.specs.Scenes.{graph_shown, images_in}
+use Rattle.fx_eval.specs.Filled.{IsWindowOf}
+use Rattle.fx_eval.proofs.EffectLemmas.{has_instance, may_render}
+use Rattle.fx_eval.proofs.WholeLemmas.{filled_window}
+use Rattle.fx_eval.proofs.window.made.Goals as goal
+
+pub new-requires-clause-small : goal.new-requires-clause-small
+new-requires-clause-small g c =
+    let bytes = c.row_bytes_of-row_bytes.result in
+    let many : rows c.args.region * bytes ≤ 4096 * bytes = mul-le-mul_right bytes c.requires.region.high in
+    let small : bytes ≤ 32768 = c.row_bytes_of-row_bytes.ensures.small in
+    omega (arith, many, small)
+
+pub render_whole-requires-clause-frame : goal.render_whole-requires-clause-frame
+render_whole-requires-clause-frame g c =
+    let low = c.requires.asked.near.low in let high = c.requires.asked.near.high in
+    (omega (arith, ints), omega (arith, ints))
+
+pub render_whole-requires-clause-may : goal.render_whole-requires-clause-may
+render_whole-requires-clause-may g c =
+    let site = c.args.site.now in
+    let node = c.args.node.now in
+    let graph = site.graph.now in
+    let shown = graph_shown graph in
+    let depth : c.in_ok-image.image.depth ≡ node.depth = search rules in
+    let samples : c.in_ok-image.image.components ≡ node.components = search rules in
+    rw (depth, samples) (record {
+      effect = node.effect.now;
+      plays = has_instance g.E.ImageEffect.meaning shown g.E.Catalogue.number_of site.life.now c.requires.asked.of_site.life node c.requires.asked.there;
+      may = may_render g.E.ImageEffect.meaning shown (graph.depth, graph.components) graph.kept (images_in site.store.now) c.requires.asked.of_site.nodes node c.requires.asked.there
+          c.args.values.now c.args.inputs.now c.requires.asked.values c.requires.asked.depth c.requires.asked.components;
+    })
+
+pub returns-clause-window : goal.returns-clause-window
+returns-clause-window g c =
+    let site = c.args.site.now in
+    let node = c.args.node.now in
+    let plays = has_instance g.E.ImageEffect.meaning (graph_shown site.graph.now) g.E.Catalogue.number_of site.life.now c.requires.asked.of_site.life node c.requires.asked.there in
+    let is : c.in_ok-new.field-0.value ≡ c.render_whole.new.image = search rules in
+    subst (λ (t : Stored). IsWindowOf (g.E.ImageEffect.meaning node.effect.now) c.args.values.now c.args.inputs.now node.depth node.components c.args.region t) (sym is)
+    (filled_window c.in_ok-image.image c.render_whole.new.image (g.E.ImageEffect.meaning node.effect.now) c.args.values.now c.args.inputs.now node.depth node.components c.args.region
+    c.in_ok-image.ensures.rect c.in_ok-image.ensures.depth c.in_ok-image.ensures.components (c.in_ok-render_whole.ensures.filled node.effect.now plays))
