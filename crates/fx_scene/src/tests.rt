@@ -1,7 +1,7 @@
 //! Graphs whose reached moments and wanted frames are worked by hand, and the parts of a scene.
 use crate::laws::{scene_nodes, value_depends_on_reach, value_is_mix, zero_outside_area};
 use crate::toy::Toy;
-use crate::{Key, Moment, Scene, reach, shown_frame, wants};
+use crate::{Key, Moment, Scene, reach, reads_of, shown_frame, wants};
 use fx_base::{Memory, Rect};
 use fx_core::Permit;
 use fx_effect::{Flags, Numbers, Values};
@@ -10,7 +10,7 @@ use fx_outside::SureLibrary;
 use fx_seq::{Store, Wanted};
 use fx_text::{GraphFault, read_graph};
 use std::alloc::{AllocError, Global};
-use std::collections::HashSet;
+use std::collections::{BTreeSet, HashSet};
 use std::sync::Arc;
 use std::test::Fail;
 
@@ -40,6 +40,10 @@ const OTHER: &str =
 
 const APART: &str =
     r#",{"name":"u","source":"u.pam","first":4,"last":4},{"name":"z","effect":"around","context":"general","clips":{"A":"u"}}"#;
+
+// An effect over the source whose parameter goes from 0 at frame 0 to 5 at frame 10.
+const KEYED: &str =
+    r#",{"name":"z","effect":"around","context":"general","clips":{"A":"s"},"params":{"ahead":{"keys":[[0,0],[10,5]]}}}"#;
 
 // The graph of these nodes, whose output is the node z.
 fn graph_of(alloc: Global, source: &str, effects: &str) -> Result<Graph<Toy>, GraphFault> {
@@ -169,6 +173,62 @@ fn what_is_reached_stands_by_node_and_frame(rt: HostRuntime) -> Result<(), Fail>
     Ok(())
 }
 
+// An effect over two sources, and one of which no clip B is connected.
+const ON_TWO: &str =
+    r#",{"name":"u","source":"u.pam","first":4,"last":4},{"name":"z","effect":"around","context":"general","clips":{"A":"s","B":"u"}}"#;
+
+// The source's effects, the node that reads, its frame, and what it reads: node and frame of each.
+const READS: &[(&str, u32, i64, &str)] = &[
+    // Two clips at three frames each, by node.
+    (ON_TWO, 2, 4, "0 3, 0 4, 0 5, 1 3, 1 4, 1 5, "),
+    (ON_TWO, 2, 0, "0 -1, 0 0, 0 1, 1 -1, 1 0, 1 1, "),
+    // A clip that is not connected.
+    (OVER, 1, 4, "0 3, 0 4, 0 5, "),
+    // The same node on both clips is read once.
+    (DIAMOND, 1, 7, "0 6, 0 7, 0 8, "),
+    (DIAMOND, 2, 7, "1 6, 1 7, 1 8, "),
+    // A parameter that is 0 at frame 0, 2 at frame 4 and 5 from frame 10 on.
+    (KEYED, 1, 0, "0 -1, 0 0, 0 1, "),
+    (KEYED, 1, 4, "0 5, 0 6, 0 7, "),
+    (KEYED, 1, 12, "0 16, 0 17, 0 18, "),
+    // A source.
+    (ON_TWO, 0, 4, ""),
+];
+
+// What a node of the graph reads at a frame from -9 to 99.
+fn read_by(
+    alloc: Global,
+    graph: &Graph<Toy>,
+    node: u32,
+    frame: i64,
+) -> Result<BTreeSet<Moment>, Memory> {
+    if node as usize >= graph.nodes.len() || frame < -9 || 99 < frame {
+        return Err(Memory);
+    }
+    reads_of(alloc, graph, Moment { node, frame })
+}
+
+fn told_moments(alloc: Global, moments: &BTreeSet<Moment>) -> Result<String, AllocError> {
+    let mut text = String::new(alloc);
+    for moment in moments {
+        let (node, frame) = (moment.node, moment.frame);
+        let one = format!(in alloc; "{node} {frame}, ")?;
+        text.push_str(one.as_str())?;
+    }
+    Ok(text)
+}
+
+#[test]
+fn a_node_reads_its_clips(rt: HostRuntime) -> Result<(), Fail> {
+    let alloc = rt.alloc();
+    for (effects, node, frame, expected) in READS {
+        let graph = graph_of(alloc, BLACK, effects).ok().ok_or("refused")?;
+        let reads = read_by(alloc, &graph, *node, *frame)?;
+        assert_eq!(rt; told_moments(alloc, &reads)?.as_str(), *expected);
+    }
+    Ok(())
+}
+
 // A source, and 63 effects, each over the node before it on both clips: 2 to the 63rd ways lead to the source.
 fn deep_diamond(alloc: Global) -> Result<String, AllocError> {
     let mut nodes = String::new(alloc);
@@ -202,10 +262,6 @@ fn a_deep_diamond_is_reached_by_its_edges(rt: HostRuntime) -> Result<(), Fail> {
     assert_eq!(rt; wanted[126].frame, 363);
     Ok(())
 }
-
-// An effect over the source whose parameter goes from 0 at frame 0 to 5 at frame 10.
-const KEYED: &str =
-    r#",{"name":"z","effect":"around","context":"general","clips":{"A":"s"},"params":{"count":{"keys":[[0,0],[10,5]]}}}"#;
 
 const PROJECT: Rect = Rect {
     x1: 0,

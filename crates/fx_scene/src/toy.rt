@@ -1,7 +1,9 @@
 //! The effect of the tests, and the catalogue that has it alone.
 ghost use Rattle.std.specs.Prelude.{◌≡◌, [], codes, Some, None, IfOk, OnOk, if◌then◌else◌, refl};
 ghost use Rattle.std.specs.Str.{bytes_eq};
-ghost use Rattle.fx_scene.specs.Toy.{toy, toy_laws, toy_name, few_toys};
+ghost use Rattle.fx_base.specs.Rect.{IsFrame};
+ghost use Rattle.fx_effect.specs.Shape.{IsLawful};
+ghost use Rattle.fx_scene.specs.Toy.{toy, toy_laws, toy_name, toy_shape, few_toys, centre};
 
 use fx_base::{Memory, Rect};
 use fx_core::Ticket;
@@ -15,8 +17,8 @@ use fx_pixel::{Components, Depth};
 use fx_props::{PropSet, write_frames};
 use std::alloc::Global;
 
-/// Zero everywhere. It has a clip A, an optional clip B, and a parameter, and asks both clips for its own
-/// frame, the one before and the one behind.
+/// Zero everywhere. It has a clip A, an optional clip B, and a parameter, and asks both clips for the frame that is so
+/// many ahead of its own, the one before that and the one behind it.
 #[derive(Clone, Copy, Drop)]
 pub struct Toy;
 
@@ -49,7 +51,7 @@ impl ImageEffect for Toy {
     ) -> Result<Reply, Memory> {
         clips.push(clip_set(alloc, "A", false, ALL)?)?;
         clips.push(clip_set(alloc, "B", true, ALL)?)?;
-        params.push(ParamDef::int(alloc, "count", -5, 5, 1)?)?;
+        params.push(ParamDef::int(alloc, "ahead", -5, 5, 0)?)?;
         Ok(Reply::Ok)
     }
 
@@ -81,7 +83,7 @@ impl ImageEffect for Toy {
         _in_args: &PropSet,
         out_args: &mut PropSet,
     ) -> Result<Reply, Memory> {
-        let t = values.frame;
+        let t = centre(values);
         let spans = [(t, t + 1), (t - 1, t)];
         write_frames(alloc, out_args, &["A", "B"], &[&spans, &spans])?;
         Ok(Reply::Ok)
@@ -103,6 +105,15 @@ impl ImageEffect for Toy {
     ) -> Result<(), Memory> {
         Err(Memory)
     }
+}
+
+// The frame round which it reads.
+fn centre(values: &Values) -> i64
+    requires frame { IsFrame values.now.frame }
+    requires lawful { IsLawful toy_shape values.now }
+    ensures { result ≡ centre values.now }
+{
+    values.frame + values.number(0)
 }
 
 impl Catalogue for Toy {
