@@ -5,6 +5,7 @@ ghost use Rattle.fx_outside.specs.Outside.{SameFiles};
 ghost use Rattle.fx_seq.specs.Filling.{IsQuiet};
 ghost use Rattle.fx_scene.specs.Scenes.{graph_shown, images_in};
 ghost use Rattle.fx_shipped.specs.Shipped.{number_of};
+ghost use Rattle.fx_eval.specs.Flights.{IsIdle};
 ghost use Rattle.fx_eval.specs.Sites.{HasLife};
 ghost use Rattle.fx_app.specs.Graphs.{frame_count};
 ghost use Rattle.fx_app.specs.Files.{file_name, file_text, with_file, HasGained};
@@ -12,12 +13,14 @@ ghost use Rattle.fx_app.specs.Steps.{put_fault, FilePut, FilesPut, LeavesFile, L
 
 use crate::effects::all_effects;
 use fx_base::{Memory, Name};
+use fx_core::Core;
 use fx_eval::frame;
 use fx_graph::Graph;
+use fx_image::Image;
 use fx_life::Life;
 use fx_outside::{Depot, PutFault};
 use fx_pam::write;
-use fx_scene::Scene;
+use fx_scene::{Key, Scene};
 use fx_seq::Store;
 use fx_shipped::Shipped;
 use fx_words::RunFault;
@@ -54,8 +57,8 @@ impl From<PutFailure> for RunFault {
 }
 
 /// Takes the effects of the program through their order of life, and renders and puts each frame from the
-/// first to the last meanwhile. Every sequence is ended and every instance destroyed, whatever failed. With no
-/// frame there is no sequence.
+/// first to the last meanwhile. Every sequence is ended and every instance destroyed, whatever failed, and no flight
+/// stands then in the core that lends the renders' tickets. With no frame there is no sequence.
 pub(crate) fn put_frames<D: Depot>(
     alloc: Global,
     graph: Graph<Shipped>,
@@ -78,10 +81,15 @@ pub(crate) fn put_frames<D: Depot>(
     if last < first {
         return Ok(());
     }
-    let (scene, _permit) = Scene::new(graph, store, 0);
+    let (scene, permit) = Scene::new(graph, store, 0);
+    let mut core = match Core::new(alloc, permit, 0) {
+        Ok(core) => core,
+        Err(_) => return Err(PutFailure::Memory),
+    };
     let life = Life::start(alloc, scene.graph(), all_effects(alloc)?, first, last)?;
-    let put = put_each(alloc, &scene, &life, first, last, depot);
+    let put = put_each(alloc, &scene, &life, &mut core, first, last, depot);
     life.finish();
+    core.finish();
     put
 }
 
@@ -89,11 +97,13 @@ fn put_each<D: Depot>(
     alloc: Global,
     scene: &Scene<Shipped>,
     life: &Life<Shipped>,
+    core: &mut Core<Key, Image>,
     first: u32,
     last: u32,
     depot: &mut D,
 ) -> Result<(), PutFailure>
     requires life { HasLife number_of scene.now.graph life.now }
+    requires idle { IsIdle core.old }
     requires order { first ≤ last }
     requires last { last ≤ LAST_FRAME }
     ensures ok { let images = images_in scene.now.store in let n = frame_count first last in
@@ -105,9 +115,10 @@ fn put_each<D: Depot>(
         D.tells → IfErr result (λ e. LeavesFiles scene.now.graph images first n e (D.file depot.old) (D.file depot.new)) }
     ensures quiet { let at = D.last depot.new in
         OnOk result (IsQuiet (D.faults depot.old) (D.faults depot.new) (D.last depot.old) at) }
+    ensures idle { IsIdle core.new }
 {
     for frame in first..last + 1 {
-        match put_frame(alloc, scene, life, frame, depot) {
+        match put_frame(alloc, scene, life, core, frame, depot) {
             Ok(()) => {}
             Err(failure) => return Err(failure),
         }
@@ -120,10 +131,12 @@ fn put_frame<D: Depot>(
     alloc: Global,
     scene: &Scene<Shipped>,
     life: &Life<Shipped>,
+    core: &mut Core<Key, Image>,
     frame: u32,
     depot: &mut D,
 ) -> Result<(), PutFailure>
     requires life { HasLife number_of scene.now.graph life.now }
+    requires idle { IsIdle core.old }
     requires frame { frame ≤ LAST_FRAME }
     ensures ok { let g = scene.now.graph in let text = file_text g (images_in scene.now.store) frame in
         D.tells → OnOk result (SameFiles (with_file (file_name g frame) text (D.file depot.old)) (D.file depot.new)) }
@@ -134,9 +147,10 @@ fn put_frame<D: Depot>(
     ensures quiet { let at = D.last depot.new in
         OnOk result (IsQuiet (D.faults depot.old) (D.faults depot.new) (D.last depot.old) at) }
     ensures later { D.faults depot.old ≤ D.faults depot.new }
+    ensures idle { IsIdle core.new }
 {
     let name = scene.graph().file.name(alloc, frame)?;
-    let text = text_of(alloc, scene, life, frame)?;
+    let text = text_of(alloc, scene, life, core, frame)?;
     match depot.put(alloc, name.text(), &text) {
         Ok(()) => Ok(()),
         Err(PutFault::Failed) => Err(PutFailure::Write(name)),
@@ -149,13 +163,16 @@ fn text_of(
     alloc: Global,
     scene: &Scene<Shipped>,
     life: &Life<Shipped>,
+    core: &mut Core<Key, Image>,
     number: u32,
 ) -> Result<Vec<u8>, Memory>
     requires life { HasLife number_of scene.now.graph life.now }
+    requires idle { IsIdle core.old }
     requires frame { number ≤ LAST_FRAME }
-    ensures { IfOk result (λ bytes. bytes.items ≡ file_text scene.now.graph (images_in scene.now.store) number) }
+    ensures idle { IsIdle core.new }
+    ensures text { IfOk result (λ bytes. bytes.items ≡ file_text scene.now.graph (images_in scene.now.store) number) }
 {
-    let image = frame(alloc, scene, life, i64::from(number))?;
+    let image = frame(alloc, scene, life, core, i64::from(number))?;
     let mut text = Vec::new(alloc);
     write(alloc, &image, scene.graph().format, &mut text)?;
     Ok(text)
