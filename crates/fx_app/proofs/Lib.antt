@@ -3,6 +3,9 @@ pub mod GraphLemmas
 pub mod EffectLemmas
 pub mod WantedLemmas
 pub mod FilesLemmas
+pub mod SplitFiles
+pub mod SplitImages
+pub mod SplitLemmas
 pub mod StepsLemmas
 pub mod MadeLemmas
 pub mod LengthLemmas

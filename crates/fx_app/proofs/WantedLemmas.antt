@@ -72,7 +72,7 @@ one_name_by project k d c (does.Source pattern first last hold) v w t same shows
 one_name_by project k d c (does.Effect e context clips names optional masks params) v w t same shows a b = absurd shows
 
 -- entries of one node's frame have one name
-one_name : (g : Graph) (v w : Wanted) (t : ℤ) → v.node ≡ w.node → v.frame ≡ w.frame
+pub one_name : (g : Graph) (v w : Wanted) (t : ℤ) → v.node ≡ w.node → v.frame ≡ w.frame
     → Shows (graph_nodes meaning_of g no_images v.node) t v.frame → IsNamedIn g v → IsNamedIn g w → v.name ≡ w.name
 one_name g v w t node frame shows a b = by_node (slice_get g.nodes v.node) refl
   where

@@ -2,6 +2,7 @@ pub mod Words
 pub mod Graphs
 pub mod Texts
 pub mod Files
+pub mod Split
 pub mod Run
 pub mod Check
 pub mod Bench

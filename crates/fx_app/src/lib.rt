@@ -8,6 +8,7 @@ mod bench;
 mod effects;
 mod frames;
 mod graph;
+pub mod laws;
 mod order;
 mod report;
 mod sources;

@@ -1,0 +1,265 @@
+-- A range of frames that is rendered in pieces.
+use Rattle.std.proofs.Common.{◌≡◌, ◌≤◌, inl, inr, ◌⊎◌, ℕ, ℤ, pos, negsuc, ◌≤ℤ◌, Bool, true, false, nat_eq, List, [], ◌∷◌, Option, Some, refl, sym, ap, subst, ◌∙◌, arith}
+use Rattle.std.specs.Ordering.{int_eq}
+use Rattle.std.proofs.lemmas.Bool.{and_parts, false≢true}
+use Rattle.std.proofs.lemmas.Bool.Decides.{nat_tests, Decides-int_eq}
+use Rattle.std.proofs.lemmas.Int.{ints}
+use Rattle.std.proofs.lemmas.List.Elements.{All-contains}
+use Rattle.std.proofs.lemmas.Option.{none-some, same_Some}
+use Rattle.std.specs.Prelude.{IsTrue}
+use Rattle.fx_base.specs.Pattern.{is_pattern, runs}
+use Rattle.fx_graph.specs.Graphs.{is_output}
+use Rattle.fx_base.specs.declared.limits.TheConstants.{LAST_FRAME}
+use Rattle.fx_base.proofs.PatternLaws.{name_of-apart}
+use Rattle.fx_outside.specs.Outside.{Files, SameFiles}
+use Rattle.fx_image.specs.Image.{Image}
+use Rattle.fx_pam.specs.Text.{pam_text}
+use Rattle.fx_pam.specs.Reading.{IsPam}
+use Rattle.fx_seq.specs.declared.wanted.Wanted.{Wanted}
+use Rattle.fx_scene.specs.Depends as scene
+use Rattle.fx_scene.specs.Depends.{PicturesDependOnWanted}
+use Rattle.fx_scene.specs.Nodes.{IsFrameImage, Nodes}
+use Rattle.fx_scene.specs.Reach.{IsReached}
+use Rattle.fx_scene.specs.Scenes.{Images, graph_nodes, no_images}
+use Rattle.fx_scene.specs.Wants.{IsNamedIn, IsWanted, Lists}
+use Rattle.fx_scene.proofs.Members.{In, in_of}
+use Rattle.fx_scene.proofs.WantLemmas.{contains_of}
+use Rattle.fx_shipped.specs.Shipped.{meaning_of}
+use Rattle.fx_app.specs.Graphs.{Graph, frame_count}
+use Rattle.fx_app.specs.Files.{AreImages, IsFileOf, file_name, file_text}
+use Rattle.fx_app.specs.Split.{ArePieces, HasRun, HaveRun, IsIn, Piece, PiecesMakeWhole, PiecesWantNoMore}
+use Rattle.fx_app.specs.declared.graph.TheConstants.{GRAPH_SIDE}
+use Rattle.fx_app.proofs.SplitFiles.{IsOf, hit, miss, seek}
+use Rattle.fx_app.proofs.SplitImages.{frame_image, same_image}
+use Rattle.fx_app.proofs.WantedLemmas.{one_name}
+
+-- ---- what is wanted
+
+-- a whole number between two that are none below zero is none below zero
+natural : (a b : ℕ) (t : ℤ) → pos a ≤ℤ t → t ≤ℤ pos b → (k : ℕ) × (t ≡ pos k) × (a ≤ k) × (k ≤ b)
+natural a b (pos k) low high = (k, refl, omega (arith, ints, low), omega (arith, ints, high))
+natural a b (negsuc k) low high = absurd (omega (arith, ints, low))
+
+reached_more : (nodes : Nodes) (output : ℕ) (whole p : Piece) → ((t : ℕ) → IsIn p t → IsIn whole t) → (n : ℕ) (t : ℤ)
+    → IsReached nodes output (pos p.first) (pos p.last) n t → IsReached nodes output (pos whole.first) (pos whole.last) n t
+reached_more nodes output whole p inside n t reached s closed =
+    reached s (record { start = λ u low high. start u low high; reads = closed.reads })
+  where
+    start : (u : ℤ) → pos p.first ≤ℤ u → u ≤ℤ pos p.last → s output u ≡ true
+    start u low high =
+        let k = natural p.first p.last u low high in
+        let is = inside k.0 (record { from = k.2; to = k.3 }) in
+        let from = is.from in
+        let to = is.to in
+        let same = k.1 in
+        closed.start u (omega (arith, ints, same, from)) (omega (arith, ints, same, to))
+
+pub wanted_more : (nodes : Nodes) (output : ℕ) (whole p : Piece) → ((t : ℕ) → IsIn p t → IsIn whole t) → (n : ℕ) (f : ℤ)
+    → IsWanted nodes output (pos p.first) (pos p.last) n f → IsWanted nodes output (pos whole.first) (pos whole.last) n f
+wanted_more nodes output whole p inside n f wanted =
+    record { at = wanted.at; reached = reached_more nodes output whole p inside n wanted.at wanted.reached; shows = wanted.shows }
+
+pub want_no_more : (g : Graph) → PiecesWantNoMore g
+want_no_more g whole p wanted some inside all of w listed =
+    all.frames.all w.node w.frame (wanted_more (graph_nodes meaning_of g no_images) g.output whole p inside w.node w.frame (of.frames.only w listed))
+
+-- ---- whether a frame is listed
+
+int_same : (a b : ℤ) → int_eq a b ≡ true → a ≡ b
+int_same a b e = (Decides-int_eq a b).0 e
+
+int_other : (a b : ℤ) → int_eq a b ≡ false → a ≡ b → ⊥
+int_other a b e same = false≢true (sym e ∙ (Decides-int_eq a b).1 same)
+
+nat_same : (a b : ℕ) → nat_eq a b ≡ true → a ≡ b
+nat_same a b e = grind (arith, nat_tests)
+
+nat_other : (a b : ℕ) → nat_eq a b ≡ false → a ≡ b → ⊥
+nat_other a b e same = grind (arith, nat_tests)
+
+abbrev Listed : List Wanted → ℕ → ℤ → Type 0
+Listed ws n f = (w : Wanted) × In ws w × (w.node ≡ n) × (w.frame ≡ f)
+
+seek_entry : (ws : List Wanted) (n : ℕ) (f : ℤ) → Listed ws n f ⊎ (Listed ws n f → ⊥)
+seek_entry [] n f = inr (λ l. l.1)
+seek_entry (w ∷ ws) n f = by (nat_eq w.node n) (int_eq w.frame f) refl refl (seek_entry ws n f)
+  where
+    other_by : (node frame : Bool) → nat_eq w.node n ≡ node → int_eq w.frame f ≡ frame → Listed ws n f ⊎ (Listed ws n f → ⊥)
+        → (w.node ≡ n → w.frame ≡ f → ⊥) → Listed (w ∷ ws) n f ⊎ (Listed (w ∷ ws) n f → ⊥)
+    other_by node frame p q (inl l) other = inl (l.0, inr l.1, l.2, l.3)
+    other_by node frame p q (inr none) other =
+        inr (λ l. elim l.1 [
+          | inl e ↦ other (ap (λ (v : Wanted). v.node) e ∙ l.2) (ap (λ (v : Wanted). v.frame) e ∙ l.3)
+          | inr i ↦ none (l.0, i, l.2, l.3)
+        ])
+
+    by : (node frame : Bool) → nat_eq w.node n ≡ node → int_eq w.frame f ≡ frame → Listed ws n f ⊎ (Listed ws n f → ⊥)
+        → Listed (w ∷ ws) n f ⊎ (Listed (w ∷ ws) n f → ⊥)
+    by true true p q rest = inl (w, inl refl, nat_same w.node n p, int_same w.frame f q)
+    by true false p q rest = other_by true false p q rest (λ a b. int_other w.frame f q b)
+    by false frame p q rest = other_by false frame p q rest (λ a b. nat_other w.node n p a)
+
+lists_of : (ws : List Wanted) (n : ℕ) (f : ℤ) → Listed ws n f → Lists ws n f
+lists_of ws n f l = record { entry = l.0; listed = contains_of ws l.0 l.1; node = l.2; frame = l.3 }
+
+of_lists : (ws : List Wanted) (n : ℕ) (f : ℤ) → Lists ws n f → Listed ws n f
+of_lists ws n f l = (l.entry, in_of ws l.entry l.listed, l.node, l.frame)
+
+-- ---- the images of a run
+
+-- the image of a listed frame, and its file
+pub record HasFile (library : Files) (name : List ℕ) (o : Option Image) : Type 0 where
+  pub image : Image
+  pub is : o ≡ Some image
+  pub file : IsFileOf library name image
+
+has_file : (library : Files) (ws : List Wanted) (images : Images) → AreImages library ws images → (n : ℕ) (f : ℤ) (l : Lists ws n f)
+    → HasFile library l.entry.name (images n f)
+has_file library ws images are n f l =
+    let e = are.each l.entry l.listed in
+    record {
+      image = e.0;
+      is = sym (ap (λ k. images k l.entry.frame) l.node ∙ ap (images n) l.frame) ∙ e.1;
+      file = e.2;
+    }
+
+images_are : (library : Files) (ws : List Wanted) (images : Images) → AreImages library ws images → scene.AreImages images
+images_are library ws images are n f image is = by (seek_entry ws n f)
+  where
+    by : Listed ws n f ⊎ (Listed ws n f → ⊥) → IsFrameImage image
+    by (inl l) =
+        let has = has_file library ws images are n f (lists_of ws n f l) in
+        let same : has.image ≡ image = same_Some has.image image (sym has.is ∙ is) in
+        subst (λ (i : Image). IsFrameImage i) same (frame_image has.file.bytes GRAPH_SIDE has.image has.file.reads (omega arith))
+    by (inr none) = absurd (none-some image (sym (are.only n f (λ l. none (of_lists ws n f l))) ∙ is))
+
+-- one file gives both the same image
+same_file : (library : Files) (name other : List ℕ) (a b : Option Image) → name ≡ other → HasFile library name a → HasFile library other b
+    → scene.AreSame a b
+same_file library name other a b same p q =
+    let bytes : p.file.bytes ≡ q.file.bytes =
+    same_Some p.file.bytes q.file.bytes (sym p.file.told ∙ ap library same ∙ q.file.told) in
+    subst (λ (o : Option Image). scene.AreSame o b) (sym p.is)
+    (subst (λ (o : Option Image). scene.AreSame (Some p.image) o) (sym q.is)
+    (same_image q.file.bytes GRAPH_SIDE p.image q.image (subst (λ bs. IsPam bs GRAPH_SIDE p.image) bytes p.file.reads) q.file.reads))
+
+-- ---- runs over pieces of a whole
+
+module _ (g : Graph) (one : runs g.file ≡ 1) (depend : PicturesDependOnWanted meaning_of g) (library : Files) (whole : Piece)
+    (few : whole.last ≤ LAST_FRAME) where
+  -- a frame's file in a run over a piece is that in a run over the whole
+  module _ (start end : Files) (all : HasRun g library whole start end) where
+    text : ℕ → List ℕ
+    text t = file_text g all.images t
+
+    agree : (p : Piece) (old new : Files) (run : HasRun g library p old new) → ((t : ℕ) → IsIn p t → IsIn whole t)
+        → scene.AgreeOnWanted meaning_of g g.output (pos p.first) (pos p.last) run.images all.images
+    agree p old new run inside k f w =
+        let e = run.are.frames.all k f w in
+        let d = all.are.frames.all k f (wanted_more (graph_nodes meaning_of g no_images) g.output whole p inside k f w) in
+        let node : e.entry.node ≡ d.entry.node = e.node ∙ sym d.node in
+        let frame : e.entry.frame ≡ d.entry.frame = e.frame ∙ sym d.frame in
+        let v = run.are.frames.only e.entry e.listed in
+        let name = one_name g e.entry d.entry v.at node frame v.shows
+        (All-contains (IsNamedIn g) run.wanted e.entry run.are.names e.listed)
+        (All-contains (IsNamedIn g) all.wanted d.entry all.are.names d.listed) in
+        same_file library e.entry.name d.entry.name (run.images k f) (all.images k f) name
+        (has_file library run.wanted run.images run.shown k f e) (has_file library all.wanted all.images all.shown k f d)
+
+    same_text : (p : Piece) (old new : Files) (run : HasRun g library p old new) → ((t : ℕ) → IsIn p t → IsIn whole t) → (t : ℕ) → IsIn p t
+        → file_text g run.images t ≡ text t
+    unfolding file_text text
+    same_text p old new run inside t is =
+        let from = is.from in
+        let to = is.to in
+        ap (pam_text g.format)
+        (depend (pos p.first) (pos p.last) run.images all.images (images_are library run.wanted run.images run.shown)
+        (images_are library all.wanted all.images all.shown) (agree p old new run inside) (pos t) (omega (arith, ints, from)) (omega (arith, ints, to)))
+
+    of_piece : (p : Piece) (t : ℕ) → IsIn p t → IsOf p.first (frame_count p.first p.last) t
+    of_piece p t is = let from = is.from in let to = is.to in record { from = from; below = omega (arith, from, to) }
+
+    in_piece : (p : Piece) (t : ℕ) → IsOf p.first (frame_count p.first p.last) t → IsIn p t
+    in_piece p t is = let from = is.from in let below = is.below in record { from = from; to = omega (arith, from, below) }
+
+    -- the file of a frame of the piece is put
+    run_hit : (p : Piece) (old new : Files) → HasRun g library p old new → ((t : ℕ) → IsIn p t → IsIn whole t) → (t : ℕ) → IsIn p t
+        → new (file_name g t) ≡ Some (text t)
+    run_hit p old new run inside t is =
+        let from = is.from in
+        let to = is.to in
+        let last = (inside p.last (record { from = omega (arith, from, to); to = omega arith })).to in
+        run.gained (file_name g t)
+        ∙ hit g one run.images p.first (frame_count p.first p.last) old t (omega (arith, from, to, last, few)) (of_piece p t is)
+        ∙ ap Some (same_text p old new run inside t is)
+
+    -- the file of a frame of the whole stays
+    run_keep : (p : Piece) (old new : Files) → HasRun g library p old new → ((t : ℕ) → IsIn p t → IsIn whole t) → (t : ℕ) → IsIn whole t
+        → old (file_name g t) ≡ Some (text t) → new (file_name g t) ≡ Some (text t)
+    run_keep p old new run inside t is before = by (seek g one p.first (frame_count p.first p.last) (file_name g t))
+      where
+        by : ((u : ℕ) × IsOf p.first (frame_count p.first p.last) u × (file_name g u ≡ file_name g t))
+            ⊎ ((u : ℕ) → IsOf p.first (frame_count p.first p.last) u → file_name g u ≡ file_name g t → ⊥)
+            → new (file_name g t) ≡ Some (text t)
+        by (inl found) =
+            let at = in_piece p found.0 found.1 in
+            let low = (inside found.0 at).to in
+            let high = is.to in
+            let same : found.0 ≡ t = name_of-apart g.file found.0 t one (omega (arith, low, few)) (omega (arith, high, few)) found.2 in
+            run_hit p old new run inside t (subst (IsIn p) same at)
+        by (inr none) = run.gained (file_name g t) ∙ miss g one run.images p.first (frame_count p.first p.last) old (file_name g t) none ∙ before
+
+    -- a name of no frame of the whole has what it had
+    run_miss : (p : Piece) (old new : Files) → HasRun g library p old new → ((t : ℕ) → IsIn p t → IsIn whole t) → (name : List ℕ)
+        → ((t : ℕ) → IsIn whole t → file_name g t ≡ name → ⊥) → new name ≡ old name
+    run_miss p old new run inside name none =
+        run.gained name ∙ miss g one run.images p.first (frame_count p.first p.last) old name (λ t is. none t (inside t (in_piece p t is)))
+
+    runs_keep : (pieces : List Piece) (old new : Files) → HaveRun g library pieces old new → ((p : Piece) → In pieces p → (t : ℕ) → IsIn p t → IsIn whole t)
+        → (t : ℕ) → IsIn whole t → old (file_name g t) ≡ Some (text t) → new (file_name g t) ≡ Some (text t)
+    runs_keep [] old new run inside t is before = run (file_name g t) ∙ before
+    runs_keep (p ∷ ps) old new run inside t is before =
+        runs_keep ps run.0 new run.2 (λ q i. inside q (inr i)) t is (run_keep p old run.0 run.1 (inside p (inl refl)) t is before)
+
+    runs_hit : (pieces : List Piece) (old new : Files) → HaveRun g library pieces old new → ((p : Piece) → In pieces p → (t : ℕ) → IsIn p t → IsIn whole t)
+        → (p : Piece) → In pieces p → (t : ℕ) → IsIn p t → new (file_name g t) ≡ Some (text t)
+    runs_hit [] old new run inside p there t is = absurd there
+    runs_hit (q ∷ ps) old new run inside p there t is = elim there [
+      | inl e ↦
+          runs_keep ps run.0 new run.2 (λ r i. inside r (inr i)) t (inside p (inl e) t is)
+          (run_hit q old run.0 run.1 (inside q (inl refl)) t (subst (λ (r : Piece). IsIn r t) (sym e) is))
+      | inr i ↦ runs_hit ps run.0 new run.2 (λ r j. inside r (inr j)) p i t is
+    ]
+
+    runs_miss : (pieces : List Piece) (old new : Files) → HaveRun g library pieces old new → ((p : Piece) → In pieces p → (t : ℕ) → IsIn p t → IsIn whole t)
+        → (name : List ℕ) → ((t : ℕ) → IsIn whole t → file_name g t ≡ name → ⊥) → new name ≡ old name
+    runs_miss [] old new run inside name none = run name
+    runs_miss (p ∷ ps) old new run inside name none =
+        runs_miss ps run.0 new run.2 (λ q i. inside q (inr i)) name none ∙ run_miss p old run.0 run.1 (inside p (inl refl)) name none
+
+    pub whole_made : (pieces : List Piece) (new : Files) → ArePieces whole pieces → HaveRun g library pieces start new → SameFiles end new
+    whole_made pieces new are run name = by (seek g one whole.first (frame_count whole.first whole.last) name)
+      where
+        inside : (p : Piece) → In pieces p → (t : ℕ) → IsIn p t → IsIn whole t
+        inside p i t is = are.only p t (contains_of pieces p i) is
+
+        by : ((u : ℕ) × IsOf whole.first (frame_count whole.first whole.last) u × (file_name g u ≡ name))
+            ⊎ ((u : ℕ) → IsOf whole.first (frame_count whole.first whole.last) u → file_name g u ≡ name → ⊥) → new name ≡ end name
+        by (inl found) =
+            let t = found.0 in
+            let at = in_piece whole t found.1 in
+            let of = are.all t at in
+            let pieces_have = runs_hit pieces start new run inside of.0 (in_of pieces of.0 of.1) t of.2 in
+            let whole_has = run_hit whole start end all (λ u is. is) t at in
+            subst (λ (n : List ℕ). new n ≡ end n) found.2 (pieces_have ∙ sym whole_has)
+        by (inr none) =
+            let none_in : (t : ℕ) → IsIn whole t → file_name g t ≡ name → ⊥ = λ t is. none t (of_piece whole t is) in
+            runs_miss pieces start new run inside name none_in ∙ sym (run_miss whole start end all (λ u is. is) name none_in)
+
+pub pieces_make_whole : (g : Graph) → runs g.file ≡ 1 → PicturesDependOnWanted meaning_of g → PiecesMakeWhole g
+pieces_make_whole g one depend library whole pieces old new other few are run all =
+    whole_made g one depend library whole few old other all pieces new are run
+
+-- the output's pattern has one run of signs
+pub one_run : (file : List ℕ) → IsTrue (is_output file) → runs file ≡ 1
+one_run file is = nat_same (runs file) 1 (and_parts (is_pattern file) (nat_eq (runs file) 1) is).1

@@ -1,0 +1,18 @@
+//! What is known of every run: a range that is rendered in pieces has the files of one run.
+ghost use Rattle.fx_scene.specs.Scenes.{graph_shown};
+ghost use Rattle.fx_app.specs.Split.{PiecesMakeWhole, PiecesWantNoMore, RunsAreSuch};
+
+use fx_graph::Graph;
+use fx_scene::laws::value_depends_on_reach;
+use fx_shipped::Shipped;
+
+/// A range of frames may be rendered in pieces, by runs in any order and on any machines, and a piece more than once:
+/// the files are those of one run, and a piece wants no source frame that the range doesn't want. It computes nothing.
+pub fn pieces_make_the_whole(graph: &Graph<Shipped>)
+    ensures runs { RunsAreSuch }
+    ensures files { PiecesMakeWhole (graph_shown graph.now) }
+    ensures wants { PiecesWantNoMore (graph_shown graph.now) }
+{
+    value_depends_on_reach(graph);
+    let _pattern = &graph.file;
+}
