@@ -1,5 +1,5 @@
 -- What a bench has put, file by file.
-use Rattle.std.proofs.Common.{◌≡◌, ◌≤◌, ◌<◌, ◌≤ℤ◌, ◌+◌, ◌^◌, ℕ, zero, suc, ℤ, pos, Bool, true, false, List, [], ◌∷◌, ◌++◌, length, sum, map, inl, inr, Ok, Err, Option, Some, None, if◌then◌else◌, refl, sym, ap, subst, ◌∙◌, arith}
+use Rattle.std.proofs.Common.{◌≡◌, ◌≤◌, ◌<◌, ◌≤ℤ◌, ◌+◌, ◌^◌, ℕ, zero, suc, ℤ, pos, Bool, true, false, List, [], ◌++◌, length, sum, map, inl, inr, Ok, Err, Some, None, refl, sym, ap, subst, ◌∙◌, arith}
 use mathlib.Core.Path.{fun_ext}
 use Rattle.std.specs.Prelude.{unwrap_or}
 use Rattle.std.specs.List.{flat_map, range_with_len}
@@ -8,12 +8,8 @@ use Rattle.std.proofs.lemmas.Bool.{false≢true}
 use Rattle.std.specs.Int.{int_gap}
 use Rattle.std.proofs.lemmas.Int.{ints}
 use Rattle.std.proofs.lemmas.Slice.Eq.{bytes_eq-Decides}
-use Rattle.fx_base.specs.Bounds.{Bounds}
-use Rattle.fx_base.specs.Pattern.{runs, name_of}
-use Rattle.fx_base.specs.Rect.{columns, rows}
 use Rattle.fx_base.proofs.PatternLaws.{name_of-apart}
-use Rattle.fx_outside.specs.Outside.{Files, HasRisen, SameFiles}
-use Rattle.fx_effect.specs.Shape.{IsProject}
+use Rattle.fx_outside.specs.Outside.{Files, HasRisen}
 use Rattle.fx_scene.specs.Scenes.{Images, picture}
 use Rattle.fx_shipped.specs.Shipped.{meaning_of}
 use Rattle.fx_app.specs.Graphs.{Graph, graph_under, first_of, last_of, frame_count}

@@ -11,3 +11,4 @@ pub mod MadeLemmas
 pub mod LengthLemmas
 pub mod BenchLemmas
 pub mod ModeLemmas
+pub mod FrameLemmas

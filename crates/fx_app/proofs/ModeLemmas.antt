@@ -1,7 +1,7 @@
 -- From the mode to what is said of it.
 use Rattle.std.proofs.Common.{◌≡◌, ◌≢◌, ◌⊎◌, inl, inr, arith, ℕ, List, [], length, Ok, Option, Some, None, refl, sym, ap, subst, ◌∙◌}
 use Rattle.std.proofs.lemmas.Option.{none-some}
-use Rattle.fx_outside.specs.Outside.{Files, HasRisen, SameFiles}
+use Rattle.fx_outside.specs.Outside.{Files, HasRisen}
 use Rattle.fx_words.specs.Ordered.{Ordered}
 use Rattle.fx_words.specs.declared.order.Mode.{Mode}
 use Rattle.fx_words.specs.declared.order.Mode.TheVariants.{Render, Check, Bench}

@@ -1,5 +1,5 @@
 -- From the failure of a step to the fault of the run.
-use Rattle.std.proofs.Common.{◌≡◌, ◌≢◌, ◌≤◌, ◌<◌, ◌⊎◌, inl, inr, ℕ, ◌+◌, ◌++◌, List, Some, None, Result, Ok, Err, Option, option_map, refl, sym, ap, ◌∙◌, subst, arith}
+use Rattle.std.proofs.Common.{◌≡◌, ◌≢◌, ◌≤◌, ◌<◌, ◌⊎◌, inl, inr, ℕ, ◌+◌, ◌++◌, List, Some, Result, Ok, Err, Option, option_map, refl, sym, ap, ◌∙◌, subst, arith}
 use Rattle.fx_app.specs.declared.graph.TheConstants.{GRAPH_SIDE}
 use Rattle.fx_outside.specs.Outside.{Files, HasRisen, SameFiles}
 use Rattle.fx_image.specs.Stored.{image_of}

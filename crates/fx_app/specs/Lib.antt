@@ -6,5 +6,6 @@ pub mod Split
 pub mod Run
 pub mod Check
 pub mod Bench
+pub mod Made
 pub mod Modes
 pub mod Steps

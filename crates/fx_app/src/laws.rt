@@ -1,5 +1,7 @@
-//! What is known of every run: a range that is rendered in pieces has the files of one run.
+//! What is known of every run: a range that is rendered in pieces has the files of one run. And what is known of the
+//! frames that are made of a number.
 ghost use Rattle.fx_scene.specs.Scenes.{graph_shown};
+ghost use Rattle.fx_app.specs.Made.{FramesArePam};
 ghost use Rattle.fx_app.specs.Split.{PiecesMakeWhole, PiecesWantNoMore, RunsAreSuch};
 
 use fx_graph::Graph;
@@ -16,3 +18,9 @@ pub fn pieces_make_the_whole(graph: &Graph<Shipped>)
     value_depends_on_reach(graph);
     let _pattern = &graph.file;
 }
+
+/// Each frame that a bench makes is a PAM file (Netpbm, the manual page "pam"), and is read as the image whose samples
+/// are drawn one after the other. It computes nothing.
+pub fn made_frames_are_pam()
+    ensures { FramesArePam }
+{}

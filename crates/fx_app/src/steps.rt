@@ -67,7 +67,8 @@ pub fn run<R: Threads + Wait + Sync, L: Library, D: Depot, O: Sink, F: Sink, P: 
     ensures checked { Orders (map string_bytes words.now) Check → L.tells → result ≡ 0
         → Job (order_of (map string_bytes words.now)) (L.file library.old) }
     ensures check_reports { Orders (map string_bytes words.now) Check → L.tells → O.tells → result ≡ 0
-        → HasChecked (order_of (map string_bytes words.now)) (L.file library.old) (O.written out.old) (O.written out.new) }
+        → HasChecked (order_of (map string_bytes words.now)) (L.file library.old)
+        (O.written out.old) (O.written out.new) }
     ensures check_keeps { Orders (map string_bytes words.now) Check → depot.new ≡ depot.old }
     ensures check_statuses { Orders (map string_bytes words.now) Check → (result ≢ 3) × (result ≢ 5) }
     ensures check_reads { Orders (map string_bytes words.now) Check → result ≡ 4 → (order : Ordered)

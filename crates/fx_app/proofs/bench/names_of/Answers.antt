@@ -1,4 +1,4 @@
-use Rattle.std.proofs.Common.{◌≡◌, ◌≤◌, ◌+◌, ◌-◌, ◌∙◌, map, ap, arith, List, ◌++◌, ◌∷◌, []}
+use Rattle.std.proofs.Common.{◌≡◌, ◌-◌, ◌∙◌, map, ap, arith, ◌++◌, ◌∷◌, []}
 use Rattle.std.specs.List.{range_with_len}
 use Rattle.fx_base.specs.Pattern.{name_of}
 use Rattle.fx_app.specs.Graphs.{frame_count}

@@ -1,16 +1,9 @@
-use Rattle.std.proofs.Common.{◌≡◌, ◌∙◌, ℕ, List, Option, Some, None, sym, subst, map, string_bytes, ap, refl}
-use Rattle.std.specs.Prelude.{OnOk, IfErr}
-use Rattle.std.proofs.lemmas.Option.{none-some}
-use Rattle.std.proofs.lemmas.Result.{err_from_is_err_and}
+use Rattle.std.proofs.Common.{◌∙◌, Option, sym, subst, map, string_bytes, ap}
+use Rattle.std.specs.Prelude.{OnOk}
 use Rattle.fx_words.specs.Ordered.{Ordered}
-use Rattle.fx_words.specs.declared.order.Mode.{Mode}
-use Rattle.fx_app.specs.Words.{order_of}
-use Rattle.fx_app.specs.Run.{Job, IsAccepted, HasPutAll, HasTold}
+use Rattle.fx_app.specs.Run.{HasTold}
 use Rattle.fx_app.specs.Check.{HasChecked}
-use Rattle.fx_app.specs.Bench.{made_for, HasBenched}
-use Rattle.fx_app.specs.Modes.{CauseIn, LeavesIn, LeavesReportIn}
 use Rattle.fx_app.proofs.WordLemmas.{bench_number}
-use Rattle.fx_app.proofs.ModeLemmas as mode
 use Rattle.fx_app.proofs.steps.outcome.Goals as goal
 
 pub bench-requires : goal.bench-requires

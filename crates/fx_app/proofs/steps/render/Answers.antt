@@ -1,6 +1,5 @@
-use Rattle.std.proofs.Common.{◌≡◌, ◌∙◌, ℕ, List, Some, Ok, sym, subst, ap, refl}
+use Rattle.std.proofs.Common.{◌≡◌, ℕ, List, Some, Ok, subst, ap, refl}
 use mathlib.Core.Path.{fun_ext}
-use Rattle.std.proofs.lemmas.Option.{none-some}
 use Rattle.std.proofs.lemmas.Result.{err_from_is_err_and}
 use Rattle.fx_outside.specs.Outside.{Files}
 use Rattle.fx_seq.proofs.FillingLemmas.{quiet_more}
