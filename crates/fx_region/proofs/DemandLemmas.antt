@@ -1,0 +1,48 @@
+-- What is needed is gathered clip by clip, frame by frame and tile by tile.
+use Rattle.std.proofs.Common.{◌≡◌, ℕ, ◌<◌, ◌≤◌, ◌+◌, ℤ, List, [], ◌∷◌, ◌++◌, map, length, get_or, take, refl, sym, ap, ◌∙◌, subst, arith}
+use Rattle.std.specs.List.{flat_map, range_with_len}
+use Rattle.std.proofs.lemmas.List.{flat_map_more, take_all, take_more}
+use Rattle.std.proofs.lemmas.List.FromFn.{map-range_with_len_more}
+use Rattle.fx_base.specs.Bounds.{Bounds}
+use Rattle.fx_base.specs.Grid.{tiles_of}
+use Rattle.fx_base.specs.Rect.{meet}
+use Rattle.fx_scene.specs.Areas.{area}
+use Rattle.fx_scene.specs.Nodes.{Nodes}
+use Rattle.fx_region.specs.Ends.{EndShown, end_of}
+use Rattle.fx_region.specs.Needs.{NeedShown, frame_needs, needed, tile_needs}
+
+-- what was gathered of the first elements, and then of one more
+pub more_taken : {X Y : Type 0} (F : X → List Y) (old mid new : List Y) (xs : List X) (i : ℕ) (d : X) → i < length xs
+    → mid ≡ old ++ flat_map F (take i xs) → new ≡ mid ++ F (get_or xs i d) → new ≡ old ++ flat_map F (take (i + 1) xs)
+more_taken F old mid new xs i d low so now =
+    now ∙ (rw so (flat_map_more F old (take i xs) (get_or xs i d) ∙ ap (λ zs. old ++ flat_map F zs) (sym (take_more xs i d low))))
+
+map_id : (xs : List ℕ) → map (λ k. k) xs ≡ xs
+map_id [] = refl
+map_id (x ∷ xs) = ap (λ zs. x ∷ zs) (map_id xs)
+
+range_more : (n : ℕ) → range_with_len 0 (n + 1) ≡ range_with_len 0 n ++ n ∷ []
+range_more n =
+    sym (map_id (range_with_len 0 (n + 1))) ∙ map-range_with_len_more (λ k. k) 0 n n (omega arith)
+    ∙ ap (λ zs. zs ++ n ∷ []) (map_id (range_with_len 0 n))
+
+pub more_ranged : {Y : Type 0} (F : ℕ → List Y) (mid new : List Y) (n : ℕ) → mid ≡ flat_map F (range_with_len 0 n)
+    → new ≡ mid ++ F n → new ≡ flat_map F (range_with_len 0 (n + 1))
+more_ranged F mid new n so now =
+    now ∙ (rw so (flat_map_more F [] (range_with_len 0 n) n ∙ ap (flat_map F) (sym (range_more n))))
+
+-- the end of a tile that is cut to the area
+pub tile_done : (nodes : Nodes) (c m : ℕ) (f : ℤ) (tile a cut : Bounds) (e : EndShown) (old new : List NeedShown)
+    → a ≡ area nodes m f → cut ≡ meet tile a → e ≡ end_of nodes m f cut → new ≡ old ++ needed c f e
+    → new ≡ old ++ tile_needs (end_of nodes) (area nodes) c m f tile
+tile_done nodes c m f tile a cut e old new is at found pushed =
+    pushed ∙ ap (λ z. old ++ needed c f z) (found ∙ ap (end_of nodes m f) (at ∙ ap (meet tile) is))
+
+-- in the end all tiles are done
+pub tiles_done : (nodes : Nodes) (side : ℕ) (interest a : Bounds) (c m : ℕ) (f : ℤ) (tiles items : List Bounds) (i : ℕ)
+    (old new : List NeedShown) → a ≡ area nodes m f → tiles ≡ tiles_of side (meet interest a) → items ≡ tiles
+    → length items ≤ i → new ≡ old ++ flat_map (tile_needs (end_of nodes) (area nodes) c m f) (take i items)
+    → new ≡ old ++ frame_needs (end_of nodes) (area nodes) side interest c m f
+tiles_done nodes side interest a c m f tiles items i old new is all same past so =
+    so ∙ ap (λ zs. old ++ flat_map (tile_needs (end_of nodes) (area nodes) c m f) zs)
+    (take_all i items past ∙ same ∙ all ∙ ap (λ z. tiles_of side (meet interest z)) is)

@@ -1,0 +1,7 @@
+pub mod EndLaws
+pub mod NeedLaws
+pub mod CountLaws
+pub mod SiteLemmas
+pub mod TableLemmas
+pub mod FollowLemmas
+pub mod DemandLemmas

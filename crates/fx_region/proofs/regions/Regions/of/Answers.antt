@@ -1,0 +1,19 @@
+use Rattle.std.proofs.Common.{sym, subst, w64, length}
+use Rattle.std.proofs.lemmas.Int.{to_z-of_z}
+use mir.Val.{SFits}
+use Rattle.fx_scene.specs.Scenes.{graph_nodes, graph_shown, images_in, no_images}
+use Rattle.fx_region.specs.Sites.{site_nodes}
+use Rattle.fx_region.proofs.SiteLemmas.{reads_same}
+use Rattle.fx_region.proofs.TableLemmas.{reach_order, regions_made}
+use Rattle.fx_region.proofs.regions.Regions.of.Goals as goal
+
+pub fill-requires-clause-order : goal.fill-requires-clause-order
+fill-requires-clause-order g c =
+    let m = g.E.ImageEffect.meaning in
+    let site = c.site_of-site.result in
+    let graph = site.graph.now in
+    let shown = graph_shown graph in
+    let fits : SFits w64 c.args.frame = c.ranges.frame in
+    let least = simp to_z-of_z at c.in_ok-moments.ensures.least in
+    reach_order (graph_nodes m shown no_images) (site_nodes m site) graph.output (length graph.nodes.items) c.args.frame c.args.frame c.in_ok-moments.moments
+    (λ n t k f. reads_same m shown (images_in site.store.now) no_images n t k f) least c.in_ok-moments.ensures.places

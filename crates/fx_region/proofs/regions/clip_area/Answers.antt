@@ -1,0 +1,9 @@
+use Rattle.std.proofs.Common.{◌≡◌, sym, subst, ℕ, Option}
+use Rattle.fx_scene.specs.Areas.{area, clip_area}
+use Rattle.fx_region.proofs.TableLemmas.{clip_area_by}
+use Rattle.fx_region.proofs.regions.clip_area.Goals as goal
+
+pub returns-in-Some : goal.returns-in-Some
+returns-in-Some c nodes spans right e =
+    subst (λ (o : Option ℕ). c.hull_over.result ≡ clip_area (area nodes) spans o) (sym c.in-Some.is)
+    (clip_area_by nodes c.in-Some.m c.args.frames.now spans c.hull_over.result (c.hull_over.ensures nodes right) e)

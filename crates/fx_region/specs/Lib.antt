@@ -1,0 +1,8 @@
+pub mod Ends
+pub mod Needs
+pub mod Suffice
+pub mod Counts
+pub mod Sites
+pub mod Tables
+pub mod Follow
+pub mod Toy

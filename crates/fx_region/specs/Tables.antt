@@ -1,0 +1,75 @@
+-- Tables of the regions of definition of nodes at frames.
+use Rattle.std.specs.Prelude.{◌≡◌, ℕ, ℤ, List, map, length, Option, Some, None, IsSome, All, true}
+use Rattle.std.specs.List.{range_with_len}
+use Rattle.std.specs.BTreeMap.{get}
+use Rattle.std.specs.BTreeSet.{BTreeSet}
+use Rattle.std.specs.declared.alloc.Global.{Global}
+use Rattle.std.specs.declared.vec.Vec.{Vec}
+use Rattle.fx_base.specs.Bounds.{Bounds}
+use Rattle.fx_effect.specs.Meaning.{Meaning}
+use Rattle.fx_scene.specs.declared.reaching.Moment.{Moment}
+use Rattle.fx_scene.specs.Areas.{area}
+use Rattle.fx_scene.specs.Frames.{clip_frames, items_of}
+use Rattle.fx_scene.specs.Nodes.{EffectNode, Node, Nodes}
+use Rattle.fx_scene.specs.Reach.{IsPlace, IsReached, IsReadBy, has, moment, moment_cmp}
+use Rattle.fx_scene.specs.Scenes.{Shot}
+use Rattle.fx_region.specs.Sites.{scene_nodes}
+use Rattle.fx_region.specs.declared.regions.Regions.{Regions}
+
+-- the region of a node at a frame, where the table has it
+abbrev pub look : Regions → ℕ → ℤ → Option Bounds
+look regions n t = get moment_cmp regions.areas (moment n t)
+
+-- the node is reached at the frame
+abbrev pub Has : Regions → ℕ → ℤ → Type 0
+Has regions n t = IsSome (look regions n t)
+
+-- each region is the node's area at the frame
+abbrev pub AreAreas : Nodes → Regions → Type 0
+AreAreas nodes regions = (n : ℕ) (t : ℤ) (r : Bounds) → look regions n t ≡ Some r → r ≡ area nodes n t
+
+-- The regions of these nodes, so many of them, at the frames at which they are reached from the output at one frame:
+-- exactly these, each the node's area. The frames are near.
+pub record AreRegions (nodes : Nodes) (count output : ℕ) (at : ℤ) (regions : Regions) : Type 0 where
+  pub right : AreAreas nodes regions
+  pub all : (n : ℕ) (t : ℤ) → IsReached nodes output at at n t → Has regions n t
+  pub only : (n : ℕ) (t : ℤ) → Has regions n t → IsReached nodes output at at n t
+  pub places : (n : ℕ) (t : ℤ) → Has regions n t → IsPlace count n t
+
+-- the regions were made of this scene, at some frame
+pub record IsMadeOf {E : Type 0} (meaning : E → Meaning) (scene : Shot E) (regions : Regions) : Type 0 where
+  pub at : ℤ
+  pub are : AreRegions (scene_nodes meaning scene) (length scene.graph.nodes) scene.graph.output at regions
+
+-- ---- in code
+
+-- all that a node reads at a frame is there
+abbrev pub HasReads : Regions → Node → ℤ → Type 0
+HasReads regions node t = (m : ℕ) (f : ℤ) → IsReadBy node t m f → Has regions m f
+
+-- each region is the node's area, at near places, and with a node the table has all that it reads
+pub record IsTable (nodes : Nodes) (count : ℕ) (regions : Regions) : Type 0 where
+  pub right : AreAreas nodes regions
+  pub reads : (n : ℕ) (t : ℤ) → Has regions n t → HasReads regions (nodes n) t
+  pub places : (n : ℕ) (t : ℤ) → Has regions n t → IsPlace count n t
+
+-- near places, with all that is read at them
+pub record IsOrder (nodes : Nodes) (count : ℕ) (moments : BTreeSet Moment) : Type 0 where
+  pub places : (n : ℕ) (t : ℤ) → has moments n t ≡ true → IsPlace count n t
+  pub reads :
+      (n : ℕ) (t : ℤ) → has moments n t ≡ true → (m : ℕ) (f : ℤ) → IsReadBy (nodes n) t m f → has moments m f ≡ true
+
+-- exactly these moments, each with its node's area
+pub record AreAreasOf (nodes : Nodes) (moments : BTreeSet Moment) (regions : Regions) : Type 0 where
+  pub right : AreAreas nodes regions
+  pub all : (n : ℕ) (t : ℤ) → has moments n t ≡ true → Has regions n t
+  pub only : (n : ℕ) (t : ℤ) → Has regions n t → has moments n t ≡ true
+
+-- for each clip the frames that are read of it
+abbrev pub AreReads : EffectNode → ℤ → List (Vec ℤ Global) → Type 0
+AreReads o t reads = map items_of reads ≡ map (clip_frames o t) (range_with_len 0 (length o.clips))
+
+-- the node of a clip is there at these frames
+abbrev pub HasClip : Regions → Option ℕ → List ℤ → Type 0
+HasClip regions None frames = Unit {0}
+HasClip regions (Some m) frames = All (Has regions m) frames

@@ -1,0 +1,19 @@
+//! Regions of a graph's nodes: where each may be anything but zero, where a region is found once identities are
+//! passed on, and what a region of an effect needs of its clips. Evaluating these alone gives every pixel its value.
+#![tactic(auto)]
+
+mod demand;
+mod ends;
+mod follow;
+pub mod laws;
+mod regions;
+mod site;
+#[cfg(test)]
+mod tests;
+#[cfg(test)]
+mod toy;
+
+pub use demand::demand;
+pub use ends::{End, Need};
+pub use follow::follow;
+pub use regions::Regions;
