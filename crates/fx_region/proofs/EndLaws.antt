@@ -294,7 +294,7 @@ module _ (choose : Choice) (nodes : Nodes) (ok : AreNodes nodes) where
       end_shows n t r to c x y ∙ (let w = end_inside choose nodes ok n t r x y held in rw w refl) in
       record {
         inside = λ x y held. end_inside choose nodes ok n t r x y held;
-        value = λ x y held. sym (pixels (depth_at nodes n) (components_at nodes n) x y held ∙ own_form n t x y);
+        shown = λ x y held. sym (pixels (depth_at nodes n) (components_at nodes n) x y held ∙ own_form n t x y);
         pixels = pixels;
         zero = λ x y w out.
             sym (own_form n t x y)

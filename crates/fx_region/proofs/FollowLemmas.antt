@@ -22,10 +22,10 @@ use Rattle.fx_scene.specs.Frames.{in_some}
 use Rattle.fx_scene.specs.Nodes.{AreNodes, Effect, EffectNode, IsEffectNode, Node, Nodes, Source, SourceFrames, clip_node, seen}
 use Rattle.fx_scene.specs.Reach.{IsTakenBy}
 use Rattle.fx_scene.proofs.Members.{all_in, in_of, in_some_at}
-use Rattle.fx_scene.proofs.Outside.{area_window}
+use Rattle.fx_scene.proofs.Outside.{Covered, area_window}
 use Rattle.fx_region.specs.Ends.{EndShown, Ends, Void, clip_end, cut_alone, cut_end, effect_end, effect_step, end_by, end_of, onward}
 use Rattle.fx_region.specs.Follow.{GoesToRead, clip_stand, stand_end}
-use Rattle.fx_region.specs.declared.follow.Stand.{Stand}
+use Rattle.fx_region.specs.declared.following.Stand.{Stand}
 use Rattle.fx_region.proofs.EndLaws.{end_is}
 
 -- ---- cut regions
@@ -91,7 +91,7 @@ same_frame k o i t r clip f proper e =
     let taps = o.meaning.taps (o.values t) r.x1 r.y1 in
     let read = tap clip f r.x1 r.y1 in
     let there = in_of taps read ((same_as k o i t r clip f e).read r.x1 r.y1 corner) in
-    let covered = all_in _ taps read (i.laws.interest_holds_taps o.context (o.values t) r r.x1 r.y1 (i.lawful t) corner) there in
+    let covered = all_in (Covered o t r) taps read (i.laws.interest_holds_taps o.context (o.values t) r r.x1 r.y1 (i.lawful t) corner) there in
     in_some_at (o.meaning.spans (o.values t) clip) covered.span f
     (in_of (o.meaning.spans (o.values t) clip) covered.span covered.listed) covered.at_frame.0 covered.at_frame.1
 

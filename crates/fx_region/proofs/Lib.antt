@@ -5,3 +5,4 @@ pub mod SiteLemmas
 pub mod TableLemmas
 pub mod FollowLemmas
 pub mod DemandLemmas
+pub mod StandLemmas

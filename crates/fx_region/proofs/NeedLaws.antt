@@ -165,10 +165,7 @@ module _ (choose : Choice) (nodes : Nodes) (ok : AreNodes nodes) where
       (frame_needs (end_by choose nodes) (area nodes) side interest c m f) (tap c f x y)
   frame_found d k side c m f interest x y some w = elim (cases_Bool (within (area nodes m f) x y)) [
     | inl e ↦ tile_found d k side c m f interest x y some w e
-    | inr e ↦ inl (
-        ap (convert (depth_at nodes m) d k) (outside_zero nodes ok m f x y (not_within (area nodes m f) x y e))
-            ∙ convert_zero (depth_at nodes m) d (components_at nodes m) k,
-      )
+    | inr e ↦ inl (ap (convert (depth_at nodes m) d k) (outside_zero nodes ok m f x y (not_within (area nodes m f) x y e)) ∙ convert_zero (depth_at nodes m) d (components_at nodes m) k)
   ]
 
   clip_found : (d : Depth) (k : Components) (side c : ℕ) (f : ℤ) (interest : Bounds) (frames : List ℤ) (o : Option ℕ)

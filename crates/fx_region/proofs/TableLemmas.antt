@@ -17,10 +17,12 @@ use Rattle.std.specs.declared.vec.Vec.{Vec}
 use Rattle.fx_base.specs.Bounds.{Bounds}
 use Rattle.fx_base.specs.Rect.{hull}
 use Rattle.fx_base.specs.declared.limits.TheConstants.{MOST_NODES}
+use Rattle.fx_effect.specs.Meaning.{Meaning}
 use Rattle.fx_scene.specs.Areas.{area, clip_area, clip_areas, hull_all, hull_with, node_area, source_area}
 use Rattle.fx_scene.specs.Frames.{clip_frames, frames_of, has_frame, items_of}
 use Rattle.fx_scene.specs.Nodes.{AreNodes, Effect, EffectNode, Node, Nodes, Source, SourceFrames, clip_node}
 use Rattle.fx_scene.specs.Reach.{IsPlace, IsReach, IsReached, IsReadBy, has, moment, moment_cmp}
+use Rattle.fx_scene.specs.Scenes.{Shot}
 use Rattle.fx_scene.specs.declared.reaching.Moment.{Moment}
 use Rattle.fx_scene.proofs.Equations.{area_is}
 use Rattle.fx_scene.proofs.Members.{In, all_from}
@@ -28,7 +30,8 @@ use Rattle.fx_scene.proofs.NearLemmas.{listed_frames, read_place}
 use Rattle.fx_scene.proofs.OpenLemmas.{own_frame}
 use Rattle.fx_scene.proofs.RankLemmas.{has_key, is_lower, key_of}
 use Rattle.fx_scene.proofs.ReachLemmas.{is_same}
-use Rattle.fx_region.specs.Tables.{AreAreas, AreAreasOf, AreReads, AreRegions, Has, HasClip, HasReads, IsOrder, IsTable, look}
+use Rattle.fx_region.specs.Sites.{scene_nodes}
+use Rattle.fx_region.specs.Tables.{AreAreas, AreAreasOf, AreReads, AreRegions, Has, HasClip, HasReads, IsMadeOf, IsOrder, IsTable, look}
 use Rattle.fx_region.specs.declared.regions.Regions.{Regions}
 
 -- ---- the order of what is reached
@@ -248,7 +251,7 @@ reads_long o t reads are =
     sym (length-map reads items_of) ∙ ap (λ (fs : List (List ℤ)). length fs) are
     ∙ length-map-range_with_len (clip_frames o t) 0 (length o.clips)
 
-listed : (fs : List ℤ) (f : ℤ) → In fs f → has_frame fs f ≡ true
+pub listed : (fs : List ℤ) (f : ℤ) → In fs f → has_frame fs f ≡ true
 listed [] f h = absurd h
 listed (g ∷ fs) f h = elim h [
   | inl e ↦ or_left (int_eq g f) (has_frame fs f) (subst (λ (k : ℤ). int_eq k f ≡ true) (sym e) (own_frame f))
@@ -267,3 +270,13 @@ clip_there o t regions c (Some m) fs has at is =
       frame = listed_frames (o.meaning.spans (o.values t) c) f
           (ap (λ (gs : List ℤ). has_frame gs f) (sym is) ∙ listed fs f i);
     }))
+
+-- ---- the regions of a scene
+
+pub scene_table : {E : Type 0} (meaning : E → Meaning) (scene : Shot E) (regions : Regions) (nodes : Nodes) (count : ℕ)
+    → IsMadeOf meaning scene regions → nodes ≡ scene_nodes meaning scene → count ≡ length scene.graph.nodes
+    → IsTable nodes count regions
+scene_table meaning scene regions nodes count made same many =
+    subst (λ (ns : Nodes). IsTable ns count regions) (sym same)
+    (subst (λ (k : ℕ). IsTable (scene_nodes meaning scene) k regions) (sym many)
+    (is_table (scene_nodes meaning scene) (length scene.graph.nodes) scene.graph.output made.at regions made.are))

@@ -7,8 +7,8 @@ use Rattle.fx_scene.specs.Nodes.{Node}
 use Rattle.fx_scene.specs.Reach.{IsReadBy}
 use Rattle.fx_region.specs.Ends.{EndShown, Ends, end_shown, onward}
 use Rattle.fx_region.specs.declared.ends.End.TheVariants.{Void}
-use Rattle.fx_region.specs.declared.follow.Stand.{Stand}
-use Rattle.fx_region.specs.declared.follow.Stand.TheVariants.{Here, Onward}
+use Rattle.fx_region.specs.declared.following.Stand.{Stand}
+use Rattle.fx_region.specs.declared.following.Stand.TheVariants.{Here, Onward}
 
 -- the end of a region that stands so
 abbrev pub stand_end : Ends → Bounds → Stand → EndShown

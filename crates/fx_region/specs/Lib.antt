@@ -5,4 +5,5 @@ pub mod Counts
 pub mod Sites
 pub mod Tables
 pub mod Follow
+pub mod Stands
 pub mod Toy

@@ -47,7 +47,7 @@ pub record IsSourceAt {E : Type 0} (g : GraphShown E) (place : ℕ) (s : SourceN
   pub order : s.first ≤ s.last
 
 -- it is the node at the place
-abbrev pub StandsAt : {E : Type 0} {c e : _} → GraphShown E → ℕ → NodeAt E c e → Type 0
+abbrev pub StandsAt : {E : Type 0} → GraphShown E → ℕ → NodeAt E → Type 0
 StandsAt g place (at.Source s) = IsSourceAt g place s
 StandsAt g place (at.Effect n) = (n.place ≡ place) × StandsIn g n
 

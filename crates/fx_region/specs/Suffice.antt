@@ -16,7 +16,7 @@ use Rattle.fx_region.specs.Needs.{NeedShown, need_holds, needs_pixel, node_needs
 -- there, at each depth and components to which both are converted last; and elsewhere in the region the value is zero.
 pub record ShowsEnd (nodes : Nodes) (n : ℕ) (t : ℤ) (r : Bounds) (e : EndShown) : Type 0 where
   pub inside : (x y : ℤ) → end_holds e x y ≡ true → Holds r x y
-  pub value : (x y : ℤ) → end_holds e x y ≡ true
+  pub shown : (x y : ℤ) → end_holds e x y ≡ true
       → value nodes n t x y ≡ end_pixel nodes e (depth_at nodes n) (components_at nodes n) x y
   pub pixels : (to : Depth) (c : Components) (x y : ℤ) → end_holds e x y ≡ true
       → end_pixel nodes e to c x y ≡ convert (depth_at nodes n) to c (value nodes n t x y)

@@ -2,9 +2,9 @@
 //! passed on, and what a region of an effect needs of its clips. Evaluating these alone gives every pixel its value.
 #![tactic(auto)]
 
-mod demand;
+mod demanding;
 mod ends;
-mod follow;
+mod following;
 pub mod laws;
 mod regions;
 mod site;
@@ -13,7 +13,7 @@ mod tests;
 #[cfg(test)]
 mod toy;
 
-pub use demand::demand;
+pub use demanding::demand;
 pub use ends::{End, Need};
-pub use follow::follow;
+pub use following::follow;
 pub use regions::Regions;

@@ -1,6 +1,8 @@
 use Rattle.std.proofs.Common.{rules, ◌≡◌, ◌∙◌, ap, sym, subst, refl, w64, to_z, of_z, ℕ, ℤ}
 use Rattle.std.proofs.lemmas.Int.{to_z-of_z}
+use Rattle.std.proofs.lemmas.Result.{IfOk-weaker}
 use mir.Val.{SFits}
+use Rattle.fx_base.specs.Bounds.{Bounds}
 use Rattle.fx_seq.specs.Held.{held}
 use Rattle.fx_scene.specs.Areas.{area}
 use Rattle.fx_scene.specs.Nodes.{Node, Source}
@@ -42,4 +44,7 @@ effect_area-requires-clause-reads g c =
 pub returns-in-Effect : goal.returns-in-Effect
 returns-in-Effect g c =
     let fits : SFits w64 c.args.moment.frame = search rules in
-    ?
+    let nodes = site_nodes g.E.ImageEffect.meaning c.args.site.now in
+    let answered = simp to_z-of_z at c.effect_area.ensures in
+    IfOk-weaker c.effect_area.result _ _ (λ (r : Bounds) is.
+    is ∙ ap (λ (n : ℕ). area nodes n c.args.moment.frame) c.in-Effect.ensures.0) answered

@@ -1,5 +1,6 @@
 use Rattle.std.proofs.Common.{◌∙◌, ap, sym, subst, w64, ℤ, List, map}
 use Rattle.std.proofs.lemmas.Int.{to_z-of_z}
+use Rattle.std.proofs.lemmas.Result.{IfOk-weaker}
 use mir.Val.{SFits}
 use Rattle.fx_base.specs.Bounds.{Bounds}
 use Rattle.fx_effect.specs.Asked.{AreRegions}
@@ -65,8 +66,8 @@ region_of_definition-requires-clause-regions g c =
     let values = simp to_z-of_z at c.in_ok-values.ensures in
     let areas = simp to_z-of_z at (c.in_ok-areas.ensures nodes c.requires.right) in
     let i = is_effect m (graph_shown site.graph.now) (images_in site.store.now) c.requires.nodes node c.requires.there in
-    subst (λ (v : Values). AreRegions v c.as_slice-in_ok-areas.result.now) (sym values)
-    (subst (λ (rs : List Bounds). AreRegions (o.values c.args.frame) rs) (sym (c.as_slice-in_ok-areas.ensures.value ∙ areas)) (clip_regions nodes c.requires.nodes node.place o i c.args.frame))
+    subst (λ (v : Values). AreRegions v c.as_slice-2.result.now) (sym values)
+    (subst (λ (rs : List Bounds). AreRegions (o.values c.args.frame) rs) (sym (c.as_slice-2.ensures.value ∙ areas)) (clip_regions nodes c.requires.nodes node.place o i c.args.frame))
 
 pub returns : goal.returns
 returns g c =
@@ -79,4 +80,8 @@ returns g c =
     let values = simp to_z-of_z at c.in_ok-values.ensures in
     let areas = simp to_z-of_z at (c.in_ok-areas.ensures nodes c.requires.right) in
     let stands = effect_is m (graph_shown site.graph.now) (images_in site.store.now) node c.requires.there in
-    ?
+    IfOk-weaker c.region_of_definition.result _ _ (λ (r : Bounds) is.
+    is ∙ ap (λ (v : Values). o.meaning.rod o.context v c.as_slice-2.result.now) values
+    ∙ ap (o.meaning.rod o.context (o.values c.args.frame)) (c.as_slice-2.ensures.value ∙ areas)
+    ∙ area_by nodes c.requires.nodes node.place (Effect o) stands c.args.frame)
+    c.region_of_definition.ensures

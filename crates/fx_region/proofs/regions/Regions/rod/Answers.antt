@@ -1,9 +1,11 @@
-use Rattle.std.proofs.Common.{◌∙◌, sym, ap, w64, Option, is_some}
+use Rattle.std.proofs.Common.{◌∙◌, ℤ, sym, ap, subst, w64, Option, is_some}
 use Rattle.std.proofs.lemmas.Bool.{false≢true}
 use Rattle.std.proofs.lemmas.Int.{to_z-of_z}
 use Rattle.std.specs.Option.{option_copied}
 use mir.Val.{SFits}
 use Rattle.fx_base.specs.Bounds.{Bounds}
+use Rattle.fx_base.specs.Rect.{Holds}
+use Rattle.fx_scene.proofs.Outside.{outside_zero}
 use Rattle.fx_region.proofs.regions.Regions.rod.Goals as goal
 
 pub unreachable-requires : goal.unreachable-requires
@@ -17,3 +19,11 @@ returns-clause-there c =
     let fits : SFits w64 c.args.frame = c.ranges.frame in
     let value = simp to_z-of_z at c.get.ensures.value in
     sym value ∙ ap option_copied c.in-Some.is
+
+pub returns-clause-area : goal.returns-clause-area
+returns-clause-area c nodes right = right c.args.node c.args.frame _ (returns-clause-there c)
+
+pub returns-clause-zero : goal.returns-clause-zero
+returns-clause-zero c nodes ok right x y out =
+    outside_zero nodes ok c.args.node c.args.frame x y
+    (subst (λ (r : Bounds). Holds r x y → ⊥) (returns-clause-area c nodes right) out)

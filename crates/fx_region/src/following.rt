@@ -1,5 +1,5 @@
 //! Where a region of a node is found.
-ghost use Rattle.std.specs.Prelude.{◌≡◌, ◌≢◌, ◌<◌, ◌++◌, ◌∷◌, [], pos, length, slice_index_or, None, IfOk};
+ghost use Rattle.std.specs.Prelude.{◌≡◌, ◌≢◌, ◌<◌, ◌+◌, ◌++◌, ◌∷◌, [], pos, length, slice_index_or, None, IfOk};
 ghost use Rattle.std.specs.Option.{option_map};
 ghost use Rattle.fx_base.specs.Bounds.{none};
 ghost use Rattle.fx_base.specs.Rect.{IsFrame};
@@ -9,6 +9,7 @@ ghost use Rattle.fx_scene.specs.Reach.{IsPlace};
 ghost use Rattle.fx_region.specs.Ends.{Ends, cut_alone, cut_end, effect_end, end_of, end_shown, onward, source_end, source_step};
 ghost use Rattle.fx_region.specs.Follow.{GoesToRead, clip_stand, stand_end};
 ghost use Rattle.fx_region.specs.Sites.{effect_at, scene_nodes, site_nodes};
+ghost use Rattle.fx_region.specs.Stands.{StandsBelow};
 ghost use Rattle.fx_region.specs.Suffice.{ShowsEnd};
 ghost use Rattle.fx_region.specs.Tables.{Has, IsMadeOf, IsTable};
 
@@ -51,6 +52,10 @@ pub fn follow<E: Catalogue>(
     // Where it holds a place the value is its pixel there, and elsewhere in the region zero.
     ensures shows { let nodes = scene_nodes E.meaning scene.now in
         IfOk result (λ end. ShowsEnd nodes node frame region (end_shown end)) }
+
+    // It is at this node or one before it, and what is to be rendered there lies in the node's region of definition.
+    ensures stands { let nodes = scene_nodes E.meaning scene.now in
+        IfOk result (λ end. StandsBelow nodes regions.now (node + 1) (end_shown end)) }
 {
     let site = site_of(scene);
     find(alloc, &site, regions, node, frame, region)

@@ -10,11 +10,12 @@ ghost use Rattle.fx_scene.specs.Scenes.{graph_shown};
 ghost use Rattle.fx_region.specs.Ends.{end_of, end_shown};
 ghost use Rattle.fx_region.specs.Needs.{clip_needs, frame_needs, need_shown, needed, needs_of, node_needs};
 ghost use Rattle.fx_region.specs.Sites.{StandsIn, effect_at, scene_nodes, site_nodes};
+ghost use Rattle.fx_region.specs.Stands.{NeedStands};
 ghost use Rattle.fx_region.specs.Suffice.{ShowsTaps};
 ghost use Rattle.fx_region.specs.Tables.{Has, HasClip, HasReads, IsMadeOf, IsTable};
 
 use crate::ends::{End, Need};
-use crate::follow::find;
+use crate::following::find;
 use crate::regions::Regions;
 use crate::site::{EffectNode, NodeAt, Site, node_at, site_of};
 use fx_actions::regions_of_interest;
@@ -48,6 +49,10 @@ pub fn demand<E: Catalogue>(
     // Of each tap of a pixel of the region the value is zero or a need has its place, and the first such need shows it.
     ensures shows { let nodes = scene_nodes E.meaning scene.now in (o : Effects) → nodes node ≡ Effect o
         → IfOk result (λ needs. ShowsTaps nodes o frame region (map need_shown needs.items)) }
+
+    // Each is at a node before this one.
+    ensures stand { let nodes = scene_nodes E.meaning scene.now in
+        IfOk result (λ needs. All (NeedStands nodes regions.now node) (map need_shown needs.items)) }
 {
     let site = site_of(scene);
     needs_in(alloc, &site, regions, node, frame, region, grid)
