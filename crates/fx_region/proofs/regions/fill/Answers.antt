@@ -4,6 +4,7 @@ use Rattle.std.proofs.lemmas.Option.{none-some}
 use Rattle.std.specs.Map.Iter.{deref}
 use Rattle.fx_scene.specs.declared.reaching.Moment.{Moment}
 use Rattle.fx_region.specs.Sites.{site_nodes}
+use Rattle.fx_region.specs.declared.regions.Regions.{Regions}
 use Rattle.fx_region.proofs.TableLemmas.{IsFilling, filling_end, filling_has, filling_reads, filling_start, filling_step, none_in, right_step}
 use Rattle.fx_region.proofs.regions.fill.Goals as goal
 
@@ -11,9 +12,10 @@ pub loop-moment-init : goal.loop-moment-init
 loop-moment-init g c =
     let moments = c.args.moments.now in
     let gives = c.into_iter-moment-iterator.ensures.into_iter_gives in
+    let empty : Regions = record { areas = c.new.result } in
     record {
-      right = λ n t r e. absurd (none-some r (sym (none_in _ c.new.ensures.empty _) ∙ e));
-      filling = subst (λ (rest : List Moment). IsFilling moments rest _) (sym gives.0) (filling_start moments _ gives.4 c.new.ensures.empty);
+      right = λ n t r e. absurd (none-some r (sym (none_in c.new.result c.new.ensures.empty _) ∙ e));
+      filling = subst (λ (rest : List Moment). IsFilling moments rest empty) (sym gives.0) (filling_start moments empty gives.4 c.new.ensures.empty);
     }
 
 pub area_of-requires-clause-place : goal.area_of-requires-clause-place
