@@ -38,6 +38,17 @@ pub tile_done : (nodes : Nodes) (c m : ℕ) (f : ℤ) (tile a cut : Bounds) (e :
 tile_done nodes c m f tile a cut e old new is at found pushed =
     pushed ∙ ap (λ z. old ++ needed c f z) (found ∙ ap (end_of nodes m f) (at ∙ ap (meet tile) is))
 
+-- so one tile more is done
+pub tile_step : (nodes : Nodes) (c m : ℕ) (f : ℤ) (tiles : List Bounds) (i : ℕ) (tile a cut : Bounds) (e : EndShown)
+    (old mid new : List NeedShown) → i < length tiles → tile ≡ get_or tiles i tile → a ≡ area nodes m f
+    → cut ≡ meet tile a → e ≡ end_of nodes m f cut
+    → mid ≡ old ++ flat_map (tile_needs (end_of nodes) (area nodes) c m f) (take i tiles) → new ≡ mid ++ needed c f e
+    → new ≡ old ++ flat_map (tile_needs (end_of nodes) (area nodes) c m f) (take (i + 1) tiles)
+tile_step nodes c m f tiles i tile a cut e old mid new low there is at found so pushed =
+    let F : Bounds → List NeedShown = tile_needs (end_of nodes) (area nodes) c m f in
+    more_taken F old mid new tiles i tile low so
+    (subst (λ (z : Bounds). new ≡ mid ++ F z) there (tile_done nodes c m f tile a cut e mid new is at found pushed))
+
 -- in the end all tiles are done
 pub tiles_done : (nodes : Nodes) (side : ℕ) (interest a : Bounds) (c m : ℕ) (f : ℤ) (tiles items : List Bounds) (i : ℕ)
     (old new : List NeedShown) → a ≡ area nodes m f → tiles ≡ tiles_of side (meet interest a) → items ≡ tiles
