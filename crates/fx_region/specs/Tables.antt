@@ -69,6 +69,10 @@ pub record AreAreasOf (nodes : Nodes) (moments : BTreeSet Moment) (regions : Reg
 abbrev pub AreReads : EffectNode → ℤ → List (Vec ℤ Global) → Type 0
 AreReads o t reads = map items_of reads ≡ map (clip_frames o t) (range_with_len 0 (length o.clips))
 
+-- for each clip the effect's region of interest for a region
+abbrev pub IsInterest : EffectNode → ℤ → Bounds → List Bounds → Type 0
+IsInterest o t r interest = interest ≡ map (o.meaning.roi (o.values t) r) (range_with_len 0 (length o.clips))
+
 -- the node of a clip is there at these frames
 abbrev pub HasClip : Regions → Option ℕ → List ℤ → Type 0
 HasClip regions None frames = Unit {0}

@@ -12,7 +12,7 @@ ghost use Rattle.fx_region.specs.Needs.{clip_needs, frame_needs, need_shown, nee
 ghost use Rattle.fx_region.specs.Sites.{StandsIn, effect_at, scene_nodes, site_nodes};
 ghost use Rattle.fx_region.specs.Stands.{NeedStands};
 ghost use Rattle.fx_region.specs.Suffice.{ShowsTaps};
-ghost use Rattle.fx_region.specs.Tables.{Has, HasClip, HasReads, IsMadeOf, IsTable};
+ghost use Rattle.fx_region.specs.Tables.{AreReads, Has, HasClip, HasReads, IsInterest, IsMadeOf, IsTable};
 
 use crate::ends::{End, Need};
 use crate::following::find;
@@ -104,6 +104,43 @@ fn effect_needs<E: Catalogue>(
     let values = use_values(alloc, site.graph.project, node.clips, node.params, frame)?;
     let interest = regions_of_interest(alloc, node.effect, node.names, &values, region)?;
     let reads = frames_read(alloc, node.effect, node.names, &values)?;
+    needs_of_clips(
+        alloc,
+        site,
+        regions,
+        node,
+        frame,
+        region,
+        grid,
+        interest.as_slice(),
+        reads.as_slice(),
+    )
+}
+
+// What is needed of each clip, by its region of interest and the frames that are read of it.
+fn needs_of_clips<E: Catalogue>(
+    alloc: Global,
+    site: &Site<'_, E>,
+    regions: &Regions,
+    node: &EffectNode<'_, E>,
+    frame: i64,
+    _region: Rect,
+    grid: Grid,
+    interest: &[Rect],
+    reads: &[Vec<i64>],
+) -> Result<Vec<Need>, Memory>
+    requires nodes { AreNodes (site_nodes E.meaning site.now) }
+    requires table { IsTable (site_nodes E.meaning site.now) (length site.now.graph.now.nodes.items) regions.now }
+    requires there { HasReads regions.now (Effect (effect_at E.meaning site.now.graph.now.project node.now)) frame }
+    requires few { length node.now.clips.now < 65536 }
+    requires interest { let o = effect_at E.meaning site.now.graph.now.project node.now in
+        IsInterest o frame _region interest.now }
+    requires reads { AreReads (effect_at E.meaning site.now.graph.now.project node.now) frame reads.now }
+    ensures { let nodes = site_nodes E.meaning site.now in
+        let o = effect_at E.meaning site.now.graph.now.project node.now in
+        IfOk result (λ needs.
+        map need_shown needs.items ≡ node_needs (end_of nodes) (area nodes) grid (Effect o) frame _region) }
+{
     let mut needs = Vec::new(alloc);
     for c in 0..reads.len() {
         let frames = reads[c].as_slice();
