@@ -7,7 +7,7 @@ mod ends;
 mod following;
 pub mod laws;
 mod regions;
-mod site;
+pub mod site;
 #[cfg(test)]
 mod tests;
 #[cfg(test)]

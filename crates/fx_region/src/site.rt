@@ -14,14 +14,14 @@ use fx_seq::Store;
 
 /// A graph, and the frames of its sources that were fetched.
 #[derive(Drop)]
-pub(crate) struct Site<'a, E: Catalogue> {
+pub struct Site<'a, E: Catalogue> {
     pub graph: &'a Graph<E>,
     pub store: &'a Store,
 }
 
 /// An effect in its place of a graph, with the depth and components of its pixels.
 #[derive(Drop)]
-pub(crate) struct EffectNode<'a, E> {
+pub struct EffectNode<'a, E> {
     pub place: u32,
     pub depth: Depth,
     pub components: Components,
@@ -36,7 +36,7 @@ pub(crate) struct EffectNode<'a, E> {
 
 /// A source in its place of a graph, with the depth and components of its pixels.
 #[derive(Clone, Copy, Drop)]
-pub(crate) struct SourceNode {
+pub struct SourceNode {
     pub depth: Depth,
     pub components: Components,
     pub first: u32,
@@ -46,13 +46,13 @@ pub(crate) struct SourceNode {
 
 /// What stands at a place of a graph.
 #[derive(Drop)]
-pub(crate) enum NodeAt<'a, E> {
+pub enum NodeAt<'a, E> {
     Source(SourceNode),
     Effect(EffectNode<'a, E>),
 }
 
 /// The graph and the frames of a scene.
-pub(crate) fn site_of<E: Catalogue>(scene: &Scene<E>) -> Site<'_, E>
+pub fn site_of<E: Catalogue>(scene: &Scene<E>) -> Site<'_, E>
     ensures nodes { AreNodes (site_nodes E.meaning result) }
     ensures same { site_nodes E.meaning result ≡ scene_nodes E.meaning scene.now }
     ensures count { length result.graph.now.nodes.items ≡ length scene.now.graph.nodes }
@@ -65,7 +65,7 @@ pub(crate) fn site_of<E: Catalogue>(scene: &Scene<E>) -> Site<'_, E>
 }
 
 /// What stands at a place of a graph.
-pub(crate) fn node_at<E: Catalogue>(graph: &Graph<E>, place: u32) -> NodeAt<'_, E>
+pub fn node_at<E: Catalogue>(graph: &Graph<E>, place: u32) -> NodeAt<'_, E>
     requires { place < length graph.now.nodes.items }
     ensures { StandsAt (graph_shown graph.now) place result }
 {
