@@ -1,6 +1,6 @@
 use Rattle.std.proofs.Common.{ℕ, refl, sym, subst, ap, List, arith, length, map}
 use Rattle.std.specs.List.{Contains}
-use Rattle.fx_scene.specs.Scenes.{Shot}
+use Rattle.fx_graph.specs.Shown.{GraphShown}
 use Rattle.fx_eval.specs.declared.toy.Toy.{Toy}
 use Rattle.fx_eval.proofs.LifeLemmas.{started_life}
 use Rattle.fx_eval.proofs.tests.picture_of.Goals as goal
@@ -15,5 +15,5 @@ start-requires-clause-among c k used at =
 
 pub frame-picture-requires-clause-life : goal.frame-picture-requires-clause-life
 frame-picture-requires-clause-life c =
-    started_life (λ e. 0) c.args.graph.nodes.items 0 9 c.new-scene.result.0.graph c.in_ok-life.life
-    (sym (ap (λ (s : Shot Toy). s.graph.nodes) c.new-scene.ensures.scene)) c.in_ok-life.ensures.life
+    started_life (λ e. 0) c.graph.result.now.nodes.items 0 9 c.new-scene.result.0.graph c.in_ok-life.life
+    (ap (λ (s : GraphShown Toy). s.nodes) c.graph.ensures.shown) c.in_ok-life.ensures.life
