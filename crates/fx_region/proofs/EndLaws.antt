@@ -1,5 +1,5 @@
 -- An end shows the value over the region that was asked for, and zero elsewhere.
-use Rattle.std.proofs.Common.{◌≡◌, ℕ, ◌<◌, ℤ, List, [], ◌∷◌, ◌++◌, get_or, Bool, true, false, cond, ◌&&◌, refl, sym, ap, ◌∙◌, subst, Option, Some, None, inl, inr}
+use Rattle.std.proofs.Common.{◌≡◌, ℕ, ◌<◌, ℤ, List, [], ◌∷◌, ◌++◌, get_or, Bool, true, false, cond, ◌&&◌, refl, sym, ap, ◌∙◌, Option, Some, None, inl, inr}
 use Rattle.std.proofs.lemmas.Bool.{cases_Bool, and_parts}
 use Rattle.fx_base.specs.Bounds.{Bounds}
 use Rattle.fx_base.specs.Rect.{Holds, is_empty, meet, within}
@@ -10,7 +10,7 @@ use Rattle.fx_pixel.specs.declared.Components.{Components}
 use Rattle.fx_pixel.specs.declared.Components.TheVariants as components
 use Rattle.fx_pixel.specs.declared.Pixel.{Pixel}
 use Rattle.fx_pixel.specs.declared.Pixel.TheVariants.{Rgba, Alpha}
-use Rattle.fx_pixel.specs.Pixel.{convert, IsOfDepth, components_of, zero as zero_pixel}
+use Rattle.fx_pixel.specs.Pixel.{convert, components_of, zero as zero_pixel}
 use Rattle.fx_pixel.specs.PixelLaws.{convert_zero}
 use Rattle.fx_image.specs.Image.{Image, pixel_at}
 use Rattle.fx_effect.specs.Given.{converted}

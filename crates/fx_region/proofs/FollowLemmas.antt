@@ -1,12 +1,11 @@
 -- A region is followed one node at a time.
-use Rattle.std.proofs.Common.{◌≡◌, ◌≢◌, ℕ, ◌<◌, ◌≤◌, ℤ, pos, ◌≤ℤ◌, List, [], ◌∷◌, map, length, get_or, Bool, true, false, cond, ◌&&◌, refl, arith, sym, ap, ◌∙◌, subst, Option, Some, None, is_some, slice_get, inl, inr}
-use Rattle.std.proofs.lemmas.Bool.{and_parts, cond-true, cond-false}
+use Rattle.std.proofs.Common.{◌≡◌, ◌≢◌, ℕ, ◌<◌, ◌≤◌, ℤ, List, length, Bool, true, false, refl, arith, sym, ap, ◌∙◌, subst, Option, Some, None, is_some, inl, inr}
+use Rattle.std.proofs.lemmas.Bool.{cond-true, cond-false}
 use Rattle.std.proofs.lemmas.Int.{ints}
 use Rattle.std.proofs.lemmas.List.{length-map}
 use Rattle.std.proofs.lemmas.Option.{slice_get_within}
-use Rattle.std.specs.Option.{option_map}
 use Rattle.fx_base.specs.Bounds.{Bounds, IsRect, none}
-use Rattle.fx_base.specs.Rect.{Holds, IsNear, IsUpTo, IsWithin, is_empty, meet, within}
+use Rattle.fx_base.specs.Rect.{IsNear, IsWithin, is_empty, meet}
 use Rattle.fx_base.proofs.RectLaws.{IsRect-meet, IsWithin-meet_second}
 use Rattle.fx_base.proofs.RectLemmas.{Encloses-from_within, IsProper, IsProper-from_rect, IsProper-from_test, holds_corner, is_empty-none, is_empty-proper}
 use Rattle.fx_pixel.specs.declared.Pixel.{Pixel}
@@ -15,15 +14,13 @@ use Rattle.fx_pixel.specs.PixelLaws.{zero_form}
 use Rattle.fx_effect.specs.Asked.{IsWindow}
 use Rattle.fx_effect.specs.Laws.{IsSameAs}
 use Rattle.fx_effect.specs.Tap.{Tap, tap}
-use Rattle.fx_effect.specs.declared.action.Identity.{Identity}
-use Rattle.fx_effect.specs.declared.action.Identity.TheVariants.{No, Same}
+use Rattle.fx_effect.specs.declared.action.Identity.TheVariants.{Same}
 use Rattle.fx_scene.specs.Areas.{area}
 use Rattle.fx_scene.specs.Frames.{in_some}
-use Rattle.fx_scene.specs.Nodes.{AreNodes, Effect, EffectNode, IsEffectNode, Node, Nodes, Source, SourceFrames, clip_node, seen}
-use Rattle.fx_scene.specs.Reach.{IsTakenBy}
+use Rattle.fx_scene.specs.Nodes.{AreNodes, Effect, EffectNode, IsEffectNode, Node, Nodes, clip_node, seen}
 use Rattle.fx_scene.proofs.Members.{all_in, in_of, in_some_at}
 use Rattle.fx_scene.proofs.Outside.{Covered, area_window}
-use Rattle.fx_region.specs.Ends.{EndShown, Ends, Void, clip_end, cut_alone, cut_end, effect_end, effect_step, end_by, end_of, onward}
+use Rattle.fx_region.specs.Ends.{Ends, Void, clip_end, cut_alone, cut_end, effect_end, effect_step, end_of, onward}
 use Rattle.fx_region.specs.Follow.{GoesToRead, clip_stand, stand_end}
 use Rattle.fx_region.specs.declared.following.Stand.{Stand}
 use Rattle.fx_region.proofs.EndLaws.{end_is}

@@ -1,5 +1,5 @@
 -- What a region of an effect needs shows the value of each tap of its pixels.
-use Rattle.std.proofs.Common.{◌≡◌, ℕ, zero, suc, ◌<◌, ◌⊎◌, ℤ, List, [], ◌∷◌, map, length, get_or, Bool, true, false, cond, nat_eq, ◌&&◌, refl, arith, sym, ap, ◌∙◌, subst, Option, Some, None, inl, inr}
+use Rattle.std.proofs.Common.{◌≡◌, ℕ, suc, ◌<◌, ◌⊎◌, ℤ, List, [], ◌∷◌, length, Bool, true, false, cond, nat_eq, ◌&&◌, refl, arith, sym, ap, ◌∙◌, subst, Option, Some, None, inl, inr}
 use Rattle.std.proofs.lemmas.Bool.{cases_Bool, cases_lt, and_parts, and_from}
 use Rattle.std.proofs.lemmas.Bool.Decides.{nat_tests, Decides-int_eq}
 use Rattle.std.proofs.lemmas.Int.{ints}
@@ -20,14 +20,14 @@ use Rattle.fx_pixel.specs.PixelLaws.{convert_zero}
 use Rattle.fx_effect.specs.Tap.{Tap, tap}
 use Rattle.fx_scene.specs.Areas.{area}
 use Rattle.fx_scene.specs.Frames.{clip_frames}
-use Rattle.fx_scene.specs.Nodes.{AreNodes, Effect, EffectNode, IsEffectNode, IsNode, Node, Nodes, clip_node, components_at, depth_at, seen}
+use Rattle.fx_scene.specs.Nodes.{AreNodes, Effect, EffectNode, IsEffectNode, IsNode, Nodes, clip_node, components_at, depth_at, seen}
 use Rattle.fx_scene.specs.Value.{clip_value, tap_value, value}
 use Rattle.fx_scene.proofs.Members.{All-flat, In, all_in, in_flat, in_of, in_range}
 use Rattle.fx_scene.proofs.Outside.{Covered, in_frames, not_within, outside_zero}
 use Rattle.fx_region.specs.Ends.{Choice, EndShown, Frame, Render, Void, end_by, end_holds, end_pixel}
 use Rattle.fx_region.specs.Needs.{NeedShown, clip_needs, frame_needs, need_holds, needed, needs_at, needs_pixel, node_needs, tile_needs}
-use Rattle.fx_region.specs.Suffice.{NeedsHold, NeedsSuffice, ShowsTaps}
-use Rattle.fx_region.proofs.EndLaws.{end_inside, end_shows, cut_to}
+use Rattle.fx_region.specs.Suffice.{NeedsSuffice, ShowsTaps}
+use Rattle.fx_region.proofs.EndLaws.{end_inside, end_shows}
 
 -- ---- members
 

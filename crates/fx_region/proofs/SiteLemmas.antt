@@ -1,5 +1,5 @@
 -- Sources and effects in their places of a graph.
-use Rattle.std.proofs.Common.{◌≡◌, ℕ, ◌<◌, ◌≤◌, ℤ, List, map, length, take, Bool, refl, sym, ap, ◌∙◌, subst, Option, Some, None, IfSome, is_some, pos, slice_index_or, arith}
+use Rattle.std.proofs.Common.{◌≡◌, ℕ, ◌<◌, ℤ, List, map, length, take, refl, sym, ap, ◌∙◌, subst, Option, Some, None, IfSome, is_some, pos, slice_index_or, arith}
 use Rattle.std.specs.Prelude.{slice_get}
 use Rattle.std.specs.List.{range_with_len}
 use Rattle.std.specs.Option.{option_map}
@@ -8,12 +8,10 @@ use Rattle.std.specs.declared.vec.Vec.{Vec}
 use Rattle.std.proofs.lemmas.List.{length-map}
 use Rattle.std.proofs.lemmas.Option.{slice_get_within}
 use Rattle.fx_image.specs.Stored.{Stored, image_of}
-use Rattle.fx_effect.specs.declared.action.Context.{Context}
 use Rattle.fx_effect.specs.declared.values.Values.{Values}
 use Rattle.fx_effect.specs.DefaultLaws.{flag_for_each}
 use Rattle.fx_effect.specs.Meaning.{Meaning}
-use Rattle.fx_effect.specs.Shape.{IsProject, Shape}
-use Rattle.fx_params.specs.Parameter.{Parameter}
+use Rattle.fx_effect.specs.Shape.{IsProject}
 use Rattle.fx_actions.specs.Clips.{NamesClips, each_clip}
 use Rattle.fx_graph.specs.Kept as graph
 use Rattle.fx_graph.specs.Kept.{use_values}
@@ -23,7 +21,7 @@ use Rattle.fx_graph.specs.Shown as does
 use Rattle.fx_seq.specs.declared.store.Store.{Store}
 use Rattle.fx_scene.specs.Areas.{image_area, source_area}
 use Rattle.fx_scene.specs.Frames.{clip_frames, frames_of, items_of}
-use Rattle.fx_scene.specs.Nodes.{AreNodes, Effect, IsEffectNode, IsNode, Node, Source, SourceFrames}
+use Rattle.fx_scene.specs.Nodes.{AreNodes, Effect, IsEffectNode, IsNode, Source, SourceFrames}
 use Rattle.fx_scene.specs.Reach.{IsReadBy}
 use Rattle.fx_scene.specs.Scenes.{Images, effect_node, graph_nodes, images_in, node_in, node_of, nodes_of, source_node}
 use Rattle.fx_scene.proofs.GraphLemmas.{names_clips, names_long, node_is, use_at}

@@ -1,5 +1,5 @@
 -- Ends of regions of nodes that are reached stand at nodes that are reached.
-use Rattle.std.proofs.Common.{◌≡◌, ◌≢◌, ℕ, ◌<◌, ◌≤◌, ◌+◌, ℤ, List, [], ◌∷◌, ◌++◌, map, length, Bool, true, false, cond, refl, arith, sym, ap, ◌∙◌, subst, Option, Some, None, inl, inr, All}
+use Rattle.std.proofs.Common.{◌≡◌, ◌≢◌, ℕ, ◌<◌, ◌≤◌, ◌+◌, ℤ, List, [], ◌∷◌, length, Bool, true, false, cond, refl, arith, sym, subst, Option, Some, None, inl, inr, All}
 use Rattle.std.proofs.lemmas.List.Elements.{All-nil, All-cons, All-append}
 use Rattle.std.specs.List.{flat_map, range_with_len}
 use Rattle.fx_base.specs.Bounds.{Bounds, none}
@@ -11,16 +11,16 @@ use Rattle.fx_effect.specs.declared.action.Identity.{Identity}
 use Rattle.fx_effect.specs.declared.action.Identity.TheVariants.{No, Same}
 use Rattle.fx_effect.specs.declared.steps.Step.{Step}
 use Rattle.fx_scene.specs.Areas.{area}
-use Rattle.fx_scene.specs.Frames.{clip_frames, has_frame}
+use Rattle.fx_scene.specs.Frames.{clip_frames}
 use Rattle.fx_scene.specs.Nodes.{AreNodes, Effect, EffectNode, IsEffectNode, IsNode, Node, Nodes, Source, SourceFrames, clip_node}
 use Rattle.fx_scene.specs.Reach.{IsReadBy}
 use Rattle.fx_scene.proofs.Members.{In}
 use Rattle.fx_scene.proofs.NearLemmas.{listed_frames}
 use Rattle.fx_scene.proofs.Places.{by_place}
-use Rattle.fx_region.specs.Ends.{EndShown, Ends, Frame, Render, Void, clip_end, cut_alone, cut_end, effect_end, effect_step, end_of, node_end, onward, source_end}
+use Rattle.fx_region.specs.Ends.{EndShown, Frame, Render, Void, clip_end, cut_alone, cut_end, effect_end, effect_step, end_of, onward, source_end}
 use Rattle.fx_region.specs.Follow.{GoesToRead, clip_stand}
 use Rattle.fx_region.specs.Needs.{NeedShown, clip_needs, frame_needs, needed, needs_at, node_needs, tile_needs}
-use Rattle.fx_region.specs.Stands.{IsRender, NeedStands, StandsBelow}
+use Rattle.fx_region.specs.Stands.{NeedStands, StandsBelow}
 use Rattle.fx_region.specs.Tables.{Has, HasReads, IsTable}
 use Rattle.fx_region.specs.declared.regions.Regions.{Regions}
 use Rattle.fx_region.proofs.EndLaws.{end_is}

@@ -4,7 +4,7 @@ use Rattle.std.proofs.lemmas.Bool.{or_left, or_right}
 use Rattle.std.proofs.lemmas.List.{drop_more, get_or-map, length-map}
 use Rattle.std.proofs.lemmas.List.FromFn.{get_or-map-range_with_len, length-map-range_with_len, map-range_with_len_more}
 use Rattle.std.proofs.lemmas.Map.Keys.{sorted_head, sorted_tail}
-use Rattle.std.proofs.lemmas.Option.{none-some, same_Some}
+use Rattle.std.proofs.lemmas.Option.{same_Some}
 use Rattle.std.specs.BTreeMap.{BTreeMap, Updates, get, is_at}
 use Rattle.std.specs.BTreeSet.{BTreeSet}
 use Rattle.std.specs.List.{AllByRecursion, range_with_len}
@@ -18,9 +18,9 @@ use Rattle.fx_base.specs.Bounds.{Bounds}
 use Rattle.fx_base.specs.Rect.{hull}
 use Rattle.fx_base.specs.declared.limits.TheConstants.{MOST_NODES}
 use Rattle.fx_effect.specs.Meaning.{Meaning}
-use Rattle.fx_scene.specs.Areas.{area, clip_area, clip_areas, hull_all, hull_with, node_area, source_area}
+use Rattle.fx_scene.specs.Areas.{area, clip_area, hull_all, hull_with, node_area}
 use Rattle.fx_scene.specs.Frames.{clip_frames, frames_of, has_frame, items_of}
-use Rattle.fx_scene.specs.Nodes.{AreNodes, Effect, EffectNode, Node, Nodes, Source, SourceFrames, clip_node}
+use Rattle.fx_scene.specs.Nodes.{AreNodes, Effect, EffectNode, Node, Nodes, clip_node}
 use Rattle.fx_scene.specs.Reach.{IsPlace, IsReach, IsReached, IsReadBy, has, moment, moment_cmp}
 use Rattle.fx_scene.specs.Scenes.{Shot}
 use Rattle.fx_scene.specs.declared.reaching.Moment.{Moment}

@@ -1,5 +1,5 @@
 -- What the effect of the tests answers is what it means.
-use Rattle.std.proofs.Common.{◌≡◌, ◌∙◌, inl, Bool, true, false, ℕ, ◌≤◌, ℤ, pos, ◌≤ℤ◌, ◌<ℤ◌, refl, arith, ap, w64, to_z, List, [], ◌∷◌, All, codes, sym, subst}
+use Rattle.std.proofs.Common.{◌≡◌, ◌∙◌, inl, Bool, true, false, ℕ, ◌≤◌, ℤ, pos, refl, arith, ap, w64, to_z, List, [], ◌∷◌, All, codes, sym, subst}
 use Rattle.std.proofs.lemmas.Int.{ints}
 use Rattle.std.proofs.lemmas.List.Elements.{All-nil, All-cons}
 use Rattle.std.specs.Int.Signed.{le_z}

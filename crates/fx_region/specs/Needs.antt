@@ -1,6 +1,6 @@
 -- What a region of an effect needs (OpenFX 1.4, kOfxImageEffectActionGetRegionsOfInterest and
 -- kOfxImageEffectActionGetFramesNeeded): tiles of the nodes of its clips.
-use Rattle.std.specs.Prelude.{ℕ, ℤ, List, [], ◌∷◌, map, length, Option, Some, None, Bool, ◌&&◌, nat_eq, if◌then◌else◌}
+use Rattle.std.specs.Prelude.{ℕ, ℤ, List, [], ◌∷◌, length, Option, Some, None, Bool, ◌&&◌, nat_eq, if◌then◌else◌}
 use Rattle.std.specs.Ordering.{int_eq}
 use Rattle.std.specs.List.{flat_map, range_with_len}
 use Rattle.fx_base.specs.Bounds.{Bounds}

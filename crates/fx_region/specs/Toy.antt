@@ -1,13 +1,13 @@
 -- The effect of the tests, at bytes alone: the pixel of its one clip at the frame, or at the frame before. It answers
 -- frames up to its own and regions that are grown by a margin, which are more than it needs, and says that it is the clip
 -- over windows on the left alone.
-use Rattle.std.specs.Prelude.{◌≡◌, ◌≤◌, ◌<◌, ◌+◌, ℕ, ℤ, pos, neg_ℤ, ◌≤ℤ◌, ◌-ℤ◌, ◌+ℤ◌, Bool, true, false, List, [], ◌∷◌, codes, length, All, slice_get, Some, unsigned_abs, negsuc, if◌then◌else◌, refl}
+use Rattle.std.specs.Prelude.{◌≡◌, ◌≤◌, ◌<◌, ◌+◌, ℕ, ℤ, pos, neg_ℤ, ◌≤ℤ◌, ◌-ℤ◌, Bool, true, false, List, [], ◌∷◌, codes, length, All, slice_get, Some, unsigned_abs, negsuc, if◌then◌else◌, refl}
 use Rattle.std.specs.Int.Signed.{le_z}
-use Rattle.std.specs.List.{AllZip, Contains}
-use Rattle.std.proofs.Common.{ap, sym, subst, arith, ◌∙◌}
+use Rattle.std.specs.List.{AllZip}
+use Rattle.std.proofs.Common.{ap, arith}
 use Rattle.std.proofs.lemmas.Int.{ints}
 use Rattle.std.proofs.lemmas.List.Elements.{All-nil, All-cons}
-use Rattle.fx_base.specs.Bounds.{Bounds, IsRect}
+use Rattle.fx_base.specs.Bounds.{Bounds}
 use Rattle.fx_base.specs.Rect.{Holds, IsUpTo, grown}
 use Rattle.fx_base.proofs.RectLaws.{IsRect-grown, IsUpTo-grown, IsUpTo-none, IsWithin-grown}
 use Rattle.fx_pixel.specs.declared.Depth.TheVariants as depths

@@ -1,4 +1,4 @@
-use Rattle.std.proofs.Common.{rules, ◌≡◌, ◌∙◌, get_or, pos, map, take, sym, ap, subst, w64, length, ℤ}
+use Rattle.std.proofs.Common.{rules, get_or, pos, map, sym, subst, w64}
 use Rattle.std.proofs.lemmas.Int.{to_z-of_z}
 use mir.Val.{SFits}
 use Rattle.fx_scene.specs.Areas.{area}

@@ -1,4 +1,4 @@
-use Rattle.std.proofs.Common.{rules, ◌≡◌, ◌≤◌, ◌∙◌, ap, sym, subst, map, w64, length, arith}
+use Rattle.std.proofs.Common.{◌∙◌, ap, sym, subst, map, w64, arith}
 use Rattle.std.proofs.lemmas.Int.{to_z-of_z}
 use mir.Val.{SFits}
 use Rattle.fx_base.specs.Grid.{tiles_of}

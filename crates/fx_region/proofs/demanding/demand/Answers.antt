@@ -1,16 +1,15 @@
-use Rattle.std.proofs.Common.{rules, ◌≡◌, ◌<◌, ◌≤◌, ◌∙◌, ap, refl, sym, subst, map, w64, length, arith, All, List}
+use Rattle.std.proofs.Common.{rules, ◌<◌, ◌∙◌, ap, refl, sym, subst, w64, length, arith, All}
 use Rattle.std.proofs.lemmas.Int.{to_z-of_z}
 use Rattle.std.proofs.lemmas.Result.{IfOk-weaker}
 use mir.Val.{SFits}
 use Rattle.std.specs.declared.alloc.Global.{Global}
 use Rattle.std.specs.declared.vec.Vec.{Vec}
 use Rattle.fx_base.specs.Bounds.{IsRect}
-use Rattle.fx_base.specs.Rect.{IsWithin}
 use Rattle.fx_scene.specs.Areas.{area}
 use Rattle.fx_scene.specs.Nodes.{AreNodes, Node, Nodes}
 use Rattle.fx_scene.proofs.Outside.{area_window}
 use Rattle.fx_region.specs.Ends.{cut_alone, end_of}
-use Rattle.fx_region.specs.Needs.{NeedShown, need_shown, needs_of, node_needs}
+use Rattle.fx_region.specs.Needs.{needs_of, node_needs}
 use Rattle.fx_region.specs.Sites.{scene_nodes, site_nodes}
 use Rattle.fx_region.specs.Stands.{NeedStands}
 use Rattle.fx_region.specs.Suffice.{ShowsTaps}

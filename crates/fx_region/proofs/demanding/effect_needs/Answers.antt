@@ -1,7 +1,6 @@
-use Rattle.std.proofs.Common.{rules, ◌≡◌, ◌<◌, ◌∙◌, ap, sym, subst, map, w64, length, arith, ℕ, ℤ, List}
+use Rattle.std.proofs.Common.{◌∙◌, ap, sym, subst, map, w64, arith, ℤ}
 use Rattle.std.proofs.lemmas.Int.{to_z-of_z, ints}
 use mir.Val.{SFits}
-use Rattle.fx_base.specs.Bounds.{Bounds}
 use Rattle.fx_base.specs.Rect.{IsFrame}
 use Rattle.fx_effect.specs.declared.values.Values.{Values}
 use Rattle.fx_scene.specs.Frames.{items_of}

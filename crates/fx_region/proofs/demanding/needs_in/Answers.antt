@@ -1,16 +1,16 @@
-use Rattle.std.proofs.Common.{rules, ◌≡◌, ◌∙◌, ap, refl, sym, subst, map, w64, to_z, of_z, length, ℕ, ℤ}
+use Rattle.std.proofs.Common.{◌∙◌, ap, sym, subst, map, w64, ℕ, ℤ}
 use Rattle.std.proofs.lemmas.Int.{to_z-of_z}
 use Rattle.std.proofs.lemmas.Result.{IfOk-weaker}
 use mir.Val.{SFits}
 use Rattle.std.specs.declared.alloc.Global.{Global}
 use Rattle.std.specs.declared.vec.Vec.{Vec}
 use Rattle.fx_scene.specs.Areas.{area}
-use Rattle.fx_scene.specs.Nodes.{Effect, Node, Source}
+use Rattle.fx_scene.specs.Nodes.{Effect, Node}
 use Rattle.fx_scene.specs.Reach.{IsNearFrame}
 use Rattle.fx_scene.specs.Scenes.{graph_shown, images_in}
 use Rattle.fx_region.specs.Ends.{end_of}
 use Rattle.fx_region.specs.Needs.{need_shown, node_needs}
-use Rattle.fx_region.specs.Sites.{effect_at, site_nodes, source_of}
+use Rattle.fx_region.specs.Sites.{effect_at, site_nodes}
 use Rattle.fx_region.specs.Tables.{HasReads}
 use Rattle.fx_region.specs.declared.ends.Need.{Need}
 use Rattle.fx_region.proofs.SiteLemmas.{effect_in, source_is}

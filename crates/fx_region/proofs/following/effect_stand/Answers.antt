@@ -1,11 +1,11 @@
-use Rattle.std.proofs.Common.{[], rules, ◌≡◌, ◌∙◌, sym, ap, subst, w64, to_z, of_z, ℤ, refl}
-use Rattle.std.proofs.lemmas.Int.{to_z-of_z, ints}
+use Rattle.std.proofs.Common.{[], rules, ◌≡◌, ◌∙◌, sym, ap, subst, w64, refl}
+use Rattle.std.proofs.lemmas.Int.{to_z-of_z}
 use mir.Val.{SFits}
 use Rattle.fx_base.specs.Rect.{IsFrame}
 use Rattle.fx_effect.specs.Asked.{HasTime}
 use Rattle.fx_effect.specs.Shape.{IsLawful}
 use Rattle.fx_effect.specs.declared.values.Values.{Values}
-use Rattle.fx_effect.specs.declared.action.Identity.TheVariants.{No, Same}
+use Rattle.fx_effect.specs.declared.action.Identity.TheVariants.{No}
 use Rattle.fx_scene.specs.Nodes.{Effect}
 use Rattle.fx_region.specs.Follow.{GoesToRead, stand_end}
 use Rattle.fx_region.specs.Sites.{effect_at}

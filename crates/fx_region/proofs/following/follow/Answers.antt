@@ -1,13 +1,12 @@
-use Rattle.std.proofs.Common.{rules, ◌≡◌, ◌∙◌, ◌+◌, refl, sym, subst, ap, w64, length, ℤ}
+use Rattle.std.proofs.Common.{◌∙◌, ◌+◌, refl, sym, subst, ap, w64, length}
 use Rattle.std.proofs.lemmas.Int.{to_z-of_z}
 use Rattle.std.proofs.lemmas.Result.{IfOk-weaker}
 use mir.Val.{SFits}
 use Rattle.fx_scene.specs.Nodes.{AreNodes, Nodes}
-use Rattle.fx_region.specs.Ends.{EndShown, cut_alone, end_of, end_shown}
+use Rattle.fx_region.specs.Ends.{cut_alone, end_of}
 use Rattle.fx_region.specs.Sites.{scene_nodes, site_nodes}
 use Rattle.fx_region.specs.Stands.{StandsBelow}
 use Rattle.fx_region.specs.Suffice.{ShowsEnd}
-use Rattle.fx_region.specs.Tables.{Has}
 use Rattle.fx_region.specs.declared.ends.End.{End}
 use Rattle.fx_region.proofs.EndLaws.{shows_end}
 use Rattle.fx_region.proofs.StandLemmas.{ends_stand}

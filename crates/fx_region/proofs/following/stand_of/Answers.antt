@@ -1,4 +1,4 @@
-use Rattle.std.proofs.Common.{◌≡◌, ◌∙◌, ap, refl, w64, pos, ℕ, ℤ, Option}
+use Rattle.std.proofs.Common.{◌∙◌, ap, refl, w64, ℕ, ℤ, Option}
 use Rattle.std.proofs.lemmas.Int.{to_z-of_z}
 use Rattle.std.proofs.lemmas.Result.{IfOk-weaker}
 use mir.Val.{SFits}

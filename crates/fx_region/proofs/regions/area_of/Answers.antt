@@ -1,4 +1,4 @@
-use Rattle.std.proofs.Common.{rules, ◌≡◌, ◌∙◌, ap, sym, subst, refl, w64, to_z, of_z, ℕ, ℤ}
+use Rattle.std.proofs.Common.{rules, ◌∙◌, ap, sym, subst, refl, w64, to_z, of_z, ℕ, ℤ}
 use Rattle.std.proofs.lemmas.Int.{to_z-of_z}
 use Rattle.std.proofs.lemmas.Result.{IfOk-weaker}
 use mir.Val.{SFits}

@@ -1,4 +1,4 @@
-use Rattle.std.proofs.Common.{rules, ◌≡◌, ◌∙◌, ap, sym, refl, ℕ, List, Option, map}
+use Rattle.std.proofs.Common.{rules, ◌∙◌, ap, sym, refl, ℕ, List, Option, map}
 use Rattle.fx_params.specs.Parameter.{Parameter}
 use Rattle.fx_graph.specs.Shown.{does_of, shown}
 use Rattle.fx_graph.specs.Shown as does

@@ -1,4 +1,4 @@
-use Rattle.std.proofs.Common.{length, arith}
+use Rattle.std.proofs.Common.{arith}
 use Rattle.std.proofs.lemmas.List.{length-map}
 use Rattle.fx_graph.specs.Shown.{shown}
 use Rattle.fx_scene.specs.Scenes.{graph_shown, images_in}

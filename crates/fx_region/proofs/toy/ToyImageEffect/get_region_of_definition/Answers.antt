@@ -1,7 +1,5 @@
-use Rattle.std.proofs.Common.{subst, sym}
-use Rattle.fx_base.specs.Rect.{IsNear}
 use Rattle.fx_props.specs.Entries.{region_of}
-use Rattle.fx_region.proofs.ToyLemmas.{grown_by, region_fits, region_window, wrote_region}
+use Rattle.fx_region.proofs.ToyLemmas.{grown_by, region_fits, wrote_region}
 use Rattle.fx_region.proofs.toy.ToyImageEffect.get_region_of_definition.Goals as goal
 
 pub write_region-requires-clause-near : goal.write_region-requires-clause-near
