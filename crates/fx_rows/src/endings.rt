@@ -209,6 +209,11 @@ const OPTIONS: &[(&[&str], &[u8], &[(&str, Option<&[u8]>)])] = &[
         NEITHER,
     ),
     (
+        &["render", "g.json", "--first", "5", "--last", "3"],
+        b"frames 0\n",
+        NEITHER,
+    ),
+    (
         &[
             "render",
             "g.json",
