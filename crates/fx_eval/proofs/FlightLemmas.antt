@@ -1,7 +1,6 @@
 -- A core that keeps nothing, and the flights of renders.
-use Rattle.std.proofs.Common.{◌≡◌, ◌≤◌, ◌<◌, ◌+◌, ◌-◌, ◌==◌, ◌∙◌, min, ℕ, List, [], ◌∷◌, ◌++◌, length, Option, Some, None, Result, Ok, Err, refl, sym, ap, subst, arith, eq-eqb, Bool}
+use Rattle.std.proofs.Common.{◌≡◌, ◌≤◌, ◌<◌, ◌+◌, ◌-◌, ◌∙◌, min, ℕ, List, [], ◌∷◌, ◌++◌, length, Option, Some, None, Result, Ok, Err, refl, sym, ap, subst, arith, eq-eqb, Bool}
 use Rattle.std.proofs.lemmas.List.{length-append}
-use Rattle.std.specs.Arc.{arc_value}
 use Rattle.std.specs.Result.{OnErr}
 use Rattle.fx_core.specs.State.{State}
 use Rattle.fx_core.specs.Answer.{reply_of}
@@ -10,7 +9,7 @@ use Rattle.fx_core.specs.declared.flight.Answer.{Answer}
 use Rattle.fx_core.specs.declared.flight.Answer.TheVariants as answer
 use Rattle.fx_core.specs.declared.flight.Flight.{Flight}
 use Rattle.fx_core.specs.declared.totals.Totals.{Totals}
-use Rattle.fx_core.specs.Step.{Reply, step, Ask, Land, Drop, Fly, Done, after_flight, after_landing, after_drop}
+use Rattle.fx_core.specs.Step.{Reply, step, Ask, Land, Drop, Fly, Done, after_flight}
 use Rattle.fx_eval.specs.declared.window.TheConstants.{MOST_ASKS}
 use Rattle.fx_eval.specs.Flights.{IsIdle, FliesAlone, Drops, one_landed, one_dropped, after_flights, after_renders}
 

@@ -1,6 +1,5 @@
 -- The last that reads each node at a frame, and what is let go after it.
-use Rattle.std.proofs.Common.{◌≡◌, ℕ, ℤ, List, [], ◌∷◌, ◌++◌, Bool, true, false, cond, refl, sym, ap, ◌∙◌, subst, arith, ◌⊎◌, inl, inr, Option, Some, None, is_some, IsSome, nat_eq}
-use Rattle.std.proofs.lemmas.Bool.{and_parts}
+use Rattle.std.proofs.Common.{◌≡◌, ℕ, ℤ, List, [], ◌∷◌, ◌++◌, Bool, true, false, cond, refl, sym, ap, ◌∙◌, subst, arith, ◌⊎◌, inl, inr, Option, Some, None, is_some, IsSome}
 use Rattle.std.proofs.lemmas.Int.{ints}
 use Rattle.std.proofs.lemmas.Option.{none-some, same_Some}
 use Rattle.std.specs.Map.{lookup}
@@ -9,7 +8,6 @@ use Rattle.std.specs.List.Sorted.{IsStrictlySortedBy}
 use Rattle.std.specs.BTreeMap.{BTreeMap, get, is_at}
 use Rattle.std.specs.BTreeSet.{BTreeSet}
 use Rattle.std.specs.Cmp.{Equal-is}
-use Rattle.std.specs.Ordering.{int_eq}
 use Rattle.fx_scene.specs.declared.reaching.Moment.{Moment}
 use Rattle.fx_scene.specs.Nodes.{Nodes}
 use Rattle.fx_scene.specs.Reach.{IsReadBy, has, moment, moment_cmp}
@@ -22,7 +20,6 @@ use Rattle.fx_eval.specs.Wholes.{AreWhole, IsWhole, look}
 use Rattle.fx_effect.specs.Meaning.{Meaning}
 use Rattle.fx_graph.specs.Shown.{GraphShown}
 use Rattle.fx_scene.specs.Scenes.{Images, graph_nodes}
-use Rattle.fx_eval.proofs.PieceLemmas.{int_same, nat_same}
 use Rattle.fx_eval.proofs.OrderLemmas.{IsSplit, in_split, reads_same, split_done, split_end, split_here, split_start, split_step}
 
 not_both : (p q : Moment) → moment_cmp p q ≡ Less → moment_cmp q p ≡ Less → ⊥

@@ -1,8 +1,8 @@
 -- How many renders were made so far.
-use Rattle.std.proofs.Common.{◌≡◌, ◌+◌, ◌∙◌, ℕ, ℤ, List, [], ◌∷◌, refl, sym, ap, subst}
+use Rattle.std.proofs.Common.{◌≡◌, ◌+◌, ◌∙◌, ℕ, ℤ, List, [], ◌∷◌, refl, sym, ap}
 use Rattle.std.specs.List.{fold}
 use Rattle.fx_core.specs.State.{State}
-use Rattle.fx_scene.specs.Nodes.{AreNodes, Effect, EffectNode, Node, Nodes, Source, SourceFrames}
+use Rattle.fx_scene.specs.Nodes.{Effect, EffectNode, Node, Nodes, Source, SourceFrames}
 use Rattle.fx_scene.specs.Areas.{area}
 use Rattle.fx_scene.specs.Reach.{IsReach, IsReadBy, Moments}
 use Rattle.fx_scene.specs.declared.reaching.Moment.{Moment}

@@ -59,8 +59,8 @@ abbrev pub seen_in : Components → Bool → Components
 seen_in c mask = if mask then components.Alpha else c
 
 -- the effect in its place is asked with these values, and reads what these inputs give
-pub record IsAsked {E : Type 0} {c e : _} (meaning : E → Meaning) (number : E → ℕ) (site : Site E c e) (n : EffectNode E)
-    (v : Values) (given : Given) : Type 0 where
+pub record IsAsked {E : Type 0} {c e : _} (meaning : E → Meaning) (number : E → ℕ) (site : Site E c e)
+    (n : EffectNode E) (v : Values) (given : Given) : Type 0 where
   pub of_site : IsSite meaning number site
   pub there : StandsIn (graph_shown site.graph.now) n
   pub near : IsNearFrame n.place v.frame

@@ -1,4 +1,4 @@
-use Rattle.std.proofs.Common.{◌≡◌, ◌*◌, ◌+◌, ◌+ℤ◌, ◌∙◌, ℕ, ℤ, List, [], ◌∷◌, length, ap, pos, w64, rules, arith, sym, subst}
+use Rattle.std.proofs.Common.{◌≡◌, ◌*◌, ◌+◌, ◌+ℤ◌, ◌∙◌, ℤ, List, [], ◌∷◌, length, ap, pos, w64, rules, arith, sym, subst}
 use Rattle.std.proofs.lemmas.Int.{to_z-of_z, ints}
 use Rattle.std.proofs.lemmas.List.{length-append}
 use Rattle.std.specs.Int.{int_min}
