@@ -19,8 +19,8 @@ use Rattle.fx_scene.specs.Areas.{area}
 use Rattle.fx_region.specs.declared.ends.End.{End}
 use Rattle.fx_region.specs.declared.ends.End.TheVariants as code
 
--- Where a region is found: nowhere; in a frame of a source; or in a render of an effect, where a region is rendered that
--- holds the cut which is asked for. What is found there goes through the depths and components of these nodes.
+-- Where a region is found: nowhere; in a frame of a source; or in a render of an effect, where a region is rendered
+-- that holds the cut which is asked for. What is found there goes through the depths and components of these nodes.
 pub data EndShown : Type 0 where
   Void : EndShown
   Frame : ℕ → ℤ → Bounds → List Step → EndShown
@@ -42,7 +42,8 @@ Choice = ℕ → ℤ → Bounds → Bounds
 -- it holds the cut, and lies in the node's area
 pub record IsChoice (nodes : Nodes) (choose : Choice) : Type 0 where
   pub holds : (n : ℕ) (t : ℤ) (cut : Bounds) → IsWithin cut (choose n t cut)
-  pub inside : (n : ℕ) (t : ℤ) (cut : Bounds) → IsWithin cut (area nodes n t) → IsWithin (choose n t cut) (area nodes n t)
+  pub inside : (n : ℕ) (t : ℤ) (cut : Bounds) → IsWithin cut (area nodes n t)
+      → IsWithin (choose n t cut) (area nodes n t)
 
 -- the cut alone
 abbrev pub cut_alone : Choice

@@ -9,7 +9,8 @@ use Rattle.fx_region.specs.Needs.{NeedShown}
 use Rattle.fx_region.specs.Tables.{Has}
 use Rattle.fx_region.specs.declared.regions.Regions.{Regions}
 
--- A render of one of the first n nodes, which is reached at the frame. Its region has a place and lies in the node's area.
+-- A render of one of the first n nodes, which is reached at the frame. Its region has a place and lies in the node's
+-- area.
 pub record IsRender (nodes : Nodes) (regions : Regions) (n m : ℕ) (f : ℤ) (r : Bounds) : Type 0 where
   pub earlier : m < n
   pub reached : Has regions m f

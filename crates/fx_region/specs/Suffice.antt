@@ -12,8 +12,9 @@ use Rattle.fx_scene.specs.Value.{tap_value, value}
 use Rattle.fx_region.specs.Ends.{Choice, EndShown, end_by, end_holds, end_pixel}
 use Rattle.fx_region.specs.Needs.{NeedShown, need_holds, needs_pixel, node_needs}
 
--- An end shows a region of a node at a frame: it has places of the region alone; where it has a place it shows the value
--- there, at each depth and components to which both are converted last; and elsewhere in the region the value is zero.
+-- An end shows a region of a node at a frame: it has places of the region alone; where it has a place it shows the
+-- value there, at each depth and components to which both are converted last; and elsewhere in the region the value is
+-- zero.
 pub record ShowsEnd (nodes : Nodes) (n : ℕ) (t : ℤ) (r : Bounds) (e : EndShown) : Type 0 where
   pub inside : (x y : ℤ) → end_holds e x y ≡ true → Holds r x y
   pub shown : (x y : ℤ) → end_holds e x y ≡ true

@@ -1,6 +1,6 @@
 -- The effect of the tests, at bytes alone: the pixel of its one clip at the frame, or at the frame before. It answers
--- frames up to its own and regions that are grown by a margin, which are more than it needs, and says that it is the clip
--- over windows on the left alone.
+-- frames up to its own and regions that are grown by a margin, which are more than it needs, and says that it is the
+-- clip over windows on the left alone.
 use Rattle.std.specs.Prelude.{◌≡◌, ◌≤◌, ◌<◌, ◌+◌, ℕ, ℤ, pos, neg_ℤ, ◌≤ℤ◌, ◌-ℤ◌, Bool, true, false, List, [], ◌∷◌, codes, length, All, slice_get, Some, unsigned_abs, negsuc, if◌then◌else◌, refl}
 use Rattle.std.specs.Int.Signed.{le_z}
 use Rattle.std.specs.List.{AllZip}
@@ -171,7 +171,8 @@ toy_laws =
       interest_near = λ context v r clip n lawful rect up_to.
           wider_near n context v r lawful (up_to 1 v.project (omega arith));
       region_is_rect = λ context v regions lawful are.
-          IsRect-grown (region_of regions 0) (pos (margin v)) (pos (margin v)) (omega (arith, ints)) (omega (arith, ints));
+          IsRect-grown (region_of regions 0) (pos (margin v)) (pos (margin v)) (omega (arith, ints))
+          (omega (arith, ints));
       interest_is_rect = λ context v r clip lawful rect.
           IsRect-grown r (pos (margin v)) (pos (margin v)) (omega (arith, ints)) (omega (arith, ints));
       pixel = λ context v depth c value x y given.

@@ -76,7 +76,8 @@ pub(crate) fn find<E: Catalogue>(
     ensures { let nodes = site_nodes E.meaning site.now in
         IfOk result (λ end. end_shown end ≡ end_of nodes node frame region) }
 {
-    let cut = region.meet(regions.rod(node, frame));
+    let area = regions.rod(node, frame);
+    let cut = region.meet(area);
     if cut.is_empty() {
         return Ok(End::Void);
     }
@@ -177,7 +178,8 @@ fn effect_stand<E: Catalogue>(
 // The clip's node at the frame, in place of the effect.
 fn passed_on<E: Catalogue>(node: &EffectNode<'_, E>, clip: u32, frame: i64) -> Stand
     requires { clip < length node.now.clips.now }
-    ensures { result ≡ clip_stand node.now.depth node.now.components (slice_index_or node.now.clips.now clip None) frame }
+    ensures { let m = slice_index_or node.now.clips.now clip None in
+        result ≡ clip_stand node.now.depth node.now.components m frame }
 {
     match node.clips[clip as usize] {
         None => Stand::Here(End::Void),

@@ -181,7 +181,8 @@ fn clip_areas<E: ImageEffect>(
 {
     let mut areas = Vec::new(alloc);
     for c in 0..reads.len() {
-        areas.push(clip_area(regions, node.clips[c], reads[c].as_slice()))?;
+        let frames = reads[c].as_slice();
+        areas.push(clip_area(regions, node.clips[c], frames))?;
     }
     Ok(areas)
 }

@@ -35,6 +35,9 @@ const BACK: &str =
 const GROWN: &str =
     r#",{"name":"y","effect":"wide","clips":{"Source":"s"}},{"name":"z","effect":"wide","clips":{"Source":"y"},"params":{"grow":1}}"#;
 
+const UNDER: &str =
+    r#",{"name":"y","effect":"wide","clips":{"Source":"s"},"params":{"grow":1}},{"name":"z","effect":"wide","clips":{"Source":"y"}}"#;
+
 const GROWN_FAR: &str =
     r#",{"name":"z","effect":"wide","clips":{"Source":"s"},"params":{"grow":64,"back":1}}"#;
 
@@ -123,6 +126,16 @@ const NEEDS: &[(&str, u32, [i64; 4], &str)] = &[
          0@3: node 1 at 3 (64,0,128,64)\n\
          0@3: node 1 at 3 (0,64,64,128)\n\
          0@3: node 1 at 3 (64,64,128,128)\n",
+    ),
+    // Tiles round the origin.
+    (
+        UNDER,
+        3,
+        [-1, -1, 1, 1],
+        "0@3: node 1 at 3 (-1,-1,0,0)\n\
+         0@3: node 1 at 3 (0,-1,64,0)\n\
+         0@3: node 1 at 3 (-1,0,0,64)\n\
+         0@3: node 1 at 3 (0,0,64,64)\n",
     ),
     // Frames rise, and tiles are cut to the region of definition, which is wider at frame 4.
     (

@@ -17,8 +17,8 @@ clip_area-requires g c =
     let o = effect_at g.E.ImageEffect.meaning c.args._project c.args.node.now in
     let reads = c.args.reads.now in
     let long = reads_long o c.args.frame reads c.requires.reads in
-    let frames = c.as_slice.ensures.value ∙ reads_at o c.args.frame reads c.loop-c.c c.index-reads-c.result c.requires.reads (omega (arith, c.loop-c-test.true, c.loop-c.invariant.count)) (omega (arith, long, c.loop-c-test.true, c.loop-c.invariant.count)) c.index-reads-c.is in
-    clip_there o c.args.frame c.args.regions.now c.loop-c.c _ c.as_slice.result.now c.requires.there refl frames
+    let frames = c.as_slice-frames.ensures.value ∙ reads_at o c.args.frame reads c.loop-c.c c.index-reads-c.result c.requires.reads (omega (arith, c.loop-c-test.true, c.loop-c.invariant.count)) (omega (arith, long, c.loop-c-test.true, c.loop-c.invariant.count)) c.index-reads-c.is in
+    clip_there o c.args.frame c.args.regions.now c.loop-c.c _ c.as_slice-frames.result.now c.requires.there refl frames
 
 pub loop-c-preserved : goal.loop-c-preserved
 loop-c-preserved g c =
@@ -29,7 +29,7 @@ loop-c-preserved g c =
     let same : t ≡ c.args.frame = to_z-of_z w64 _ fits in
     let are = subst (λ (z : ℤ). AreReads o z reads) (sym same) c.requires.reads in
     let long = reads_long o c.args.frame reads c.requires.reads in
-    let frames = c.as_slice.ensures.value ∙ reads_at o t reads c.loop-c.c c.index-reads-c.result are (omega (arith, c.loop-c-test.true, c.loop-c.invariant.count)) (omega (arith, long, c.loop-c-test.true, c.loop-c.invariant.count)) c.index-reads-c.is in
+    let frames = c.as_slice-frames.ensures.value ∙ reads_at o t reads c.loop-c.c c.index-reads-c.result are (omega (arith, c.loop-c-test.true, c.loop-c.invariant.count)) (omega (arith, long, c.loop-c-test.true, c.loop-c.invariant.count)) c.index-reads-c.is in
     record {
       count = c.loop-c.invariant.count;
       areas = λ nodes right.
