@@ -1,0 +1,145 @@
+-- Flights of the directory, what they land, and what is counted.
+use Rattle.std.proofs.Common.{◌≡◌, ℕ, ◌<◌, ◌≤◌, ◌+◌, ℤ, List, [], ◌∷◌, ◌++◌, Contains, suc, length, get_or, take, Bool, true, false, refl, arith, sym, ap, ◌∙◌, subst, inl, inr, ◌⊎◌}
+use Rattle.std.proofs.lemmas.List.Sums.{count_by_more_no, count_by_more_yes}
+use Rattle.fx_base.specs.Bounds.{Bounds}
+use Rattle.fx_directory.specs.Seats.{Made}
+use Rattle.fx_image.specs.Stored.{Stored}
+use Rattle.fx_effect.specs.Meaning.{Meaning}
+use Rattle.fx_scene.specs.declared.key.Key.{Key}
+use Rattle.fx_scene.specs.Scenes.{Shot}
+use Rattle.fx_region.specs.Counts.{is_asked}
+use Rattle.fx_region.specs.Ends.{end_shown}
+use Rattle.fx_region.specs.Sites.{scene_nodes}
+use Rattle.fx_region.specs.declared.ends.End.{End}
+use Rattle.fx_region.specs.declared.ends.End.TheVariants as code
+use Rattle.fx_region.specs.declared.ends.Need.{Need}
+use Rattle.fx_tile.specs.Counts.{Fetched, Follows, IsUnasked, Lands, Met, Within}
+use Rattle.fx_tile.specs.Sites.{IsFound, IsKeyOf, renders_of}
+use Rattle.fx_tile.specs.Tiles.{IsRightTile, IsTile}
+use Rattle.fx_tile.specs.declared.count.Tally.{Tally}
+use Rattle.fx_tile.specs.declared.site.Site.{Site}
+
+-- ---- keys
+
+-- the image of a key's region is right under it
+pub right_of : {E : Type 0} (meaning : E → Meaning) (name scene : Shot E) (node : ℕ) (frame : ℤ) (region : Bounds) (key : Key) (image : Stored)
+    → name ≡ scene → IsKeyOf scene node frame region key → IsTile (scene_nodes meaning scene) node frame region image
+    → IsRightTile meaning name key image
+right_of meaning name scene node frame region key image named is tile =
+    subst (λ (s : Shot _). IsRightTile meaning s key image) (sym named)
+    (subst (λ (k : Key). IsRightTile meaning scene k image) (sym is) (record { values = refl; era = refl; tile = tile }))
+
+-- and what is right under the key is the image of its region
+pub tile_of : {E : Type 0} (meaning : E → Meaning) (name scene : Shot E) (node : ℕ) (frame : ℤ) (region : Bounds) (key : Key) (image : Stored)
+    → name ≡ scene → IsKeyOf scene node frame region key → IsRightTile meaning name key image
+    → IsTile (scene_nodes meaning scene) node frame region image
+tile_of meaning name scene node frame region key image named is right =
+    (subst (λ (k : Key). IsRightTile meaning scene k image) is (subst (λ (s : Shot _). IsRightTile meaning s key image) named right)).tile
+
+-- ---- the flight that joined stands among the seat's
+
+later : {A : Type 0} (y : A) (xs : List A) (x : A) → Contains xs x → Contains (y ∷ xs) x
+later y xs x c = let low = c.1 in (suc c.0, omega (arith, low), c.2)
+
+at_end : {A : Type 0} (xs : List A) (x : A) → Contains (xs ++ x ∷ []) x
+at_end [] x = (0, omega arith, refl)
+at_end (y ∷ xs) x = later y (xs ++ x ∷ []) x (at_end xs x)
+
+pub joined : {A : Type 0} (l xs : List A) (x : A) → l ≡ xs ++ x ∷ [] → Contains l x
+joined l xs x e = subst (λ (z : List _). Contains z x) (sym e) (at_end xs x)
+
+nil_right : {A : Type 0} (xs : List A) → xs ++ [] ≡ xs
+nil_right [] = refl
+nil_right (x ∷ xs) = ap (λ ys. x ∷ ys) (nil_right xs)
+
+-- and once it has left the seat's are as before
+pub left : {A : Type 0} (old mid new : List A) (x : A) → mid ≡ old ++ x ∷ []
+    → ((before after : List A) → mid ≡ before ++ x ∷ after → new ≡ before ++ after) → new ≡ old
+left old mid new x joins leaves = leaves old [] joins ∙ nil_right old
+
+-- ---- counts
+
+pub follows_more : (a b c : Tally) (l m n : Made) → Follows a b l m → Follows b c m n → Follows a c l n
+follows_more a b c l m n f g =
+    let f1 = f.landed in let f2 = f.hits in let g1 = g.landed in let g2 = g.hits in
+    record { landed = omega (arith, f1, g1); hits = omega (arith, f2, g2) }
+
+pub within_later : (a b : Tally) (m n : Made) → Within a m → Follows a b m n → Within b n
+within_later a b m n w f =
+    let f1 = f.landed in let f2 = f.hits in let w1 = w.landed in let w2 = w.hits in
+    record { landed = omega (arith, f1, w1); hits = omega (arith, f2, w2) }
+
+-- it makes no difference where these counts stay
+pub fetched_from : (r : ℕ) (l m n : Made) → m.dropped ≡ l.dropped → m.landed ≡ l.landed → m.hits ≡ l.hits → Fetched r m n → Fetched r l n
+fetched_from r l m n d a b got =
+    let g1 = got.landed in let g2 = got.hits in
+    record {
+      dropped = got.dropped ∙ d;
+      landed = omega (arith, a, g1);
+      hits = omega (arith, b, g2);
+      way = subst (λ (k : ℕ). ((n.landed ≡ k) × (n.hits ≡ l.hits + 1)) ⊎ ((k < n.landed) × (k + l.hits + 1 + r ≤ n.landed + n.hits))) a
+          (subst (λ (k : ℕ). ((n.landed ≡ m.landed) × (n.hits ≡ k + 1)) ⊎ ((m.landed < n.landed) × (m.landed + k + 1 + r ≤ n.landed + n.hits))) b got.way);
+    }
+
+-- what was met, and one that landed
+pub met_lands : (r : ℕ) (l m n : Made) → Met r l m → Lands m n → Fetched r l n
+met_lands r l m n met lands =
+    let d1 = met.dropped in let d2 = lands.dropped in
+    let m1 = met.landed in let m2 = met.hits in let m3 = met.enough in
+    let n1 = lands.landed in let n2 = lands.hits in
+    record {
+      dropped = d2 ∙ d1;
+      landed = omega (arith, m1, n1);
+      hits = omega (arith, m2, n2);
+      way = inr (omega (arith, m1, n1), omega (arith, m3, n1, n2));
+    }
+
+pub met_none : (m : Made) → Met 0 m m
+met_none m = record { dropped = refl; landed = omega arith; hits = omega arith; enough = omega arith }
+
+met_unasked : (r : ℕ) (l m n : Made) → Met r l m → IsUnasked m n → Met r l n
+met_unasked r l m n met un =
+    let d1 = met.dropped in let d2 = un.dropped in
+    let m1 = met.landed in let m2 = met.hits in let m3 = met.enough in
+    let n1 = un.landed in let n2 = un.hits in
+    record { dropped = d2 ∙ d1; landed = omega (arith, m1, n1); hits = omega (arith, m2, n2); enough = omega (arith, m3, n1, n2) }
+
+enough_by : (q : ℕ) (m n : Made) → ((n.landed ≡ m.landed) × (n.hits ≡ m.hits + 1)) ⊎ ((m.landed < n.landed) × (m.landed + m.hits + 1 + q ≤ n.landed + n.hits))
+    → m.landed + m.hits + 1 ≤ n.landed + n.hits
+enough_by q m n (inl h) = let a = h.0 in let b = h.1 in omega (arith, a, b)
+enough_by q m n (inr h) = let b = h.1 in omega (arith, b)
+
+met_fetched : (r q : ℕ) (l m n : Made) → Met r l m → Fetched q m n → Met (r + 1) l n
+met_fetched r q l m n met got =
+    let d1 = met.dropped in let d2 = got.dropped in
+    let m1 = met.landed in let m2 = met.hits in let m3 = met.enough in
+    let n1 = got.landed in let n2 = got.hits in
+    let n3 = enough_by q m n got.way in
+    record { dropped = d2 ∙ d1; landed = omega (arith, m1, n1); hits = omega (arith, m2, n2); enough = omega (arith, m3, n3) }
+
+abbrev is_render : Need → Bool
+is_render n = is_asked (end_shown n.end)
+
+module _ {E : Type 0} {c e : _} (meaning : E → Meaning) (site : Site E c e) (needs : List Need) (i : ℕ) (need : Need) (low : i < length needs) (there : need ≡ get_or needs i need)
+    (l m n : Made) (met : Met (renders_of (take i needs)) l m) where
+  same_as : (b : Bool) → is_render need ≡ b → is_render (get_or needs i need) ≡ b
+  same_as b is = sym (ap is_render there) ∙ is
+
+  no_more : is_render need ≡ false → IsUnasked m n → Met (renders_of (take (i + 1) needs)) l n
+  no_more is un =
+      subst (λ (k : ℕ). Met k l n) (sym (count_by_more_no is_render needs i need low (same_as false is)))
+      (met_unasked (renders_of (take i needs)) l m n met un)
+
+  one_more : (q : ℕ) → is_render need ≡ true → Fetched q m n → Met (renders_of (take (i + 1) needs)) l n
+  one_more q is got =
+      subst (λ (k : ℕ). Met k l n) (sym (count_by_more_yes is_render needs i need low (same_as true is)))
+      (met_fetched (renders_of (take i needs)) q l m n met got)
+
+  met_by : (end : End) → need.end ≡ end → IsFound meaning site end m n → Met (renders_of (take (i + 1) needs)) l n
+  met_by code.Void is found = no_more (ap (λ (z : End). is_asked (end_shown z)) is) found
+  met_by (code.Frame node frame region through) is found = no_more (ap (λ (z : End). is_asked (end_shown z)) is) found
+  met_by (code.Render node frame region through) is found = one_more _ (ap (λ (z : End). is_asked (end_shown z)) is) found
+
+  -- one need more is met
+  pub met_more : IsFound meaning site need.end m n → Met (renders_of (take (i + 1) needs)) l n
+  met_more found = met_by need.end refl found

@@ -1,0 +1,9 @@
+pub mod FoundLemmas
+pub mod NeedLemmas
+pub mod PieceLemmas
+pub mod ReadyLemmas
+pub mod SiteLemmas
+pub mod RenderLemmas
+pub mod FlightLemmas
+pub mod WindowLemmas
+pub mod LifeLemmas

@@ -1,0 +1,18 @@
+use Rattle.std.proofs.Common.{◌≡◌, ◌∙◌, ◌++◌, ap, rules, [], ◌∷◌}
+use Rattle.fx_effect.specs.Given.{Given}
+use Rattle.fx_region.specs.Sites.{scene_nodes}
+use Rattle.fx_tile.proofs.WindowLemmas.{shows_alone}
+use Rattle.fx_tile.proofs.window.one_clip.Goals as goal
+
+pub returns-in_ok-add_piece-in_default : goal.returns-in_ok-add_piece-in_default
+returns-in_ok-add_piece-in_default g c =
+    let nodes = scene_nodes g.E.ImageEffect.meaning c.args.site.now.scene.now in
+    let old = c.in_ok-inputs.inputs in
+    let blank : old ≡ record { depth = c.args.depth; components = c.args.components ∷ []; pieces = [] } = search rules in
+    let adds = c.in_ok-add_piece-in_default.ensures in
+    let made = adds.added ∙ ap (λ (h : Given). record h { pieces = h.pieces ++ adds.piece ∷ [] }) blank in
+    record {
+      depth = ap (λ (h : Given). h.depth) made;
+      components = ap (λ (h : Given). h.components) made;
+      pixels = λ x y. shows_alone nodes c.args.need.now old c.add_piece.new.inputs c.args.depth c.args.components adds blank c.requires.clip x y;
+    }

@@ -1,0 +1,61 @@
+-- What renders count in a seat of the directory.
+use Rattle.std.specs.Prelude.{◌≡◌, ◌<◌, ◌≤◌, ◌+◌, ◌⊎◌, ℕ}
+use Rattle.fx_directory.specs.Seats.{Made}
+use Rattle.fx_region.specs.Ends.{EndShown, Frame, Render, Void}
+use Rattle.fx_tile.specs.declared.count.Tally.{Tally}
+use Rattle.fx_tile.specs.declared.count.TileCount.{TileCount}
+
+-- the tally rose as the seat's counts did
+pub record Follows (old new : Tally) (m n : Made) : Type 0 where
+  pub landed : new.landed + m.landed ≡ old.landed + n.landed
+  pub hits : new.hits + m.hits ≡ old.hits + n.hits
+
+-- no more was tallied than the seat counted
+pub record Within (t : Tally) (m : Made) : Type 0 where
+  pub landed : t.landed ≤ m.landed
+  pub hits : t.hits ≤ m.hits
+
+-- nothing was dropped, and of what landed and was found kept there were so many at least
+pub record Met (r : ℕ) (m n : Made) : Type 0 where
+  pub dropped : n.dropped ≡ m.dropped
+  pub landed : m.landed ≤ n.landed
+  pub hits : m.hits ≤ n.hits
+  pub enough : m.landed + m.hits + r ≤ n.landed + n.hits
+
+-- one more landed
+pub record Lands (m n : Made) : Type 0 where
+  pub dropped : n.dropped ≡ m.dropped
+  pub landed : n.landed ≡ m.landed + 1
+  pub hits : n.hits ≡ m.hits
+
+-- A render was found kept, or it landed after the r renders that it needs. Nothing was dropped.
+pub record Fetched (r : ℕ) (m n : Made) : Type 0 where
+  pub dropped : n.dropped ≡ m.dropped
+  pub landed : m.landed ≤ n.landed
+  pub hits : m.hits ≤ n.hits
+  pub way :
+      ((n.landed ≡ m.landed) × (n.hits ≡ m.hits + 1))
+      ⊎ ((m.landed < n.landed) × (m.landed + m.hits + 1 + r ≤ n.landed + n.hits))
+
+-- nothing was asked
+pub record IsUnasked (m n : Made) : Type 0 where
+  pub dropped : n.dropped ≡ m.dropped
+  pub landed : n.landed ≡ m.landed
+  pub hits : n.hits ≡ m.hits
+
+-- ---- a tile of the picture
+
+-- one of the three is 1, by where the tile is found
+abbrev pub CountsEnd : EndShown → TileCount → Type 0
+CountsEnd Void n = (n.void_tiles ≡ 1) × (n.passed ≡ 0) × (n.asked ≡ 0)
+CountsEnd (Frame node frame region through) n = (n.void_tiles ≡ 0) × (n.passed ≡ 1) × (n.asked ≡ 0)
+CountsEnd (Render node frame region cut through) n = (n.void_tiles ≡ 0) × (n.passed ≡ 0) × (n.asked ≡ 1)
+
+-- The count has what landed and was found kept through the seat, and nothing was dropped. Where the tile is asked, it
+-- was found kept, or it landed after the r renders that it needs.
+pub record CountsRises (r : ℕ) (m n : Made) (c : TileCount) : Type 0 where
+  pub dropped : n.dropped ≡ m.dropped
+  pub landed : n.landed ≡ m.landed + c.landed
+  pub hits : n.hits ≡ m.hits + c.hits
+  pub way :
+      c.asked ≡ 1 → ((c.landed ≡ 0) × (c.hits ≡ 1)) ⊎ ((1 ≤ c.landed) × (1 + r ≤ c.landed + c.hits))

@@ -1,0 +1,8 @@
+pub mod Founds
+pub mod Tiles
+pub mod KeyLaws
+pub mod Counts
+pub mod Sites
+pub mod Inputs
+pub mod Windows
+pub mod Toy

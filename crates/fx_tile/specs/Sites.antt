@@ -1,0 +1,151 @@
+-- What renders are made from, and what has to be there before one.
+use Rattle.std.specs.Prelude.{◌≡◌, ◌≢◌, ◌<◌, ℕ, ℤ, List, [], ◌∷◌, map, length, All, Option, Some, None, slice_get, count_by}
+use Rattle.std.specs.Arc.{arc_value}
+use Rattle.std.specs.declared.alloc.Global.{Global}
+use Rattle.std.specs.declared.sync.Arc.{Arc}
+use Rattle.fx_base.specs.Bounds.{Bounds}
+use Rattle.fx_base.specs.Rect.{IsWithin}
+use Rattle.fx_image.specs.Stored.{Stored, image_of}
+use Rattle.fx_effect.specs.Asked.{IsWindow}
+use Rattle.fx_effect.specs.Meaning.{Meaning}
+use Rattle.fx_seq.specs.Held.{held}
+use Rattle.fx_directory.specs.Seats.{Made}
+use Rattle.fx_scene.specs.declared.key.Key.{Key}
+use Rattle.fx_scene.specs.Areas.{area}
+use Rattle.fx_scene.specs.Nodes.{AreNodes, EffectNode, Effect, Nodes, Source, SourceFrames}
+use Rattle.fx_graph.specs.Shown.{Shown, GraphShown}
+use Rattle.fx_life.specs.Seats.{Lives, Plays, Used, used_by}
+use Rattle.fx_scene.specs.Scenes.{Shot, graph_shown, node_values}
+use Rattle.fx_region.specs.declared.ends.End.{End}
+use Rattle.fx_region.specs.declared.ends.End.TheVariants as code
+use Rattle.fx_region.specs.declared.ends.Need.{Need}
+use Rattle.fx_region.specs.Counts.{is_asked}
+use Rattle.fx_region.specs.Ends.{EndShown, Frame, Render, Void, end_shown}
+use Rattle.fx_region.specs.Needs.{need_shown, needs_of}
+use Rattle.fx_region.specs.Sites.{scene_nodes}
+use Rattle.fx_region.specs.Suffice.{ShowsTaps}
+use Rattle.fx_region.specs.Tables.{Has, IsMadeOf}
+use Rattle.fx_tile.specs.declared.share.TileSeat.{TileSeat}
+use Rattle.fx_tile.specs.declared.site.Site.{Site}
+use Rattle.fx_tile.specs.Counts.{Fetched, IsUnasked}
+use Rattle.fx_tile.specs.Tiles.{IsRegion, IsTile}
+
+-- each node of the graph that uses an effect has its instance, of the plug-in of that effect, in a sequence
+abbrev pub HasLife : {E : Type 0} → (E → ℕ) → GraphShown E → Lives E → Type 0
+HasLife {E} number g life =
+    (k : ℕ) (node : Shown E) (used : Used E) → slice_get g.nodes k ≡ Some node → used_by node.does ≡ Some used
+    → Plays number life k used.effect
+
+-- the graph and the frames are the scene's, its effects keep their laws, and of it are the instances, the regions and
+-- what is kept
+pub record IsSite {E : Type 0} {c e : _} (meaning : E → Meaning) (number : E → ℕ) (site : Site E c e) : Type 0 where
+  pub graph : site.scene.now.graph ≡ graph_shown site.graph.now
+  pub store : site.scene.now.store ≡ site.store.now
+  pub nodes : AreNodes (scene_nodes meaning site.scene.now)
+  pub life : HasLife number site.scene.now.graph site.life.now
+  pub regions : IsMadeOf meaning site.scene.now site.regions.now
+  pub name : site.shared.now.directory.name.scene.value ≡ site.scene.now
+
+-- the seat is one of the directory
+abbrev pub IsSeat : {E : Type 0} {c e : _} → Site E c e → TileSeat E → Type 0
+IsSeat site seat = seat.directory.row ≡ site.shared.now.directory
+
+-- the seat has its directory, its parts and its flights as before
+pub record KeepsSeat {E : Type 0} (old new : TileSeat E) : Type 0 where
+  pub row : new.directory.row ≡ old.directory.row
+  pub parts : new.directory.parts ≡ old.directory.parts
+  pub aloft : new.directory.aloft ≡ old.directory.aloft
+
+-- the key of a region of a node at a frame
+abbrev pub IsKeyOf : {E : Type 0} → Shot E → ℕ → ℤ → Bounds → Key → Type 0
+IsKeyOf scene node frame region key =
+    key ≡ record {
+      node = node;
+      frame = frame;
+      region = region;
+      values = node_values scene.graph node frame;
+      era = 0;
+    }
+
+-- ---- what has to be there
+
+-- a region of an effect's node within its area, at a frame at which it is reached
+pub record IsRenderable {E : Type 0} {c e : _} (meaning : E → Meaning) (site : Site E c e) (node : ℕ) (frame : ℤ)
+    (region : Bounds) : Type 0 where
+  pub effect : EffectNode
+  pub there : scene_nodes meaning site.scene.now node ≡ Effect effect
+  pub reached : Has site.regions.now node frame
+  pub region_is : IsRegion region
+  pub within : IsWithin region (area (scene_nodes meaning site.scene.now) node frame)
+
+-- a region of a frame of a source that was fetched
+pub record IsShown {E : Type 0} {c e : _} (meaning : E → Meaning) (site : Site E c e) (node : ℕ) (frame : ℤ)
+    (region : Bounds) : Type 0 where
+  pub source : SourceFrames
+  pub there : scene_nodes meaning site.scene.now node ≡ Source source
+  pub image : Stored
+  pub is_held : held site.store.now node frame ≡ Some image
+  pub frame_is : source.frames frame ≡ Some (image_of image)
+  pub window : IsWindow region
+  pub within : IsWithin region image.rect
+
+-- an end in a frame that was fetched, or in a node before this one that may be rendered there
+abbrev pub IsReady : {E : Type 0} {c e : _} → (E → Meaning) → Site E c e → ℕ → End → Type 0
+IsReady meaning site n code.Void = Unit {0}
+IsReady meaning site n (code.Frame node frame region through) = IsShown meaning site node frame region
+IsReady meaning site n (code.Render node frame region through) =
+    (node < n) × IsRenderable meaning site node frame region
+
+-- what a region of an effect's node needs, which shows what its pixels read; each of one of its clips, and found
+-- somewhere
+pub record AreNeeds {E : Type 0} {c e : _} (meaning : E → Meaning) (site : Site E c e) (node : ℕ) (frame : ℤ)
+    (region : Bounds) (needs : List Need) : Type 0 where
+  pub shows :
+      (o : EffectNode) → scene_nodes meaning site.scene.now node ≡ Effect o
+      → ShowsTaps (scene_nodes meaning site.scene.now) o frame region (map need_shown needs)
+  pub clips :
+      (o : EffectNode) → scene_nodes meaning site.scene.now node ≡ Effect o
+      → All (λ need. need.clip < length o.clips) needs
+  pub found : All (λ need. need.end ≢ code.Void) needs
+
+-- ---- the images of ends
+
+-- the image of an end that is a render
+abbrev pub IsTileOf : Nodes → End → Option (Arc Stored Global) → Type 0
+IsTileOf nodes code.Void tile = Unit {0}
+IsTileOf nodes (code.Frame node frame region through) tile = Unit {0}
+IsTileOf nodes (code.Render node frame region through) None = ⊥
+IsTileOf nodes (code.Render node frame region through) (Some tile) = IsTile nodes node frame region (arc_value tile)
+
+-- one for each need
+abbrev pub AreTilesOf : Nodes → List Need → List (Option (Arc Stored Global)) → Type 0
+AreTilesOf nodes [] [] = Unit {0}
+AreTilesOf nodes [] (t ∷ ts) = ⊥
+AreTilesOf nodes (n ∷ ns) [] = ⊥
+AreTilesOf nodes (n ∷ ns) (t ∷ ts) = IsTileOf nodes n.end t × AreTilesOf nodes ns ts
+
+-- ---- how many renders
+
+-- how many of the needs are renders
+abbrev pub renders_of : List Need → ℕ
+renders_of needs = count_by (λ n. is_asked (end_shown n.end)) needs
+
+-- how many renders a region of a node needs
+abbrev pub renders_needed : {E : Type 0} {c e : _} → (E → Meaning) → Site E c e → ℕ → ℤ → Bounds → ℕ
+renders_needed meaning site node frame region =
+    let nodes = scene_nodes meaning site.scene.now in
+    count_by (λ n. is_asked n.end) (needs_of nodes site.shared.now.grid node frame region)
+
+-- what an end that is a render counts in a seat; the others count nothing
+abbrev pub IsFound : {E : Type 0} {c e : _} → (E → Meaning) → Site E c e → End → Made → Made → Type 0
+IsFound meaning site code.Void m n = IsUnasked m n
+IsFound meaning site (code.Frame node frame region through) m n = IsUnasked m n
+IsFound meaning site (code.Render node frame region through) m n =
+    Fetched (renders_needed meaning site node frame region) m n
+
+-- how many renders the region of an end needs, where it is a render
+abbrev pub end_renders : Nodes → ℕ → EndShown → ℕ
+end_renders nodes side Void = 0
+end_renders nodes side (Frame node frame region through) = 0
+end_renders nodes side (Render node frame region cut through) =
+    count_by (λ n. is_asked n.end) (needs_of nodes side node frame region)

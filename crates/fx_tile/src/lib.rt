@@ -1,0 +1,22 @@
+//! The picture of a frame, tile by tile: each tile of the picture by the regions that it needs, and each of these
+//! rendered once, as long as it is kept, among all who ask the directory for it.
+#![tactic(auto)]
+
+mod count;
+mod inputs;
+pub mod laws;
+mod name;
+mod render;
+mod share;
+mod site;
+#[cfg(test)]
+mod tests;
+mod tile;
+#[cfg(test)]
+mod toy;
+mod window;
+
+pub use count::TileCount;
+pub use name::SceneName;
+pub use share::{Shared, TileSeat};
+pub use window::window_tile;

@@ -1,0 +1,297 @@
+//! A render that is asked of the directory: it is kept there, or it is rendered here and landed.
+ghost use Rattle.std.specs.Prelude.{◌≡◌, ◌≤◌, All, IfOk, IsTrue, OnOk};
+ghost use Rattle.std.specs.Arc.{arc_value};
+ghost use Rattle.fx_core.specs.Flight.{Stands};
+ghost use Rattle.fx_directory.specs.Seats.{LeavesAlone};
+ghost use Rattle.fx_region.specs.Sites.{scene_nodes};
+ghost use Rattle.fx_scene.specs.Scenes.{node_values};
+ghost use Rattle.fx_tile.specs.Tiles.{IsRightTile, IsTile};
+ghost use Rattle.fx_tile.specs.Sites.{AreNeeds, AreTilesOf, IsFound, IsKeyOf, IsReady, IsRenderable, IsSeat, IsSite, IsTileOf, KeepsSeat, renders_needed, renders_of};
+ghost use Rattle.fx_tile.specs.Counts.{Fetched, Follows, Lands, Met, Within};
+
+use crate::count::Tally;
+use crate::render::rendered;
+use crate::share::TileSeat;
+use crate::site::Site;
+use fx_base::{Grid, Memory, Rect};
+use fx_core::{Answer, Flight, Ticket};
+use fx_effect::Catalogue;
+use fx_image::Image;
+use fx_region::{End, Need, demand};
+use fx_scene::Key;
+use std::alloc::Global;
+use std::sync::{Arc, Wait};
+use std::thread;
+
+/// The image of a region of an effect's node at a frame: kept, or rendered here and landed. Waits while another
+/// renders it.
+#[cycle(fetching)]
+pub(crate) fn fetch<R: Wait, E: Catalogue + Drop>(
+    rt: &R,
+    alloc: Global,
+    site: &Site<'_, E>,
+    seat: &mut TileSeat<E>,
+    tally: &mut Tally,
+    node: u32,
+    frame: i64,
+    region: Rect,
+) -> Result<Arc<Image>, Memory>
+    requires site { IsSite E.meaning E.number_of site.now }
+    requires seat { IsSeat site.now seat.old }
+    requires within { Within tally.old seat.old.directory.made }
+    requires renderable { IsRenderable E.meaning site.now node frame region }
+    ensures tile { let nodes = scene_nodes E.meaning site.now.scene.now in
+        IfOk result (λ image. IsTile nodes node frame region (arc_value image)) }
+    ensures seat { KeepsSeat seat.old seat.new }
+    ensures fetched { let r = renders_needed E.meaning site.now node frame region in
+        OnOk result (Fetched r seat.old.directory.made seat.new.directory.made) }
+    ensures follows { OnOk result
+        (Follows tally.old tally.new seat.old.directory.made seat.new.directory.made) }
+{
+    for _ in rt.forever() {
+        let key = site.scene.key(alloc, node, frame, region)?;
+        match site
+            .shared
+            .directory
+            .ask(rt, alloc, &mut seat.directory, key)?
+        {
+            Answer::Here(image) => {
+                tally.hits += 1;
+                return Ok(image);
+            }
+            Answer::Busy => thread::yield_now(),
+            Answer::Fly(flight) => {
+                return made(rt, alloc, site, seat, tally, node, frame, region, flight);
+            }
+        }
+    }
+    unreachable!()
+}
+
+// Renders under a flight and lands it. Where memory is wanting the flight is dropped.
+#[cycle(fetching)]
+fn made<R: Wait, E: Catalogue + Drop>(
+    rt: &R,
+    alloc: Global,
+    site: &Site<'_, E>,
+    seat: &mut TileSeat<E>,
+    tally: &mut Tally,
+    node: u32,
+    frame: i64,
+    region: Rect,
+    flight: Flight<Key>,
+) -> Result<Arc<Image>, Memory>
+    requires site { IsSite E.meaning E.number_of site.now }
+    requires seat { IsSeat site.now seat.old }
+    requires within { Within tally.old seat.old.directory.made }
+    requires renderable { IsRenderable E.meaning site.now node frame region }
+    requires key { IsKeyOf site.now.scene.now node frame region (arc_value flight.key) }
+    requires own { Stands seat.old.directory.aloft flight }
+    ensures tile { let nodes = scene_nodes E.meaning site.now.scene.now in
+        IfOk result (λ image. IsTile nodes node frame region (arc_value image)) }
+    ensures row { IsSeat site.now seat.new }
+    ensures parts { seat.new.directory.parts ≡ seat.old.directory.parts }
+    ensures aloft { LeavesAlone seat.old.directory.aloft seat.new.directory.aloft flight }
+    ensures fetched { let r = renders_needed E.meaning site.now node frame region in
+        OnOk result (Fetched r seat.old.directory.made seat.new.directory.made) }
+    ensures follows { OnOk result
+        (Follows tally.old tally.new seat.old.directory.made seat.new.directory.made) }
+{
+    let mut flight = flight;
+    match image_of(
+        rt,
+        alloc,
+        site,
+        seat,
+        tally,
+        node,
+        frame,
+        region,
+        &mut flight.ticket,
+    ) {
+        Ok(image) => landed(rt, alloc, site, seat, tally, flight, image),
+        Err(memory) => {
+            site.shared
+                .directory
+                .drop_flight(rt, &mut seat.directory, flight);
+            Err(memory)
+        }
+    }
+}
+
+// Lands an image, which is handed back too. Where memory is wanting the flight is dropped.
+fn landed<R: Wait, E: Catalogue + Drop>(
+    rt: &R,
+    alloc: Global,
+    site: &Site<'_, E>,
+    seat: &mut TileSeat<E>,
+    tally: &mut Tally,
+    flight: Flight<Key>,
+    image: Arc<Image>,
+) -> Result<Arc<Image>, Memory>
+    requires seat { IsSeat site.now seat.old }
+    requires within { Within tally.old seat.old.directory.made }
+    requires own { Stands seat.old.directory.aloft flight }
+    requires stamped { IsTrue flight.ticket.stamped }
+    requires right { let scene = site.now.shared.now.directory.name.scene.value in
+        IsRightTile E.meaning scene (arc_value flight.key) (arc_value image) }
+    ensures same { IfOk result (λ tile. arc_value tile ≡ arc_value image) }
+    ensures row { IsSeat site.now seat.new }
+    ensures parts { seat.new.directory.parts ≡ seat.old.directory.parts }
+    ensures aloft { LeavesAlone seat.old.directory.aloft seat.new.directory.aloft flight }
+    ensures landed { OnOk result (Lands seat.old.directory.made seat.new.directory.made) }
+    ensures follows { OnOk result
+        (Follows tally.old tally.new seat.old.directory.made seat.new.directory.made) }
+{
+    let directory = &site.shared.directory;
+    let Ok(kept) = Arc::try_clone(&image) else {
+        directory.drop_flight(rt, &mut seat.directory, flight);
+        return Err(Memory);
+    };
+    match directory.land(rt, alloc, &mut seat.directory, flight, kept) {
+        Ok(()) => {
+            tally.landed += 1;
+            Ok(image)
+        }
+        Err((flight, _, memory)) => {
+            directory.drop_flight(rt, &mut seat.directory, flight);
+            Err(memory)
+        }
+    }
+}
+
+// The image, rendered under a ticket once what it needs is there.
+#[cycle(fetching)]
+fn image_of<R: Wait, E: Catalogue + Drop>(
+    rt: &R,
+    alloc: Global,
+    site: &Site<'_, E>,
+    seat: &mut TileSeat<E>,
+    tally: &mut Tally,
+    node: u32,
+    frame: i64,
+    region: Rect,
+    ticket: &mut Ticket,
+) -> Result<Arc<Image>, Memory>
+    requires site { IsSite E.meaning E.number_of site.now }
+    requires seat { IsSeat site.now seat.old }
+    requires within { Within tally.old seat.old.directory.made }
+    requires renderable { IsRenderable E.meaning site.now node frame region }
+    ensures tile { let nodes = scene_nodes E.meaning site.now.scene.now in
+        IfOk result (λ image. IsTile nodes node frame region (arc_value image)) }
+    ensures seat { KeepsSeat seat.old seat.new }
+    ensures met { let r = renders_needed E.meaning site.now node frame region in
+        OnOk result (Met r seat.old.directory.made seat.new.directory.made) }
+    ensures follows { OnOk result
+        (Follows tally.old tally.new seat.old.directory.made seat.new.directory.made) }
+    ensures number { ticket.new.number ≡ ticket.old.number }
+    ensures stamped { OnOk result (IsTrue ticket.new.stamped) }
+{
+    let needs = needs_of(alloc, site, node, frame, region)?;
+    let tiles = gathered(rt, alloc, site, seat, tally, node, needs.as_slice())?;
+    rendered(
+        alloc,
+        site,
+        node,
+        frame,
+        region,
+        needs.as_slice(),
+        tiles.as_slice(),
+        ticket,
+    )
+}
+
+fn needs_of<E: Catalogue>(
+    alloc: Global,
+    site: &Site<'_, E>,
+    node: u32,
+    frame: i64,
+    region: Rect,
+) -> Result<Vec<Need>, Memory>
+    requires site { IsSite E.meaning E.number_of site.now }
+    requires renderable { IsRenderable E.meaning site.now node frame region }
+    ensures needs { IfOk result (λ needs. AreNeeds E.meaning site.now node frame region needs.items) }
+    ensures ready { IfOk result (λ needs. All (λ need. IsReady E.meaning site.now node need.end) needs.items) }
+    ensures renders { let needed = renders_needed E.meaning site.now node frame region in
+        IfOk result (λ needs. renders_of needs.items ≡ needed) }
+{
+    let grid = with_side(site.shared.grid);
+    let needs = demand(alloc, site.scene, site.regions, node, frame, region, grid)?;
+    Ok(needs)
+}
+
+// The grid, whose side has from 1 to 1,024 pixels.
+fn with_side(grid: Grid) -> Grid
+    ensures same { result ≡ grid }
+    ensures some { 1 ≤ grid }
+    ensures few { grid ≤ 1024 }
+{
+    grid
+}
+
+// An image for each need that is a render.
+#[cycle(fetching)]
+fn gathered<R: Wait, E: Catalogue + Drop>(
+    rt: &R,
+    alloc: Global,
+    site: &Site<'_, E>,
+    seat: &mut TileSeat<E>,
+    tally: &mut Tally,
+    node: u32,
+    needs: &[Need],
+) -> Result<Vec<Option<Arc<Image>>>, Memory>
+    requires site { IsSite E.meaning E.number_of site.now }
+    requires seat { IsSeat site.now seat.old }
+    requires within { Within tally.old seat.old.directory.made }
+    requires ready { All (λ need. IsReady E.meaning site.now node need.end) needs.now }
+    ensures tiles { let nodes = scene_nodes E.meaning site.now.scene.now in
+        IfOk result (λ tiles. AreTilesOf nodes needs.now tiles.items) }
+    ensures seat { KeepsSeat seat.old seat.new }
+    ensures met { OnOk result
+        (Met (renders_of needs.now) seat.old.directory.made seat.new.directory.made) }
+    ensures follows { OnOk result
+        (Follows tally.old tally.new seat.old.directory.made seat.new.directory.made) }
+{
+    let mut tiles = Vec::new(alloc);
+    for need in needs {
+        let tile = tile_for(rt, alloc, site, seat, tally, node, &need.end)?;
+        tiles.push(tile)?;
+    }
+    Ok(tiles)
+}
+
+/// The image of an end that is a render, of a node before this one.
+#[cycle(fetching)]
+pub(crate) fn tile_for<R: Wait, E: Catalogue + Drop>(
+    rt: &R,
+    alloc: Global,
+    site: &Site<'_, E>,
+    seat: &mut TileSeat<E>,
+    tally: &mut Tally,
+    node: u32,
+    end: &End,
+) -> Result<Option<Arc<Image>>, Memory>
+    requires site { IsSite E.meaning E.number_of site.now }
+    requires seat { IsSeat site.now seat.old }
+    requires within { Within tally.old seat.old.directory.made }
+    requires ready { IsReady E.meaning site.now node end.now }
+    ensures tile { let nodes = scene_nodes E.meaning site.now.scene.now in
+        IfOk result (IsTileOf nodes end.now) }
+    ensures seat { KeepsSeat seat.old seat.new }
+    ensures found { OnOk result (IsFound E.meaning site.now end.now seat.old.directory.made seat.new.directory.made) }
+    ensures follows { OnOk result
+        (Follows tally.old tally.new seat.old.directory.made seat.new.directory.made) }
+{
+    match end {
+        End::Void | End::Frame { .. } => Ok(None),
+        End::Render {
+            node: m,
+            frame,
+            region,
+            through: _,
+        } => match fetch(rt, alloc, site, seat, tally, *m, *frame, *region) {
+            Ok(tile) => Ok(Some(tile)),
+            Err(memory) => Err(memory),
+        },
+    }
+}
