@@ -1,11 +1,11 @@
 -- Rows of bytes that are read from a clip.
-use Rattle.std.proofs.Common.{◌≡◌, ◌<◌, ◌≤ℤ◌, ◌<ℤ◌, ◌*◌, ℕ, ℤ, pos, ◌+ℤ◌, List, length, ap, sym, arith, ◌∙◌}
+use Rattle.std.proofs.Common.{◌≡◌, ◌<◌, ◌*◌, ℕ, ℤ, pos, ◌+ℤ◌, List, length, ap, sym, arith, ◌∙◌}
 use Rattle.std.specs.Int.{int_gap}
 use Rattle.std.proofs.lemmas.Int.{ints}
 use Rattle.fx_base.specs.Bounds.{Bounds}
 use Rattle.fx_base.specs.Rect.{columns}
 use Rattle.fx_base.proofs.RectLaws.{gap_is}
-use Rattle.fx_base.proofs.RectLemmas.{IsInside, Holds-from_inside}
+use Rattle.fx_base.proofs.RectLemmas.{Holds-from_inside}
 use Rattle.fx_pixel.specs.declared.Depth.{Depth}
 use Rattle.fx_pixel.specs.declared.Components.{Components}
 use Rattle.fx_pixel.specs.declared.Pixel.{Pixel}

@@ -1,7 +1,7 @@
 -- What every effect keeps, of echo.
-use Rattle.std.specs.Prelude.{◌≡◌, ◌≤◌, ◌<◌, ℕ, ◌+◌, ◌-◌, ◌*◌, ◌/◌, max, ℤ, pos, ◌≤ℤ◌, ◌+ℤ◌, ◌-ℤ◌, List, [], ◌∷◌, map, length, codes, All, refl}
+use Rattle.std.specs.Prelude.{◌≡◌, ◌≤◌, ◌<◌, ℕ, ◌+◌, ◌-◌, ◌*◌, max, ℤ, pos, List, [], ◌∷◌, map, length, All, refl}
 use Rattle.std.specs.List.{Contains}
-use Rattle.std.proofs.Common.{zero, suc, inl, inr, ap, sym, subst, arith, ◌∙◌}
+use Rattle.std.proofs.Common.{zero, suc, inl, inr, ap, arith, ◌∙◌}
 use Rattle.std.proofs.Math.Nat.{div-le_of_le-mul}
 use Rattle.std.proofs.lemmas.Int.{ints}
 use Rattle.std.proofs.lemmas.Bool.{cases_lt}
@@ -16,15 +16,15 @@ use Rattle.fx_params.specs.Def.{int_def}
 use Rattle.fx_effect.specs.Shape.{IsLawfulIn}
 use Rattle.fx_effect.specs.ShapeTests.{shape_is}
 use Rattle.fx_effect.specs.Numbers.{number}
-use Rattle.fx_effect.specs.NumberLaws.{Between, number_between}
+use Rattle.fx_effect.specs.NumberLaws.{number_between}
 use Rattle.fx_effect.specs.Laws.{Laws, IsNearSpan, seen_as}
 use Rattle.fx_effect.specs.DefaultLaws.{region_near, region_is_rect}
-use Rattle.fx_effect.specs.Local.{Read, IsRead, AreShown, IsSameRead, local_laws}
+use Rattle.fx_effect.specs.Local.{Read, IsRead, IsSameRead, local_laws}
 use Rattle.fx_effect.specs.declared.action.Context.{Context}
 use Rattle.fx_effect.specs.declared.values.Values.{Values}
-use Rattle.fx_kernel.specs.Samples.{nth, each}
+use Rattle.fx_kernel.specs.Samples.{nth}
 use Rattle.fx_kernel.specs.SampleLaws.{nth_bound, nth_clear, each_same, each_of, each_clear, each_is_pixel}
-use Rattle.fx_time.specs.Times.{natural, source_at, alone}
+use Rattle.fx_time.specs.Times.{source_at, alone}
 use Rattle.fx_time.specs.TimesLaws.{source_there, source_connected, source_holds, read_alone, near_alone, natural_up_to, same_at_zero}
 use Rattle.fx_time.specs.Echo.{echo_params, echo_shape, count, gap, back, moments, weighed, loudest, echoed, echo_reads, echo}
 

@@ -1,7 +1,7 @@
 -- What every effect keeps, of frameblend.
-use Rattle.std.specs.Prelude.{◌≡◌, ◌≤◌, ◌<◌, ℕ, ◌+◌, ◌*◌, ℤ, pos, ◌≤ℤ◌, ◌+ℤ◌, ◌-ℤ◌, List, [], ◌∷◌, length, map, All, refl}
+use Rattle.std.specs.Prelude.{◌≡◌, ◌≤◌, ◌<◌, ℕ, ◌+◌, ◌*◌, ℤ, pos, ◌≤ℤ◌, ◌+ℤ◌, ◌-ℤ◌, [], ◌∷◌, length, map, All, refl}
 use Rattle.std.specs.List.{Contains}
-use Rattle.std.proofs.Common.{arith, ap, sym, subst, ◌∙◌}
+use Rattle.std.proofs.Common.{arith, ◌∙◌}
 use Rattle.std.proofs.lemmas.Int.{ints}
 use Rattle.std.proofs.lemmas.List.Elements.{All-map, All-nil, All-cons}
 use Rattle.fx_base.specs.Bounds.{Bounds}
@@ -24,7 +24,7 @@ use Rattle.fx_kernel.specs.Samples.{mean_of}
 use Rattle.fx_kernel.specs.SampleLaws.{mean_clear, mean_one, mean_is_pixel}
 use Rattle.fx_kernel.specs.Around.{around}
 use Rattle.fx_kernel.specs.AroundLaws.{length-mapped, length-int_run}
-use Rattle.fx_time.specs.Times.{natural, source_at}
+use Rattle.fx_time.specs.Times.{source_at}
 use Rattle.fx_time.specs.TimesLaws.{source_there, source_connected, source_holds, natural_up_to, same_at_zero}
 use Rattle.fx_time.specs.Frameblend.{frameblend_params, frameblend_shape, radius, blend_reads, frameblend}
 

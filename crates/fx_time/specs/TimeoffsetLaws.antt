@@ -1,7 +1,6 @@
 -- What every effect keeps, of timeoffset.
-use Rattle.std.specs.Prelude.{◌≡◌, ◌<◌, ℕ, ℤ, pos, neg_ℤ, ◌≤ℤ◌, ◌+ℤ◌, ◌-ℤ◌, List, [], ◌∷◌, length, codes, All, refl}
-use Rattle.std.specs.List.{Contains}
-use Rattle.std.proofs.Common.{ap, sym, subst, arith, ◌∙◌}
+use Rattle.std.specs.Prelude.{◌≡◌, ℕ, ℤ, pos, neg_ℤ, List, [], ◌∷◌, length, refl}
+use Rattle.std.proofs.Common.{arith}
 use Rattle.std.proofs.lemmas.Int.{ints}
 use Rattle.std.proofs.lemmas.List.Elements.{All-nil, All-cons}
 use Rattle.fx_base.specs.Bounds.{Bounds}
@@ -16,7 +15,6 @@ use Rattle.fx_effect.specs.Laws.{Laws, IsNearSpan}
 use Rattle.fx_effect.specs.DefaultLaws.{region_near, region_is_rect}
 use Rattle.fx_effect.specs.Local.{Read, IsRead, IsSameRead, local_laws}
 use Rattle.fx_effect.specs.declared.action.Context.{Context}
-use Rattle.fx_effect.specs.declared.action.Identity.TheVariants.{Same}
 use Rattle.fx_effect.specs.declared.values.Values.{Values}
 use Rattle.fx_time.specs.Times.{source_at, alone}
 use Rattle.fx_time.specs.TimesLaws.{source_there, source_connected, source_holds, read_alone, near_alone}

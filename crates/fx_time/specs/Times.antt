@@ -1,5 +1,5 @@
 -- Filters that read other frames of the clip Source.
-use Rattle.std.specs.Prelude.{ℕ, ℤ, pos, negsuc, true, List, [], ◌∷◌, map}
+use Rattle.std.specs.Prelude.{ℕ, ℤ, pos, negsuc, true, List, [], ◌∷◌}
 use Rattle.fx_pixel.specs.declared.Depth.TheVariants as depths
 use Rattle.fx_pixel.specs.declared.Components.TheVariants as components
 use Rattle.fx_params.specs.declared.def.ParamDef.{ParamDef}

@@ -1,7 +1,7 @@
 -- What holds of filters that read other frames.
-use Rattle.std.specs.Prelude.{◌≡◌, ◌≤◌, ◌<◌, ◌==◌, ℕ, ◌+◌, ℤ, pos, negsuc, ◌≤ℤ◌, ◌+ℤ◌, ◌-ℤ◌, Bool, true, false, List, [], ◌∷◌, map, length, All, Some, slice_get, if◌then◌else◌, refl}
+use Rattle.std.specs.Prelude.{◌≡◌, ◌≤◌, ◌<◌, ◌==◌, ℕ, ℤ, pos, negsuc, ◌≤ℤ◌, ◌+ℤ◌, ◌-ℤ◌, Bool, true, false, List, [], ◌∷◌, map, length, Some, slice_get, if◌then◌else◌, refl}
 use Rattle.std.specs.List.{AllZip, Contains}
-use Rattle.std.proofs.Common.{zero, suc, ap, sym, subst, arith, ◌∙◌}
+use Rattle.std.proofs.Common.{zero, suc, ap, sym, subst, arith}
 use Rattle.std.proofs.lemmas.Int.{ints}
 use Rattle.std.proofs.lemmas.Bool.Decides.{nat_tests}
 use Rattle.fx_base.specs.Bounds.{Bounds}
@@ -10,9 +10,8 @@ use Rattle.fx_props.specs.Entries.{region_of}
 use Rattle.fx_effect.specs.Shape.{MayBe}
 use Rattle.fx_effect.specs.Source.{source_clips}
 use Rattle.fx_effect.specs.DefaultLaws.{flag_for_each}
-use Rattle.fx_effect.specs.Laws.{IsNearSpan, InSpan}
+use Rattle.fx_effect.specs.Laws.{IsNearSpan}
 use Rattle.fx_effect.specs.Local.{Read, IsRead}
-use Rattle.fx_effect.specs.declared.action.Identity.{Identity}
 use Rattle.fx_effect.specs.declared.action.Identity.TheVariants.{Same, No}
 use Rattle.fx_time.specs.Times.{natural, source_at, alone}
 

@@ -1,11 +1,10 @@
-use Rattle.std.proofs.Common.{◌≡◌, ℤ, List, suc, map, [], ◌∷◌, codes, subst, ◌∙◌, w64, to_z, of_z, FitsSigned, rules}
+use Rattle.std.proofs.Common.{◌≡◌, ℤ, List, [], ◌∷◌, codes, subst, ◌∙◌, w64, to_z, of_z, FitsSigned, rules}
 use Rattle.std.specs.Prelude.{All}
 use Rattle.std.proofs.lemmas.Int.{to_z-of_z}
 use Rattle.std.proofs.lemmas.List.Elements.{All-cons, All-nil}
 use Rattle.fx_props.specs.Entries.{AreModerate, Wrote, frame_ranges}
 use Rattle.fx_effect.specs.AnswerLaws.{spans_fit}
-use Rattle.fx_time.specs.Times.{alone}
-use Rattle.fx_time.specs.Echo.{echo, moments, count, gap}
+use Rattle.fx_time.specs.Echo.{echo, count, gap}
 use Rattle.fx_time.specs.EchoLaws.{echo_laws}
 use Rattle.fx_time.proofs.EchoRowLaws.{spans_are}
 use Rattle.fx_time.proofs.echo.EchoImageEffect.get_frames_needed.Goals as goal

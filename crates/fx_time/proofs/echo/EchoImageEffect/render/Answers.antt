@@ -4,7 +4,7 @@ use Rattle.fx_image.specs.Part.{IsWritten}
 use Rattle.fx_effect.specs.Given.{input_pixel}
 use Rattle.fx_effect.specs.Local.{own_taps}
 use Rattle.fx_time.specs.Times.{source_at}
-use Rattle.fx_time.specs.Echo.{echoed, moments, count, gap}
+use Rattle.fx_time.specs.Echo.{echoed, moments, count}
 use Rattle.fx_time.proofs.echo.EchoImageEffect.render.Goals as goal
 
 pub returns-clause-ok : goal.returns-clause-ok

@@ -1,10 +1,10 @@
-use Rattle.std.proofs.Common.{◌≡◌, ◌≤◌, ◌<◌, ◌+◌, ◌*◌, ℕ, ℤ, pos, ◌+ℤ◌, length, map, suc, ap, sym, arith, ◌∙◌, add-one, w64, FitsSigned, rules}
+use Rattle.std.proofs.Common.{◌≡◌, ◌<◌, ◌+◌, ◌*◌, map, suc, ap, arith, ◌∙◌, add-one, w64, FitsSigned, rules}
 use Rattle.std.proofs.lemmas.Int.{ints, to_z-of_z}
 use Rattle.fx_base.specs.Bounds.{Bounds}
 use Rattle.fx_base.specs.Rect.{columns}
 use Rattle.fx_pixel.specs.Pixel.{count}
 use Rattle.fx_image.specs.Stored.{sample_in}
-use Rattle.fx_effect.specs.Given.{input_pixel, row_pixel}
+use Rattle.fx_effect.specs.Given.{input_pixel}
 use Rattle.fx_effect.specs.Local.{own_taps}
 use Rattle.fx_effect.proofs.PieceLaws.{is_wide}
 use Rattle.fx_kernel.specs.RowLaws.{shows_samples, sample_low}

@@ -1,4 +1,4 @@
-use Rattle.std.proofs.Common.{◌≡◌, ◌≤◌, ◌<◌, ℕ, ◌+◌, ◌*◌, pos, ◌+ℤ◌, ◌-ℤ◌, length, map, slice_index, ap, ◌∙◌, w64, to_z, of_z}
+use Rattle.std.proofs.Common.{◌≡◌, ◌+◌, ◌*◌, length, map, ap, ◌∙◌, w64, to_z, of_z}
 use Rattle.std.proofs.lemmas.Int.{to_z-of_z}
 use Rattle.fx_base.specs.Rect.{columns}
 use Rattle.fx_pixel.specs.Pixel.{count, greatest}
@@ -8,7 +8,6 @@ use Rattle.fx_kernel.specs.Samples.{rounded, sum_of}
 use Rattle.fx_kernel.specs.SumLaws.{sums_bound}
 use Rattle.fx_kernel.specs.RowLaws.{shows_samples, sample_low}
 use Rattle.fx_time.specs.Frameblend.{blend_reads}
-use Rattle.fx_time.specs.BlendRows.{moment_sample}
 use Rattle.fx_time.proofs.BlendLaws.{cell_is}
 use Rattle.fx_time.proofs.frameblend.BlendRows.blend_many.Goals as goal
 

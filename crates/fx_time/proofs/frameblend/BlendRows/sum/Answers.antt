@@ -1,13 +1,7 @@
-use Rattle.std.proofs.Common.{◌≡◌, ◌≤◌, ◌<◌, ℕ, ◌+◌, ◌*◌, ℤ, pos, ◌+ℤ◌, ◌-ℤ◌, length, slice_index, refl, ap, sym, subst, arith, ◌∙◌, rules, w64, to_z, of_z, FitsSigned}
+use Rattle.std.proofs.Common.{◌≡◌, ◌+◌, ◌*◌, pos, ◌+ℤ◌, ◌-ℤ◌, length, slice_index, ap, arith, ◌∙◌, w64, to_z, of_z, FitsSigned}
 use Rattle.std.proofs.lemmas.Int.{ints, to_z-of_z}
-use Rattle.fx_base.specs.Bounds.{Bounds}
 use Rattle.fx_base.specs.Rect.{columns}
 use Rattle.fx_pixel.specs.Pixel.{greatest, count}
-use Rattle.fx_image.specs.Stored.{sample_in}
-use Rattle.fx_effect.specs.Tap.{tap}
-use Rattle.fx_effect.specs.Rows.{ShowsRow}
-use Rattle.fx_effect.specs.Given.{row_pixel}
-use Rattle.fx_kernel.specs.SampleLaws.{nth_bound}
 use Rattle.fx_kernel.specs.SumLaws.{no_sums, more_sums, sums_small}
 use Rattle.fx_kernel.specs.RowLaws.{greatest_few}
 use Rattle.fx_time.specs.BlendRows.{moment_sample}

@@ -1,4 +1,4 @@
-use Rattle.std.proofs.Common.{◌≤◌, arith, rules}
+use Rattle.std.proofs.Common.{◌≤◌, rules}
 use Rattle.fx_time.proofs.WeightLaws.{weighed_is}
 use Rattle.fx_time.proofs.weight.Weight.weighed.Goals as goal
 
