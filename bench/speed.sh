@@ -1,7 +1,8 @@
 #!/usr/bin/env bash
-# speed.sh: the cost of one ask of a core for a kept key, one taking and giving of a turn, the same in
-# eight threads on one slot, and one draw of a number, in nanoseconds; and how much faster two and four
-# workers do work that shares nothing. It times `fx_speed` with a large count and with 0.
+# speed.sh: the cost of one ask of a core for a kept key, of one ask of a directory, which is a turn too, and the same
+# among four threads; of one taking and giving of a turn, and the same in eight threads on one slot; and of one draw of
+# a number, in nanoseconds; and how much faster two and four workers do work that shares nothing. It times `fx_speed`
+# with a large count and with 0.
 set -eu
 here=$(cd "$(dirname "${BASH_SOURCE[0]}")/.." && pwd)
 program=$here/crates/fx_speed/out/fx_speed
@@ -37,6 +38,8 @@ speed_up() {
 }
 
 measure kept 10000000 1 'an ask for one of 4,096 kept keys'
+measure shared 10000000 1 'an ask of a directory for one of 4,096 kept keys, alone'
+measure sharing 1000000 4 'an ask of a directory for one of 4,096 kept keys, among four threads'
 measure turn 10000000 1 'a turn taken and given, alone'
 measure turns 1000000 8 'a turn taken and given, among eight threads on one slot'
 measure draw 10000000 1 'a number drawn, alone'

@@ -8,7 +8,7 @@ use std::alloc::Global;
 use std::sync::Arc;
 
 // As many values as are kept.
-const KEPT: u32 = 4096;
+pub(crate) const KEPT: u32 = 4096;
 
 // As many asks as a core takes.
 const MOST_ASKS: u64 = 1 << 62;

@@ -1,5 +1,6 @@
 //! Does one thing many times, so that a script under `bench/` can time it: `fx_speed kept 1000000` asks
-//! a core for kept keys, `turn` takes and gives a turn, `turns` does so in eight threads on one slot,
+//! a core for kept keys, `shared` a directory, and `sharing` that in each of four threads; `turn` takes and gives a
+//! turn, `turns` does so in eight threads on one slot,
 //! `draw` draws numbers, and `one`, `two` and `four` do a piece of work for each number with as many
 //! workers. `file` makes the bytes of a PAM file with so many rows of 1,920 pixels and `read` reads them
 //! too, of r, g, b and a; with `rgb`, `scaled` or `short` behind its name, of other samples. `image` makes
@@ -17,6 +18,7 @@ mod paint;
 mod pam;
 mod pool;
 mod rows;
+mod shared;
 mod turns;
 
 use fx_pixel::Format;
@@ -50,6 +52,8 @@ fn main(rt: HostRuntime) -> ExitCode {
             "parse" => graph::read(rt.alloc(), count).ok(),
             "accept" => graph::accepted(rt.alloc(), count).ok(),
             "kept" => kept::ask_kept(rt.alloc(), count).ok(),
+            "shared" => shared::ask_alone(&rt, count).ok(),
+            "sharing" => shared::ask_together(&rt, count).ok(),
             "turn" => turns::add_alone(&rt, count).ok(),
             "turns" => turns::add_together(&rt, count).ok(),
             "draw" => pool::draw_alone(rt.alloc(), count).ok(),
