@@ -4,5 +4,6 @@ pub mod Lives
 mod RunningLemmas
 mod Places
 mod SeatLemmas
-mod LifeLemmas
+pub mod LifeLemmas
+mod Filling
 mod ToyLemmas

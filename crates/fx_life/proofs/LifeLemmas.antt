@@ -1,19 +1,21 @@
 -- The plug-ins of a graph: how they are started and found, and which of them plays a node.
-use Rattle.std.proofs.Common.{◌≡◌, ◌≢◌, ◌<◌, ◌++◌, ℕ, Option, Some, List, [], ◌∷◌, slice_index_or, map, reverse, set, length, refl, sym, ap, subst, ◌∙◌, arith, All, AllPairs, inl, inr}
+use Rattle.std.proofs.Common.{◌≡◌, ◌≢◌, ◌<◌, ◌++◌, ℕ, Option, Some, None, List, [], ◌∷◌, slice_index_or, map, reverse, set, length, refl, sym, ap, subst, ◌∙◌, arith, All, AllPairs, inl, inr}
 use Rattle.std.specs.Prelude.{slice_get}
 use Rattle.std.specs.List.{Contains}
 use Rattle.std.specs.Option.{option_map}
 use Rattle.std.specs.Global.{Vec}
-use Rattle.std.proofs.lemmas.Option.{same_Some, slice_get-map, slice_get_within, get_or_from_slice_get}
+use Rattle.std.proofs.lemmas.Option.{none-some, same_Some, slice_get-map, slice_get_within, get_or_from_slice_get}
 use Rattle.std.proofs.lemmas.List.{append_assoc, reverse-append}
 use Rattle.std.proofs.lemmas.Simd.{map-map}
 use Rattle.std.proofs.lemmas.List.Elements.{Contains-get_or, All-contains, All-map}
+use Rattle.fx_effect.specs.Meaning.{Meaning}
 use Rattle.fx_graph.specs.declared.node.Node.{Node}
+use Rattle.fx_graph.specs.Shown.{GraphShown, Shown, shown}
 use Rattle.fx_life.specs.declared.uses.Use.{Use}
 use Rattle.fx_life.specs.declared.uses.Seat.{Seat}
-use Rattle.fx_life.specs.Plugin.{Rendering}
+use Rattle.fx_life.specs.Plugin.{Rendering, gate_of}
 use Rattle.fx_life.specs.Running.{Run, rendering, AreUsed}
-use Rattle.fx_life.specs.Seats.{Lives, Used, use_by, IsUsedAt, Plays, IsLifeOf, Serves, uses_at, AreSeated, ArePlaced, handed, IsStarted}
+use Rattle.fx_life.specs.Seats.{Lives, Used, used_by, use_by, seat_at, IsUsedAt, Plays, HasLife, IsGateOf, IsLifeOf, Serves, uses_at, AreSeated, ArePlaced, handed, IsStarted}
 use Rattle.fx_life.proofs.Places.{last_or_before, get_set, get_set_other, there_at, at_there, in_reverse, from_reverse, in_map, from_map, differs, all_pairs_map}
 
 -- ---- one more plug-in
@@ -102,6 +104,7 @@ is_life {E} number nodes first last life uses are among in_order started k used 
       seated = seat.1;
       sequence = rendering (number used.effect) first last one;
       instance = instance;
+      own = refl;
       described = All-contains (λ (u : Use). Contains run.0.contexts u.context) (uses_at uses (number run.0.effect)) one
           is.contexts.each (there_at (uses_at uses (number run.0.effect)) seat.0 one there);
     } in
@@ -182,3 +185,61 @@ place_within {E} number life node seat run effect sat only plays =
     let long : length run.sequences ≡ length plays.run.sequences =
     ap (λ (r : Run E). length r.sequences) (run_is number life node seat run effect sat only plays) in
     omega (arith, low, place, long)
+
+-- the plug-in's own effect plays the node as well
+pub plays_own : {E : Type 0} (number : E → ℕ) (life : Lives E) (node : ℕ) (effect : E)
+    → (plays : Plays number life node effect) → Plays number life node plays.run.effect
+plays_own number life node effect plays =
+    record {
+      run = plays.run;
+      there = plays.there;
+      same = refl;
+      place = plays.place;
+      seated = plays.seated ∙ ap (λ n. Some (seat_at n plays.place)) (sym plays.same);
+      sequence = plays.sequence;
+      instance = plays.instance;
+      own = plays.own;
+      described = plays.described;
+    }
+
+-- the sequence at its place is that of the node
+pub own_node : {E : Type 0} (number : E → ℕ) (life : Lives E) (node : ℕ) (seat : Seat) (run : Run E) (effect : E)
+    (s : Rendering) → slice_get life.seats node ≡ Some (Some seat)
+    → ((r : Run E) → Contains life.runs r → number r.effect ≡ seat.plugin → run ≡ r)
+    → Plays number life node effect → slice_get run.sequences seat.place ≡ Some s → s.node ≡ node
+own_node {E} number life node seat run effect s sat only plays there =
+    let place : seat.place ≡ plays.place =
+    ap (λ (s : Seat). s.place) (seat_is number life node seat effect sat plays) in
+    let same : slice_get run.sequences seat.place ≡ slice_get plays.run.sequences plays.place =
+    ap (λ (r : Run E). slice_get r.sequences seat.place) (run_is number life node seat run effect sat only plays)
+    ∙ ap (slice_get plays.run.sequences) place in
+    ap (λ (r : Rendering). r.node) (same_Some s plays.sequence (sym there ∙ same ∙ plays.instance)) ∙ plays.own
+
+-- the gate of the node is that of the plug-in's own effect there
+pub gate_is : {E : Type 0} (meaning : E → Meaning) (number : E → ℕ) (life : Lives E) (node : ℕ) (seat : Seat)
+    (run : Run E) (effect : E) (gate : Option ℕ) (s : Rendering) → slice_get life.seats node ≡ Some (Some seat)
+    → ((r : Run E) → Contains life.runs r → number r.effect ≡ seat.plugin → run ≡ r)
+    → Plays number life node effect → IsGateOf meaning number life node gate
+    → slice_get run.sequences seat.place ≡ Some s
+    → gate ≡ gate_of (meaning run.effect).shape.safety (number run.effect) s.node
+gate_is {E} meaning number life node seat run effect gate s sat only plays is there =
+    is plays.run.effect (plays_own number life node effect plays)
+    ∙ ap (λ (r : Run E). gate_of (meaning r.effect).shape.safety (number r.effect) node)
+    (sym (run_is number life node seat run effect sat only plays))
+    ∙ ap (gate_of (meaning run.effect).shape.safety (number run.effect))
+    (sym (own_node number life node seat run effect s sat only plays there))
+
+-- ---- a life of a graph, by what contracts see of it
+
+-- a life that was started for a graph with these nodes has the instance of each
+pub started_life : {E : Type 0} (number : E → ℕ) (nodes : List (Node E)) (first last : ℕ) (g : GraphShown E)
+    (life : Lives E) → map shown nodes ≡ g.nodes → IsLifeOf number nodes first last life → HasLife number g life
+started_life {E} number nodes first last g life same started k node used there is =
+    by_node (slice_get nodes k) refl
+    (sym (slice_get-map shown nodes k) ∙ ap (λ (ns : List (Shown E)). slice_get ns k) same ∙ there)
+  where
+    by_node : (o : Option (Node E)) → slice_get nodes k ≡ o → option_map shown o ≡ Some node
+        → Plays number life k used.effect
+    by_node None e h = absurd (none-some node h)
+    by_node (Some n) e h =
+        (started k used (n, e, ap (λ (s : Shown E). used_by s.does) (same_Some (shown n) node h) ∙ is)).0

@@ -3,4 +3,5 @@ pub mod Course
 pub mod Life
 pub mod Running
 pub mod Seats
+pub mod Filled
 pub mod Toys

@@ -10,11 +10,11 @@ use Rattle.fx_effect.specs.declared.values.Values.{Values}
 use Rattle.fx_effect.specs.Given.{Given}
 use Rattle.fx_effect.specs.Asked.{MayRender}
 use Rattle.fx_effect.specs.Meaning.{Meaning}
-use Rattle.fx_graph.specs.Shown.{Does, Source, Effect, does_of}
+use Rattle.fx_graph.specs.Shown.{Does, GraphShown, Shown, Source, Effect, does_of}
 use Rattle.fx_graph.specs.declared.node.Node.{Node}
 use Rattle.fx_life.specs.declared.uses.Use.{Use}
 use Rattle.fx_life.specs.declared.uses.Seat.{Seat}
-use Rattle.fx_life.specs.Plugin.{Rendering}
+use Rattle.fx_life.specs.Plugin.{Rendering, gate_of}
 use Rattle.fx_life.specs.Running.{Run, rendering, AreUsed}
 
 -- the plug-ins, where the instance of each node is, and the effects in the order in which they were handed in
@@ -56,6 +56,7 @@ pub record Plays {E : Type 0} (number : E → ℕ) (life : Lives E) (node : ℕ)
   pub seated : slice_get life.seats node ≡ Some (seat_at (number effect) place)
   pub sequence : Rendering
   pub instance : slice_get run.sequences place ≡ Some sequence
+  pub own : sequence.node ≡ node
   pub described : Contains run.contexts sequence.context
 
 -- each node that uses an effect has its instance, in the context of the use and in a sequence over these frames
@@ -64,6 +65,17 @@ IsLifeOf {E} number nodes first last life =
     (k : ℕ) (used : Used E) → IsUsedAt nodes k used
     → (plays : Plays number life k used.effect)
     × (plays.sequence ≡ rendering (number used.effect) first last (use_by k used))
+
+-- the same over what contracts see of a graph
+abbrev pub HasLife : {E : Type 0} → (E → ℕ) → GraphShown E → Lives E → Type 0
+HasLife {E} number g life =
+    (k : ℕ) (node : Shown E) (used : Used E) → slice_get g.nodes k ≡ Some node → used_by node.does ≡ Some used
+    → Plays number life k used.effect
+
+-- the gate of the node's instance
+abbrev pub IsGateOf : {E : Type 0} → (E → Meaning) → (E → ℕ) → Lives E → ℕ → Option ℕ → Type 0
+IsGateOf {E} meaning number life node gate =
+    (effect : E) → Plays number life node effect → gate ≡ gate_of (meaning effect).shape.safety (number effect) node
 
 -- Each instance of the plug-in is that of a node which uses its effect, and no node has two. It was described in their
 -- contexts alone, in each once.

@@ -192,7 +192,7 @@ impl<E: Catalogue> Described<E> {
         }
     }
 
-    /// Renders the window that is the part's rectangle, and stamps the ticket: each pixel there is what the
+    /// Renders the window that is the part's rectangle, under a hold of the gate that `gate_of` tells, and stamps the ticket: each pixel there is what the
     /// effect makes of the input pixels that it reads, and no other pixel of the image changes. Where
     /// memory is wanting the ticket isn't stamped, and the pixels of the window are any
     /// (kOfxImageEffectActionRender).
@@ -209,6 +209,8 @@ impl<E: Catalogue> Described<E> {
     ) -> Result<(), Memory>
         requires plugin { s.now.plugin ≡ E.number_of self.now.effect }
         requires live { Contains self.now.live s.now.node }
+        requires gate { let e = self.now.effect in
+            hold.old.gate ≡ gate_of (E.meaning e).shape.safety (E.number_of e) s.now.node }
         requires part { IsPart out.old }
         requires window { window ≡ out.old.rect }
         requires some_window { window ≢ none }

@@ -6,6 +6,7 @@
 #![tactic(auto)]
 
 mod described;
+mod holding;
 mod instance;
 mod laws;
 mod life;

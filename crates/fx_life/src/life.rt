@@ -8,9 +8,8 @@ ghost use Rattle.fx_base.specs.Rect.{IsFrame};
 ghost use Rattle.fx_image.specs.Part.{IsPart, SamePart, IsWritten};
 ghost use Rattle.fx_effect.specs.Meaning.{rendered};
 ghost use Rattle.fx_life.specs.declared.uses.Seat.{Seat as AnySeat};
-ghost use Rattle.fx_life.specs.Plugin.{gate_of};
 ghost use Rattle.fx_life.specs.Running.{Run};
-ghost use Rattle.fx_life.specs.Seats.{Used, IsUsedAt, Plays, IsLifeOf, Serves, MayPlay, uses_at, ArePlaced, handed, IsStarted};
+ghost use Rattle.fx_life.specs.Seats.{Used, IsUsedAt, Plays, IsGateOf, IsLifeOf, Serves, MayPlay, uses_at, ArePlaced, handed, IsStarted};
 
 use crate::Running;
 use crate::seats::seated;
@@ -101,7 +100,7 @@ impl<E: Catalogue + Drop> Life<E> {
     }
 
     /// Renders the part's rectangle by the instance of a node that uses an effect, as `Described::render`
-    /// does.
+    /// does: under a hold of the gate that `gate_of` tells.
     pub fn render(
         &self,
         alloc: Global,
@@ -115,6 +114,7 @@ impl<E: Catalogue + Drop> Life<E> {
         requires part { IsPart out.old }
         requires some_window { out.old.rect ≢ none }
         requires frame { IsFrame values.now.frame }
+        requires gate { IsGateOf E.meaning E.number_of self.now node hold.old.gate }
         requires may { let image = out.old.image.now in
             MayPlay E.number_of E.meaning self.now node values.now inputs.now image.depth image.components }
         ensures same_part { SamePart out.old out.new }
@@ -135,8 +135,7 @@ impl<E: Catalogue + Drop> Life<E> {
     pub fn gate_of(&self, node: u32) -> Option<u32>
         requires plays { (effect : E) × Plays E.number_of self.now node effect }
         requires small { node < 2 ^ 31 }
-        ensures { (effect : E) → Plays E.number_of self.now node effect →
-            result ≡ gate_of (E.meaning effect).shape.safety (E.number_of effect) node }
+        ensures { IsGateOf E.meaning E.number_of self.now node result }
     {
         self.plugin(self.seat(node).plugin).gate_of(node)
     }

@@ -1,6 +1,6 @@
 //! The instances of one effect in a run: created together, each in its sequence of renders, and destroyed
 //! together (OpenFX 1.4, "The Actions").
-ghost use Rattle.std.specs.Prelude.{◌≡◌, ◌≢◌, ◌<◌, ◌≤◌, ◌+◌, ◌^◌, [], length, map, reverse, true};
+ghost use Rattle.std.specs.Prelude.{◌≡◌, ◌≢◌, ◌<◌, ◌≤◌, ◌+◌, ◌^◌, [], length, map, reverse, true, Some, slice_get};
 ghost use Rattle.std.specs.Prelude.{All, AllPairs, IfOk, OnOk, OnErr};
 ghost use Rattle.std.specs.List.{Contains};
 ghost use Rattle.std.specs.Vec.{vec_capacity};
@@ -10,7 +10,7 @@ ghost use Rattle.fx_image.specs.Part.{IsPart, SamePart, IsWritten};
 ghost use Rattle.fx_effect.specs.Shape.{IsLawful};
 ghost use Rattle.fx_effect.specs.Meaning.{rendered};
 ghost use Rattle.fx_effect.specs.Asked.{MayRender};
-ghost use Rattle.fx_life.specs.Plugin.{described, gate_of};
+ghost use Rattle.fx_life.specs.Plugin.{Rendering, described, gate_of};
 ghost use Rattle.fx_life.specs.Running.{members, planned, made_for, rendering, AreLive, AreUsed, IsWith};
 
 use crate::{Described, InSequence, Instance, Loaded, Use};
@@ -107,6 +107,8 @@ impl<E: Catalogue + Drop> Running<E> {
         out: &mut Part<'_>,
     ) -> Result<(), Memory>
         requires place { place < length self.now.sequences }
+        requires gate { let e = self.now.effect in (s : Rendering) → slice_get self.now.sequences place ≡ Some s
+            → hold.old.gate ≡ gate_of (E.meaning e).shape.safety (E.number_of e) s.node }
         requires part { IsPart out.old }
         requires some_window { out.old.rect ≢ none }
         requires lawful { IsLawful (E.meaning self.now.effect).shape values.now }

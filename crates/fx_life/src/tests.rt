@@ -1,5 +1,5 @@
 //! The life of a graph over effects that note their actions.
-ghost use Rattle.std.specs.Prelude.{◌≡◌, ◌<◌, ◌∷◌, [], Some, None, codes, min, map, length, IfOk, if◌then◌else◌, refl};
+ghost use Rattle.std.specs.Prelude.{◌≡◌, ◌<◌, ◌+◌, ◌∷◌, [], Some, None, codes, min, map, length, IfOk, if◌then◌else◌, refl};
 ghost use Rattle.std.specs.Str.{bytes_eq};
 ghost use Rattle.fx_pixel.specs.Pixel.{zero};
 ghost use Rattle.fx_life.specs.Toys.{toy, toy_laws, toy_name, few_toys, same_name};
@@ -12,7 +12,7 @@ use fx_effect::{
     Catalogue, Context, Description, Flags, Identity, ImageEffect, Inputs, Numbers, PlaceKernel,
     Reply, Safety, Values, fill_places,
 };
-use fx_gate::{Gates, Hold};
+use fx_gate::{GateSeat, Gates, Hold};
 use fx_graph::{Graph, Work, accept};
 use fx_image::{Image, Part};
 use fx_params::ParamDef;
@@ -20,6 +20,7 @@ use fx_pixel::{Components, Depth, Pixel};
 use fx_props::PropSet;
 use fx_text::read_graph;
 use std::alloc::Global;
+use std::sync::Wait;
 use std::sync::atomic::{AtomicU64, Ordering};
 use std::test::Fail;
 
@@ -275,9 +276,12 @@ fn one_renders(
     graph: &Graph<Toy<'_>>,
     life: &Life<Toy<'_>>,
     node: u32,
+    hold: &mut Hold,
 ) -> Result<Option<(Pixel, Pixel, Option<u32>)>, Memory>
+    requires gate { hold.old.gate ≡ Some (64 + node) }
     requires life { IsLifeOf (λ e. min e.number 2) graph.now.nodes.items 4 9 life.now }
     requires there { node < length graph.now.nodes.items }
+    ensures gate { hold.new.gate ≡ hold.old.gate }
 {
     let Work::Effect { .. } = &graph.nodes[node as usize].work else {
         return Ok(None);
@@ -293,22 +297,13 @@ fn one_renders(
         project: Rect::of(0, 0, 2, 1),
     };
     let inputs = Inputs::new(alloc, byte, Vec::new(alloc))?;
-    let mut hold = Gates::free(alloc);
     let mut ticket = Ticket {
         scene: 1,
         number: 2,
         stamped: false,
     };
     let mut part = image.part(Rect::of(1, 0, 2, 1));
-    let outcome = life.render(
-        alloc,
-        node,
-        &values,
-        &inputs,
-        &mut hold,
-        &mut ticket,
-        &mut part,
-    );
+    let outcome = life.render(alloc, node, &values, &inputs, hold, &mut ticket, &mut part);
     let Ticket {
         scene: _,
         number: _,
@@ -318,11 +313,65 @@ fn one_renders(
     Ok(Some((image.at(0, 0), image.at(1, 0), life.gate_of(node))))
 }
 
-// What node 2 renders in a life of the graph, and its gate.
-fn one_life(
+// The left pixel of a grey picture of 2 by 1 pixels that the node's instance renders whole.
+fn whole_renders<R: Wait>(
+    rt: &R,
+    alloc: Global,
+    graph: &Graph<Toy<'_>>,
+    life: &Life<Toy<'_>>,
+    node: u32,
+    gates: &Gates,
+    seat: &mut GateSeat,
+) -> Result<Option<Pixel>, Memory>
+    requires life { IsLifeOf (λ e. min e.number 2) graph.now.nodes.items 4 9 life.now }
+    requires there { (node < length graph.now.nodes.items) × (node < 1024) }
+    requires gates { (64 + node < gates.now.gates) × (seat.old.row ≡ gates.now) × (seat.old.turn ≡ None) }
+    ensures seat { seat.new ≡ seat.old }
+{
+    let Work::Effect { .. } = &graph.nodes[node as usize].work else {
+        return Ok(None);
+    };
+    let (byte, rgba) = (Depth::Byte, Components::Rgba);
+    let mut image = Image::new(alloc, Rect::of(0, 0, 2, 1), byte, rgba, 8)?;
+    image.put(0, 0, GREY);
+    let values = Values {
+        frame: 4,
+        numbers: Numbers::of(Vec::new(alloc)),
+        connected: Flags::of(Vec::new(alloc)),
+        project: Rect::of(0, 0, 2, 1),
+    };
+    let inputs = Inputs::new(alloc, byte, Vec::new(alloc))?;
+    let mut ticket = Ticket {
+        scene: 1,
+        number: 3,
+        stamped: false,
+    };
+    let outcome = life.render_image(
+        rt,
+        alloc,
+        gates,
+        seat,
+        node,
+        &values,
+        &inputs,
+        &mut ticket,
+        &mut image,
+    );
+    let Ticket {
+        scene: _,
+        number: _,
+        stamped: _,
+    } = ticket;
+    outcome?;
+    Ok(Some(image.at(0, 0)))
+}
+
+// What node 2 renders in a life of the graph, a part and the whole, and its gate.
+fn one_life<R: Wait>(
+    rt: &R,
     alloc: Global,
     toys: Vec<Toy<'_>>,
-) -> Result<Option<(Pixel, Pixel, Option<u32>)>, Memory>
+) -> Result<Option<(Pixel, Pixel, Option<u32>, Option<Pixel>)>, Memory>
     requires { map (λ t. min t.number 2) toys.items ≡ 0 ∷ 1 ∷ 2 ∷ [] }
 {
     let Some(graph) = graph(alloc) else {
@@ -331,10 +380,17 @@ fn one_life(
     if graph.nodes.len() < 3 {
         return Ok(None);
     }
+    let (gates, mut seat) = Gates::new(alloc, 68)?;
     let life = Life::start(alloc, &graph, toys, 4, 9)?;
-    let picture = one_renders(alloc, &graph, &life, 2);
+    let mut hold = gates.hold(rt, &mut seat, 66);
+    let part = one_renders(alloc, &graph, &life, 2, &mut hold);
+    gates.release(&mut seat, hold);
+    let whole = whole_renders(rt, alloc, &graph, &life, 2, &gates, &mut seat);
     life.finish();
-    picture
+    match (part?, whole?) {
+        (Some((left, right, gate)), whole) => Ok(Some((left, right, gate, whole))),
+        (None, _) => Ok(None),
+    }
 }
 
 #[test]
@@ -343,11 +399,11 @@ fn the_plugins_of_a_graph_live_in_order(rt: HostRuntime) -> Result<(), Fail> {
     let left = AtomicU64::new(0);
     let right = AtomicU64::new(0);
     let spare = AtomicU64::new(0);
-    let picture = one_life(alloc, toys(alloc, &left, &right, &spare)?)?;
+    let picture = one_life(&rt, alloc, toys(alloc, &left, &right, &spare)?)?;
     // The pixel left of the window stays, and the one in it is zero; node 2 has a gate of its own.
-    assert_eq!(rt; picture, Some((GREY, CLEAR, Some(66))));
-    // Loaded, described, in the contexts of its nodes, three created, begun, one rendered, ended, destroyed.
-    assert_eq!(rt; left.load(Ordering::SeqCst), 123455566607778889);
+    assert_eq!(rt; picture, Some((GREY, CLEAR, Some(66), Some(CLEAR))));
+    // Loaded, described, in the contexts of its nodes, three created, begun, one rendered twice, ended, destroyed.
+    assert_eq!(rt; left.load(Ordering::SeqCst), 1234555666007778889);
     assert_eq!(rt; right.load(Ordering::SeqCst), 12356789);
     // No node uses it.
     assert_eq!(rt; spare.load(Ordering::SeqCst), 129);

@@ -5,8 +5,8 @@ use Rattle.fx_life.specs.declared.tests.Toy.{Toy}
 use Rattle.fx_life.proofs.tests.one_life.Goals as goal
 
 pub start-requires-clause-numbers : goal.start-requires-clause-numbers
-start-requires-clause-numbers c = apart_by (λ (t : Toy). min t.number 2) c.args.toys.items c.requires
+start-requires-clause-numbers g c = apart_by (λ (t : Toy). min t.number 2) c.args.toys.items c.requires
 
 pub start-requires-clause-among : goal.start-requires-clause-among
-start-requires-clause-among c = λ k used at.
+start-requires-clause-among g c = λ k used at.
     subst (λ l. Contains l (min used.effect.number 2)) (sym c.requires) (among_three used.effect.number)
