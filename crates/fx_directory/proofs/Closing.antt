@@ -11,7 +11,6 @@ use Rattle.fx_turn.specs.Tallies.{tally_of_all}
 use Rattle.fx_turn.specs.Claims.{SameClaims}
 use Rattle.fx_turn.proofs.CallerLemmas.{same_as_none}
 use Rattle.fx_directory.specs.declared.home.Home.{Home}
-use Rattle.fx_directory.specs.declared.guarded.Guarded.{Guarded}
 use Rattle.fx_directory.specs.Keeps.{AtHome}
 use Rattle.fx_directory.specs.Seats.{Made, AddsUp, totals_of}
 use Rattle.fx_directory.specs.Sitting.{counts_in, flights_in, made_of}
@@ -32,15 +31,15 @@ module _ {N K V : Type 0} (eq : K → K → Bool) (suits : N → K → V → Typ
     pub made : made_in s.totals ≡ m
 
   -- the values of a row that is closed are one core
-  pub ended : (cores : List (Guarded K V)) (core : State K V) (tally : List ℕ) (claims : List (ℕ × K)) → cores ≡ record { core = core } ∷ [] → All (λ g. AtHome eq suits home g.core) cores
+  pub ended : (cores : List (State K V)) (core : State K V) (tally : List ℕ) (claims : List (ℕ × K)) → cores ≡ core ∷ [] → All (λ g. AtHome eq suits home g) cores
       → tally_of_all counts_in cores ≡ tally → SameClaims (flat_map flights_in cores) claims → claims ≡ [] → Ended core (made_of tally)
   ended cores core tally claims one fit tallies same none =
       let same' = subst (λ (l : List (ℕ × K)). SameClaims (flat_map flights_in cores) l) none same in
       let nothing = same_as_none _ same' in
-      let flat : flat_map flights_in cores ≡ core.flying ++ [] = ap (λ (l : List (Guarded K V)). flat_map flights_in l) one in
-      let t : tally_of_all counts_in (record { core = core } ∷ []) ≡ tally = subst (λ (l : List (Guarded K V)). tally_of_all counts_in l ≡ tally) one tallies in
+      let flat : flat_map flights_in cores ≡ core.flying ++ [] = ap (λ (l : List (State K V)). flat_map flights_in l) one in
+      let t : tally_of_all counts_in (core ∷ []) ≡ tally = subst (λ (l : List (State K V)). tally_of_all counts_in l ≡ tally) one tallies in
       record {
-        fit = All-head (λ (g : Guarded K V). AtHome eq suits home g.core) (record { core = core }) [] (subst (λ (l : List (Guarded K V)). All (λ g. AtHome eq suits home g.core) l) one fit);
+        fit = All-head (λ (g : State K V). AtHome eq suits home g) core [] (subst (λ (l : List (State K V)). All (λ g. AtHome eq suits home g) l) one fit);
         flying = sym (append-nil core.flying) ∙ (sym flat ∙ nothing);
         made = made_ext (made_in core.totals) _ (up _) (up _) (up _) (up _) (up _) (up _) ∙ ap made_of t;
       }

@@ -2,7 +2,7 @@
 use Rattle.std.specs.Prelude.{ℕ, List, slice_index}
 use Rattle.fx_turn.specs.Seats.{SeatState}
 use Rattle.fx_directory.specs.declared.home.Home.{Home}
-use Rattle.fx_directory.specs.declared.guarded.Guarded.{Guarded}
+use Rattle.fx_core.specs.State.{State}
 use Rattle.fx_directory.specs.Keeps.{tally_of}
 use Rattle.fx_directory.specs.Rows.{dir_row_of}
 use Rattle.fx_directory.specs.Seats.{Made, DirSeatState}
@@ -19,13 +19,13 @@ made_of t =
       dropped = slice_index t 5;
     }
 
-abbrev pub dir_seat_of : {N K V : Type 0} → SeatState (Home N) (Guarded K V) K → DirSeatState N K
+abbrev pub dir_seat_of : {N K V : Type 0} → SeatState (Home N) (State K V) K → DirSeatState N K
 dir_seat_of s = record { row = dir_row_of s.row; parts = s.parts; aloft = s.claims; made = made_of s.tally }
 
 module _ {K V : Type 0} where
   -- what a value of the row counts, and which flights stand in it
-  abbrev pub counts_in : Guarded K V → List ℕ
-  counts_in g = tally_of g.core.totals
+  abbrev pub counts_in : State K V → List ℕ
+  counts_in g = tally_of g.totals
 
-  abbrev pub flights_in : Guarded K V → List (ℕ × K)
-  flights_in g = g.core.flying
+  abbrev pub flights_in : State K V → List (ℕ × K)
+  flights_in g = g.flying

@@ -4,11 +4,20 @@ use crate::suits::Suits;
 use fx_core::Core;
 use fx_turn::Fits;
 use std::hash::Hash;
+use std::marker::Model;
 
-/// A core, as a value of a row.
+/// A core, as a value of a row. It lies on the heap, since each turn moves the value out of its slot and in again.
 #[derive(Drop)]
 pub(crate) struct Guarded<K: Eq + Hash, V> {
-    pub(crate) core: Core<K, V>,
+    pub(crate) core: Box<Core<K, V>>,
+}
+
+impl<K: Eq + Hash, V> Model for Guarded<K, V> {
+    ghost use Rattle.fx_core.specs.State.{State};
+
+    ghost Value = { State K V };
+
+    ghost view = { λ g. g.core.value };
 }
 
 // It fits where it is sound, has the row's scene and capacity, and each kept value suits the name under
@@ -21,17 +30,17 @@ impl<N, K: Eq + Hash, V: Suits<N, K>> Fits<Home<N>> for Guarded<K, V> {
 
     type Mark = K;
 
-    ghost fits = { λ home g. AtHome K.eq V.suits home g.core };
+    ghost fits = { λ home g. AtHome K.eq V.suits home g };
 
-    ghost tally = { λ g. tally_of g.core.totals };
+    ghost tally = { λ g. tally_of g.totals };
 
-    ghost claims = { λ g. g.core.flying };
+    ghost claims = { λ g. g.flying };
 
     ghost grown = { HasGrown V.grown };
 
     ghost six_numbers = { λ _. refl };
 
-    ghost numbers_differ = { λ home g. at_home_differ K.eq V.suits home g.core };
+    ghost numbers_differ = { λ home g. at_home_differ K.eq V.suits home g };
 
-    ghost still_fits = { λ old new g. still_at_home K.eq V.suits V.grown V.still_suits old new g.core };
+    ghost still_fits = { λ old new g. still_at_home K.eq V.suits V.grown V.still_suits old new g };
 }

@@ -31,10 +31,10 @@ fn take_with_room<R: Wait, N, K: Eq + Hash + Drop, V: Suits<N, K> + Drop>(
     requires row { seat.old.row ≡ turns.now }
     requires free { seat.old.turn ≡ None }
     ensures slot { result.slot ≡ 0 }
-    ensures fit { AtHome K.eq V.suits turns.now.name result.value.core }
+    ensures fit { AtHome K.eq V.suits turns.now.name result.value }
     ensures agrees { Agrees counts_in flights_in seat.old result.value }
     ensures six { length seat.old.tally ≡ 6 }
-    ensures room { result.value.core.totals.asks < 2 ^ 62 }
+    ensures room { result.value.totals.asks < 2 ^ 62 }
     ensures seat { seat.new ≡ record seat.old { turn = Some (0, result.value) } }
 {
     for _ in rt.forever() {
@@ -138,11 +138,14 @@ pub(crate) fn row_of_one<N: Drop, K: Eq + Hash + Drop, V: Suits<N, K> + Drop>(
 ) -> Result<(Turns<Home<N>, Guarded<K, V>>, Seat<Home<N>, Guarded<K, V>>), Permit>
     requires { core ≡ start home.scene home.capacity }
     ensures row { IfOk result (λ r. (r.0.slots ≡ 1) × (r.0.name ≡ home)) }
-    ensures seat { IfOk result (λ r. r.1 ≡ first_seat counts_in flights_in r.0 (record { core = core } ∷ [])) }
+    ensures seat { IfOk result (λ r. r.1 ≡ first_seat counts_in flights_in r.0 (core ∷ [])) }
     ensures back { IfErr result (λ r. r.scene ≡ home.scene) }
 {
     let Ok(mut cores) = Vec::with_capacity(alloc, 1) else {
         return Err(core.finish().0);
+    };
+    let Ok(core) = Box::new(alloc, core) else {
+        return Err(Permit::new(home.scene));
     };
     cores.push_reserved(Guarded { core });
     match Turns::new(alloc, home, cores) {
@@ -154,11 +157,11 @@ pub(crate) fn row_of_one<N: Drop, K: Eq + Hash + Drop, V: Suits<N, K> + Drop>(
 // The core of a row of one.
 pub(crate) fn the_core<K: Eq + Hash, V>(mut cores: Vec<Guarded<K, V>>) -> Core<K, V>
     requires { vec_len cores ≡ 1 }
-    ensures { cores.items ≡ record { core = result } ∷ [] }
+    ensures { cores.items ≡ result ∷ [] }
 {
     let Some(Guarded { core }) = cores.pop() else {
         unreachable!()
     };
     cores.destroy_empty();
-    core
+    Box::into_inner(core)
 }
