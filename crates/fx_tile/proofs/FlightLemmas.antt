@@ -81,6 +81,11 @@ fetched_from r l m n d a b got =
           (subst (λ (k : ℕ). ((n.landed ≡ m.landed) × (n.hits ≡ k + 1)) ⊎ ((m.landed < n.landed) × (m.landed + k + 1 + r ≤ n.landed + n.hits))) b got.way);
     }
 
+pub follows_from : (a t b : Tally) (l m n : Made) → t ≡ a → m.landed ≡ l.landed → m.hits ≡ l.hits → Follows t b m n → Follows a b l n
+follows_from a t b l m n is p q f =
+    let f1 = f.landed in let f2 = f.hits in
+    subst (λ (u : Tally). Follows u b l n) is (record { landed = omega (arith, p, f1); hits = omega (arith, q, f2) })
+
 -- what was met, and one that landed
 pub met_lands : (r : ℕ) (l m n : Made) → Met r l m → Lands m n → Fetched r l n
 met_lands r l m n met lands =

@@ -6,4 +6,8 @@ pub mod SiteLemmas
 pub mod RenderLemmas
 pub mod FlightLemmas
 pub mod WindowLemmas
-pub mod LifeLemmas
+pub mod GridLemmas
+pub mod PaintLemmas
+pub mod SumLemmas
+pub mod PictureLemmas
+pub mod MomentLemmas

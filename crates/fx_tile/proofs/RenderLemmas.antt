@@ -3,17 +3,14 @@ use Rattle.std.proofs.Common.{◌≡◌, ℕ, ◌<◌, ℤ, List, [], ◌∷◌,
 use Rattle.std.specs.List.{All, Contains}
 use Rattle.std.proofs.lemmas.List.{get_or-map, length-map}
 use Rattle.std.proofs.lemmas.List.Elements.{All-contains_itself}
+use Rattle.std.proofs.lemmas.Option.{slice_get_within}
 use Rattle.fx_base.specs.Bounds.{Bounds}
 use Rattle.fx_base.specs.Rect.{Holds}
 use Rattle.fx_pixel.specs.declared.Depth.{Depth}
 use Rattle.fx_pixel.specs.declared.Components.{Components}
 use Rattle.fx_pixel.specs.declared.Components.TheVariants.{Rgba}
-use Rattle.fx_pixel.specs.declared.Pixel.{Pixel}
 use Rattle.fx_pixel.specs.Pixel.{greatest}
 use Rattle.fx_image.specs.Stored.{Stored}
-use Rattle.fx_image.specs.declared.part.Part.{Part}
-use Rattle.fx_image.specs.Part.{IsWritten}
-use Rattle.fx_image.proofs.ImageLaws.{place_from}
 use Rattle.fx_params.specs.Parameter.{Parameter}
 use Rattle.fx_effect.specs.Asked.{MayRender}
 use Rattle.fx_effect.specs.DefaultLaws.{flag_for_each}
@@ -28,7 +25,8 @@ use Rattle.fx_graph.specs.Kept as graph
 use Rattle.fx_graph.specs.Kept.{use_values}
 use Rattle.fx_graph.specs.Nodes.{Form}
 use Rattle.fx_graph.specs.Shown.{GraphShown}
-use Rattle.fx_life.specs.Seats.{Lives, Plays, used_by}
+use Rattle.fx_life.specs.Filled.{IsFilled}
+use Rattle.fx_life.specs.Seats.{HasLife, Lives, Plays, used_by}
 use Rattle.fx_scene.specs.Nodes.{AreNodes, Effect, EffectNode as Effects, IsEffectNode, IsNode, Node, Nodes, depth_at, node_components, node_depth, seen}
 use Rattle.fx_scene.specs.Scenes.{Images, graph_nodes}
 use Rattle.fx_scene.specs.Value.{Pixels, node_value, tap_value, value}
@@ -42,9 +40,8 @@ use Rattle.fx_region.specs.Sites.{StandsIn, effect_at}
 use Rattle.fx_region.specs.Suffice.{ShowsTaps}
 use Rattle.fx_region.proofs.SiteLemmas.{is_effect, is_use}
 use Rattle.fx_tile.specs.Inputs.{AreInputs, seen_in}
-use Rattle.fx_tile.specs.Sites.{HasLife}
 use Rattle.fx_tile.specs.Tiles.{IsTile}
-use Rattle.fx_tile.specs.Windows.{IsFilled, IsWindowOf}
+use Rattle.fx_tile.specs.Windows.{IsWindowOf}
 use Rattle.fx_tile.proofs.PieceLemmas.{pieces_pixel}
 
 map_map : {A B C : Type 0} (f : B → C) (g : A → B) (xs : List A) → map f (map g xs) ≡ map (λ x. f (g x)) xs
@@ -76,6 +73,10 @@ clips_counted s before c clips names optional masks params u =
     let mask = ap (λ (bs : List Bool). length bs) u.masks_are in
     let each = length-map (clip_names s c) is_mask in
     (omega (arith, flags, connected), omega (arith, flags, connected, named, mask, each))
+
+-- its place is one of the graph's
+pub place_below : {E : Type 0} (g : GraphShown E) (n : EffectNode E) → StandsIn g n → n.place < length g.nodes
+place_below g n at = slice_get_within g.nodes n.place at.node at.there
 
 module _ {E : Type 0} (meaning : E → Meaning) (g : GraphShown E) where
   -- its instance is in the life
@@ -116,18 +117,7 @@ module _ {E : Type 0} (meaning : E → Meaning) (g : GraphShown E) where
         let s = (meaning n.effect.now).shape in
         (clips_counted s _ n.context n.clips.now n.names.now n.optional.now n.masks.now n.params.now (is_use meaning g form kept n at)).1
 
--- ---- images that are written whole
-
-pub written_filled : (s : Stored) (p q : Part) (f : ℤ → ℤ → Pixel) → p.image.now ≡ s → p.rect ≡ s.rect → IsWritten p q f
-    → IsFilled s q.image.now f
-written_filled s p q f is whole written =
-    let frame = written.0.2 in
-    record {
-      rect = frame.rect ∙ ap (λ (i : Stored). i.rect) is;
-      depth = frame.depth ∙ ap (λ (i : Stored). i.depth) is;
-      components = frame.components ∙ ap (λ (i : Stored). i.components) is;
-      pixels = λ x y inside. written.1.inside x y (rw whole inside) (rw whole (place_from s.rect x y inside).top);
-    }
+-- ---- windows that were rendered
 
 pub filled_window : (s t : Stored) (m : Meaning) (v : Values) (given : Given) (depth : Depth) (c : Components) (region : Bounds)
     → s.rect ≡ region → s.depth ≡ depth → s.components ≡ c → IsFilled s t (rendered m v given s.depth s.components)

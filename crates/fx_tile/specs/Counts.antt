@@ -1,5 +1,5 @@
 -- What renders count in a seat of the directory.
-use Rattle.std.specs.Prelude.{◌≡◌, ◌<◌, ◌≤◌, ◌+◌, ◌⊎◌, ℕ}
+use Rattle.std.specs.Prelude.{◌≡◌, ◌<◌, ◌≤◌, ◌+◌, ◌^◌, ◌⊎◌, ℕ}
 use Rattle.fx_directory.specs.Seats.{Made}
 use Rattle.fx_region.specs.Ends.{EndShown, Frame, Render, Void}
 use Rattle.fx_tile.specs.declared.count.Tally.{Tally}
@@ -51,11 +51,34 @@ CountsEnd Void n = (n.void_tiles ≡ 1) × (n.passed ≡ 0) × (n.asked ≡ 0)
 CountsEnd (Frame node frame region through) n = (n.void_tiles ≡ 0) × (n.passed ≡ 1) × (n.asked ≡ 0)
 CountsEnd (Render node frame region cut through) n = (n.void_tiles ≡ 0) × (n.passed ≡ 0) × (n.asked ≡ 1)
 
--- The count has what landed and was found kept through the seat, and nothing was dropped. Where the tile is asked, it
--- was found kept, or it landed after the r renders that it needs.
+-- where the tile is asked, it was found kept, or it landed after the r renders that it needs
+abbrev pub CountsWay : ℕ → TileCount → Type 0
+CountsWay r c = c.asked ≡ 1 → ((c.landed ≡ 0) × (c.hits ≡ 1)) ⊎ ((1 ≤ c.landed) × (1 + r ≤ c.landed + c.hits))
+
+-- the count has what landed and was found kept through the seat, and nothing was dropped
 pub record CountsRises (r : ℕ) (m n : Made) (c : TileCount) : Type 0 where
   pub dropped : n.dropped ≡ m.dropped
   pub landed : n.landed ≡ m.landed + c.landed
   pub hits : n.hits ≡ m.hits + c.hits
-  pub way :
-      c.asked ≡ 1 → ((c.landed ≡ 0) × (c.hits ≡ 1)) ⊎ ((1 ≤ c.landed) × (1 + r ≤ c.landed + c.hits))
+  pub way : CountsWay r c
+
+-- ---- sums of counts
+
+-- both counts together
+abbrev pub both_counts : TileCount → TileCount → TileCount
+both_counts a b =
+    record {
+      void_tiles = a.void_tiles + b.void_tiles;
+      passed = a.passed + b.passed;
+      asked = a.asked + b.asked;
+      landed = a.landed + b.landed;
+      hits = a.hits + b.hits;
+    }
+
+-- no number of a count is past the greatest that it can be
+pub record CanCount (count : TileCount) : Type 0 where
+  pub void_tiles : count.void_tiles < 2 ^ 64
+  pub passed : count.passed < 2 ^ 64
+  pub asked : count.asked < 2 ^ 64
+  pub landed : count.landed < 2 ^ 64
+  pub hits : count.hits < 2 ^ 64

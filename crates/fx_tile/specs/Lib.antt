@@ -5,4 +5,5 @@ pub mod Counts
 pub mod Sites
 pub mod Inputs
 pub mod Windows
+pub mod Moments
 pub mod Toy

@@ -1,5 +1,5 @@
 -- What renders are made from, and what has to be there before one.
-use Rattle.std.specs.Prelude.{◌≡◌, ◌≢◌, ◌<◌, ℕ, ℤ, List, [], ◌∷◌, map, length, All, Option, Some, None, slice_get, count_by}
+use Rattle.std.specs.Prelude.{◌≡◌, ◌≢◌, ◌<◌, ◌≤◌, ◌+◌, ℕ, ℤ, List, [], ◌∷◌, map, length, All, Option, Some, None, count_by}
 use Rattle.std.specs.Arc.{arc_value}
 use Rattle.std.specs.declared.alloc.Global.{Global}
 use Rattle.std.specs.declared.sync.Arc.{Arc}
@@ -10,11 +10,11 @@ use Rattle.fx_effect.specs.Asked.{IsWindow}
 use Rattle.fx_effect.specs.Meaning.{Meaning}
 use Rattle.fx_seq.specs.Held.{held}
 use Rattle.fx_directory.specs.Seats.{Made}
+use Rattle.fx_gate.specs.Gates.{GateSeatState}
 use Rattle.fx_scene.specs.declared.key.Key.{Key}
 use Rattle.fx_scene.specs.Areas.{area}
 use Rattle.fx_scene.specs.Nodes.{AreNodes, EffectNode, Effect, Nodes, Source, SourceFrames}
-use Rattle.fx_graph.specs.Shown.{Shown, GraphShown}
-use Rattle.fx_life.specs.Seats.{Lives, Plays, Used, used_by}
+use Rattle.fx_life.specs.Seats.{HasLife}
 use Rattle.fx_scene.specs.Scenes.{Shot, graph_shown, node_values}
 use Rattle.fx_region.specs.declared.ends.End.{End}
 use Rattle.fx_region.specs.declared.ends.End.TheVariants as code
@@ -30,14 +30,8 @@ use Rattle.fx_tile.specs.declared.site.Site.{Site}
 use Rattle.fx_tile.specs.Counts.{Fetched, IsUnasked}
 use Rattle.fx_tile.specs.Tiles.{IsRegion, IsTile}
 
--- each node of the graph that uses an effect has its instance, of the plug-in of that effect, in a sequence
-abbrev pub HasLife : {E : Type 0} → (E → ℕ) → GraphShown E → Lives E → Type 0
-HasLife {E} number g life =
-    (k : ℕ) (node : Shown E) (used : Used E) → slice_get g.nodes k ≡ Some node → used_by node.does ≡ Some used
-    → Plays number life k used.effect
-
--- the graph and the frames are the scene's, its effects keep their laws, and of it are the instances, the regions and
--- what is kept
+-- the graph and the frames are the scene's, its effects keep their laws, of it are the instances, the regions and what
+-- is kept, and there are gates for all plug-ins and nodes
 pub record IsSite {E : Type 0} {c e : _} (meaning : E → Meaning) (number : E → ℕ) (site : Site E c e) : Type 0 where
   pub graph : site.scene.now.graph ≡ graph_shown site.graph.now
   pub store : site.scene.now.store ≡ site.store.now
@@ -45,16 +39,23 @@ pub record IsSite {E : Type 0} {c e : _} (meaning : E → Meaning) (number : E �
   pub life : HasLife number site.scene.now.graph site.life.now
   pub regions : IsMadeOf meaning site.scene.now site.regions.now
   pub name : site.shared.now.directory.name.scene.value ≡ site.scene.now
+  pub gates : 64 + length site.scene.now.graph.nodes ≤ site.shared.now.gates.gates
 
--- the seat is one of the directory
-abbrev pub IsSeat : {E : Type 0} {c e : _} → Site E c e → TileSeat E → Type 0
-IsSeat site seat = seat.directory.row ≡ site.shared.now.directory
+-- a seat of the gates that holds none
+abbrev pub IsGateSeat : {E : Type 0} {c e : _} → Site E c e → GateSeatState → Type 0
+IsGateSeat site seat = (seat.row ≡ site.shared.now.gates) × (seat.turn ≡ None)
 
--- the seat has its directory, its parts and its flights as before
+-- the seat is one of the directory, and one of the gates that holds none
+pub record IsSeat {E : Type 0} {c e : _} (site : Site E c e) (seat : TileSeat E) : Type 0 where
+  pub row : seat.directory.row ≡ site.shared.now.directory
+  pub gates : IsGateSeat site seat.gates
+
+-- the seat has its directory, its parts and its flights, and what it has of the gates, as before
 pub record KeepsSeat {E : Type 0} (old new : TileSeat E) : Type 0 where
   pub row : new.directory.row ≡ old.directory.row
   pub parts : new.directory.parts ≡ old.directory.parts
   pub aloft : new.directory.aloft ≡ old.directory.aloft
+  pub gates : new.gates ≡ old.gates
 
 -- the key of a region of a node at a frame
 abbrev pub IsKeyOf : {E : Type 0} → Shot E → ℕ → ℤ → Bounds → Key → Type 0

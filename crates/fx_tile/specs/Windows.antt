@@ -4,7 +4,6 @@ use Rattle.fx_base.specs.Bounds.{Bounds}
 use Rattle.fx_base.specs.Rect.{Holds}
 use Rattle.fx_pixel.specs.declared.Depth.{Depth}
 use Rattle.fx_pixel.specs.declared.Components.{Components}
-use Rattle.fx_pixel.specs.declared.Pixel.{Pixel}
 use Rattle.fx_image.specs.Stored.{Stored, shown}
 use Rattle.fx_effect.specs.Given.{Given}
 use Rattle.fx_effect.specs.Meaning.{Meaning, rendered}
@@ -27,13 +26,6 @@ pub record IsAsked {E : Type 0} {c e : _} (meaning : E → Meaning) (number : E 
   pub values : v ≡ use_values site.graph.now.project v.frame n.clips.now n.params.now
   pub depth : given.depth ≡ n.depth
   pub components : given.components ≡ map (seen_in n.components) n.masks.now
-
--- the image keeps its form, and shows these pixels at each place of its rectangle
-pub record IsFilled (old new : Stored) (f : ℤ → ℤ → Pixel) : Type 0 where
-  pub rect : new.rect ≡ old.rect
-  pub depth : new.depth ≡ old.depth
-  pub components : new.components ≡ old.components
-  pub pixels : (x y : ℤ) → Holds old.rect x y → shown new x y ≡ f x y
 
 -- the window of an effect's node, by what it reads
 pub record IsWindowOf (m : Meaning) (v : Values) (given : Given) (depth : Depth) (c : Components) (region : Bounds)

@@ -1,4 +1,6 @@
 //! What becomes of a tile of the picture, and what its renders count.
+ghost use Rattle.std.specs.Prelude.{◌≡◌, ◌↔◌, IfSome, IsSome};
+ghost use Rattle.fx_tile.specs.Counts.{CanCount, both_counts};
 
 /// What became of a tile of the picture. Of `void_tiles`, `passed` and `asked` one is 1 and the others are 0: the
 /// tile is found nowhere, in a source's frame, or in a render. For it so many renders landed, and so many were found
@@ -10,6 +12,22 @@ pub struct TileCount {
     pub asked: u64,
     pub landed: u64,
     pub hits: u64,
+}
+
+impl TileCount {
+    // Both counts together, where no sum is past the greatest number.
+    pub(crate) fn plus(self, other: TileCount) -> Option<TileCount>
+        ensures some { IsSome result ↔ CanCount (both_counts self other) }
+        ensures both { IfSome result (λ sum. sum ≡ both_counts self other) }
+    {
+        Some(TileCount {
+            void_tiles: self.void_tiles.checked_add(other.void_tiles)?,
+            passed: self.passed.checked_add(other.passed)?,
+            asked: self.asked.checked_add(other.asked)?,
+            landed: self.landed.checked_add(other.landed)?,
+            hits: self.hits.checked_add(other.hits)?,
+        })
+    }
 }
 
 /// How many renders landed, and how many were found kept, so far.

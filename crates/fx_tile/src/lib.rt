@@ -4,7 +4,9 @@
 
 mod count;
 mod inputs;
+mod job;
 pub mod laws;
+mod moment;
 mod name;
 mod render;
 mod share;
@@ -17,6 +19,7 @@ mod toy;
 mod window;
 
 pub use count::TileCount;
+pub use moment::{Rendered, render_moment};
 pub use name::SceneName;
 pub use share::{Shared, TileSeat};
 pub use window::window_tile;

@@ -1,26 +1,31 @@
 //! Tiles of pictures that are worked by hand.
-ghost use Rattle.std.specs.Prelude.{◌≡◌, ◌≤◌, ◌≤ℤ◌, pos, [], ◌∷◌, IfOk};
+ghost use Rattle.std.specs.Prelude.{◌≡◌, ◌<◌, ◌≤◌, ◌+◌, ◌≤ℤ◌, pos, [], ◌∷◌, None, All, IfOk, length, vec_len};
 ghost use Rattle.fx_scene.specs.Scenes.{graph_shown};
-ghost use Rattle.fx_tile.specs.Sites.{HasLife};
+ghost use Rattle.fx_life.specs.Seats.{HasLife};
+ghost use Rattle.fx_turn.specs.Seats.{all_parts};
+ghost use Rattle.fx_tile.specs.Moments.{IsFree};
 ghost use Rattle.fx_tile.specs.Toy.{IsSmall};
 
 use crate::toy::Toy;
-use crate::{SceneName, Shared, TileCount, TileSeat, window_tile};
+use crate::{SceneName, Shared, TileCount, TileSeat, render_moment, window_tile};
 use fx_base::{Grid, Memory, Name, Rect};
 use fx_core::Permit;
 use fx_directory::Directory;
+use fx_gate::Gates;
 use fx_graph::{Graph, accept};
 use fx_image::Image;
 use fx_life::Life;
-use fx_outside::SureLibrary;
+use fx_outside::{FreePace, SureLibrary};
 use fx_pixel::{Components, Depth, Format, Pixel};
 use fx_region::Regions;
 use fx_scene::{Scene, wants};
 use fx_seq::Store;
 use fx_text::{GraphFault, read_graph};
 use std::alloc::{AllocError, Global};
+use std::process::Abort;
 use std::sync::Wait;
 use std::test::Fail;
+use std::thread::Threads;
 
 // A source of the frames 3 to 5, black outside of them, under two effects, or alone.
 const BLACK: &str = r#"{"name":"s","source":"s##.pam","first":3,"last":5}"#;
@@ -95,6 +100,23 @@ const CASES: &[(&str, &str, u32, u32, &str, Counts, Counts)] = &[
     ),
 ];
 
+// A source whose files have both columns.
+const WIDE: &str = r#"{"name":"s","source":"w##.pam","first":3,"last":5}"#;
+
+// The source, the effects over it, the frame, the side of a tile, the picture's two columns, and what becomes of its
+// tiles, which are two where each has a column.
+const MOMENTS: &[(&str, &str, u32, u32, &str, Counts)] = &[
+    (ALONE, "", 4, 1, "4 0 0 104, 0 0 0 0", (1, 1, 0, 0, 0)),
+    (ALONE, "", 4, 64, "4 0 0 104, 0 0 0 0", (0, 1, 0, 0, 0)),
+    (ALONE, "", 6, 1, "0 0 0 0, 0 0 0 0", (2, 0, 0, 0, 0)),
+    (BLACK, TWICE, 5, 1, "3 0 0 105, 0 0 0 0", (1, 0, 1, 3, 0)),
+    (BLACK, TWICE, 5, 64, "3 0 0 105, 0 0 0 0", (0, 0, 1, 3, 0)),
+    (BLACK, TWICE, 7, 1, "5 0 0 0, 0 0 0 0", (1, 0, 1, 2, 0)),
+    // Each column of z needs its own of y at 4 and at 5.
+    (WIDE, TWICE, 5, 1, "3 0 0 105, 3 1 0 55", (0, 0, 2, 6, 0)),
+    (WIDE, TWICE, 5, 64, "3 0 0 105, 3 1 0 55", (0, 0, 1, 3, 0)),
+];
+
 // The graph of these nodes over a project of two columns and one row, whose output is the node z.
 fn graph_of(alloc: Global, source: &str, effects: &str) -> Result<Graph<Toy>, GraphFault> {
     let project = r#""project":{"width":2,"height":1,"depth":"byte","components":"RGBA"}"#;
@@ -114,11 +136,23 @@ fn file(alloc: Global, name: &str, t: u8) -> Result<(Name, Vec<u8>), AllocError>
     Ok((Name::of(String::from_str(alloc, name)?), bytes))
 }
 
+// That of two pixels, of which the second has t, 1, 0 and t + 50.
+fn wide_file(alloc: Global, name: &str, t: u8) -> Result<(Name, Vec<u8>), AllocError> {
+    let header = format!(in alloc; "P7\nWIDTH 2\nHEIGHT 1\nDEPTH 4\nMAXVAL 255\nENDHDR\n")?;
+    let mut bytes = header.as_bytes().to_vec(alloc)?;
+    bytes.extend_from_slice(&[t, 0, 0, t.wrapping_add(100)])?;
+    bytes.extend_from_slice(&[t, 1, 0, t.wrapping_add(50)])?;
+    Ok((Name::of(String::from_str(alloc, name)?), bytes))
+}
+
 fn files(alloc: Global) -> Result<Vec<(Name, Vec<u8>)>, AllocError> {
     let mut files = Vec::new(alloc);
     files.push(file(alloc, "s03.pam", 3)?)?;
     files.push(file(alloc, "s04.pam", 4)?)?;
     files.push(file(alloc, "s05.pam", 5)?)?;
+    files.push(wide_file(alloc, "w03.pam", 3)?)?;
+    files.push(wide_file(alloc, "w04.pam", 4)?)?;
+    files.push(wide_file(alloc, "w05.pam", 5)?)?;
     Ok(files)
 }
 
@@ -140,7 +174,7 @@ fn toys(alloc: Global) -> Result<Vec<Toy>, Memory>
     Ok(vec![in alloc; Toy]?)
 }
 
-// A directory of a scene that keeps so many tiles, and its seat.
+// A directory of a scene that keeps so many tiles, gates for its nodes, and a seat of both.
 fn shared_by(
     alloc: Global,
     name: SceneName<Toy>,
@@ -150,11 +184,24 @@ fn shared_by(
     ensures name { IfOk result (λ r. r.0.directory.name ≡ name) }
     ensures row { IfOk result (λ r. r.1.directory.row ≡ r.0.directory) }
     ensures free { IfOk result (λ r. r.1.directory.aloft ≡ []) }
+    ensures gates { IfOk result (λ r. r.0.gates.gates ≡ 80) }
+    ensures gate_seat { IfOk result (λ r. (r.1.gates.row ≡ r.0.gates) × (r.1.gates.turn ≡ None)) }
+    ensures parts { IfOk result (λ r. (r.1.directory.parts ≡ all_parts) × (r.1.gates.parts ≡ all_parts)) }
 {
+    let (gates, gate_seat) = Gates::new(alloc, 80)?;
     match Directory::new(alloc, name, permit, capacity) {
         Ok((directory, seat)) => {
             let grid = Grid { side: 64 };
-            Ok((Shared { directory, grid }, TileSeat { directory: seat }))
+            let shared = Shared {
+                directory,
+                gates,
+                grid,
+            };
+            let seat = TileSeat {
+                directory: seat,
+                gates: gate_seat,
+            };
+            Ok((shared, seat))
         }
         Err((_, memory)) => Err(memory),
     }
@@ -189,6 +236,8 @@ fn drawn_twice<R: Wait>(
     requires name { shared.now.directory.name.scene.value ≡ scene.now }
     requires row { seat.old.directory.row ≡ shared.now.directory }
     requires free { seat.old.directory.aloft ≡ [] }
+    requires gates { 64 + length scene.now.graph.nodes ≤ shared.now.gates.gates }
+    requires gate_seat { (seat.old.gates.row ≡ shared.now.gates) × (seat.old.gates.turn ≡ None) }
     requires image { IsSmall scene.now.graph image.old }
 {
     let regions = Regions::of(alloc, scene, frame)?;
@@ -213,6 +262,9 @@ fn drawn<R: Wait>(
 ) -> Result<(Image, TileCount, TileCount), Memory>
     requires { at ≤ 999999 }
 {
+    if graph.nodes.len() > 16 {
+        return Err(Memory);
+    }
     let store = store_of(alloc, &graph, at)?;
     let mut image = blank(alloc, &graph)?;
     let (scene, permit) = Scene::new(graph, store, 7);
@@ -256,4 +308,84 @@ fn tiles_show_the_output(rt: HostRuntime) -> Result<(), Fail> {
         assert_eq!(rt; counts(again), *second);
     }
     Ok(())
+}
+
+// So many seats, each with a part of the first.
+fn split_off(
+    alloc: Global,
+    shared: &Shared<Toy>,
+    first: &mut TileSeat<Toy>,
+    count: u32,
+) -> Result<Vec<TileSeat<Toy>>, Memory>
+    requires directory { (first.old.directory.row ≡ shared.now.directory) × (count < first.old.directory.parts) }
+    requires gates { (first.old.gates.row ≡ shared.now.gates) × (count < first.old.gates.parts) }
+    requires free { first.old.gates.turn ≡ None }
+    ensures count { IfOk result (λ seats. vec_len seats ≡ count) }
+    ensures free { IfOk result (λ seats. All (IsFree shared.now) seats.items) }
+{
+    let mut seats = Vec::new(alloc);
+    for _ in 0..count {
+        let directory = shared.directory.split(alloc, &mut first.directory)?;
+        let gates = shared.gates.split(alloc, &mut first.gates)?;
+        seats.push(TileSeat { directory, gates })?;
+    }
+    Ok(seats)
+}
+
+// The picture of a frame by so many workers, and what becomes of its tiles.
+fn rendered<R: Threads + Wait + Sync>(
+    rt: &R,
+    alloc: Global,
+    graph: Graph<Toy>,
+    grid: Grid,
+    workers: u32,
+    at: u32,
+) -> Result<(Image, TileCount), Memory>
+    requires workers { (1 ≤ workers) × (workers ≤ 64) }
+    requires at { at ≤ 999999 }
+{
+    if graph.nodes.len() > 16 {
+        return Err(Memory);
+    }
+    let store = store_of(alloc, &graph, at)?;
+    let (scene, permit) = Scene::new(graph, store, 7);
+    let (shared, mut first) = shared_by(alloc, SceneName::of(&scene), permit, 9)?;
+    let shared = Shared { grid, ..shared };
+    let seats = split_off(alloc, &shared, &mut first, workers)?;
+    let life = Life::start(alloc, scene.graph(), toys(alloc)?, 0, 9)?;
+    let frame = i64::from(at);
+    let made = render_moment(rt, alloc, &FreePace, &scene, &life, &shared, seats, frame);
+    life.finish();
+    match made {
+        Ok(made) => Ok((made.picture, made.count)),
+        Err((_, memory)) => Err(memory),
+    }
+}
+
+// Each moment by so many workers.
+fn moments_by<R: Threads + Wait + Abort + Sync>(
+    rt: &R,
+    alloc: Global,
+    workers: u32,
+) -> Result<(), Fail>
+    requires { (1 ≤ workers) × (workers ≤ 64) }
+{
+    for (source, effects, at, side, expected, total) in MOMENTS {
+        let grid = Grid {
+            side: (*side).clamp(1, 64),
+        };
+        let graph = graph_of(alloc, source, effects).ok().ok_or("refused")?;
+        let (picture, count) = rendered(rt, alloc, graph, grid, workers, (*at).min(9))?;
+        assert_eq!(rt; told(alloc, &picture)?.as_str(), *expected);
+        assert_eq!(rt; counts(count), *total);
+    }
+    Ok(())
+}
+
+#[test]
+fn workers_draw_the_tiles(rt: HostRuntime) -> Result<(), Fail> {
+    let alloc = rt.alloc();
+    moments_by(&rt, alloc, 1)?;
+    moments_by(&rt, alloc, 2)?;
+    moments_by(&rt, alloc, 8)
 }

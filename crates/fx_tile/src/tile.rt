@@ -48,12 +48,12 @@ pub(crate) fn fetch<R: Wait, E: Catalogue + Drop>(
     ensures follows { OnOk result
         (Follows tally.old tally.new seat.old.directory.made seat.new.directory.made) }
 {
+    let key = site.scene.key(alloc, node, frame, region)?;
     for _ in rt.forever() {
-        let key = site.scene.key(alloc, node, frame, region)?;
         match site
             .shared
             .directory
-            .ask(rt, alloc, &mut seat.directory, key)?
+            .ask(rt, alloc, &mut seat.directory, Arc::try_clone(&key)?)?
         {
             Answer::Here(image) => {
                 tally.hits += 1;
@@ -91,6 +91,7 @@ fn made<R: Wait, E: Catalogue + Drop>(
         IfOk result (λ image. IsTile nodes node frame region (arc_value image)) }
     ensures row { IsSeat site.now seat.new }
     ensures parts { seat.new.directory.parts ≡ seat.old.directory.parts }
+    ensures gates { seat.new.gates ≡ seat.old.gates }
     ensures aloft { LeavesAlone seat.old.directory.aloft seat.new.directory.aloft flight }
     ensures fetched { let r = renders_needed E.meaning site.now node frame region in
         OnOk result (Fetched r seat.old.directory.made seat.new.directory.made) }
@@ -138,6 +139,7 @@ fn landed<R: Wait, E: Catalogue + Drop>(
     ensures same { IfOk result (λ tile. arc_value tile ≡ arc_value image) }
     ensures row { IsSeat site.now seat.new }
     ensures parts { seat.new.directory.parts ≡ seat.old.directory.parts }
+    ensures gates { seat.new.gates ≡ seat.old.gates }
     ensures aloft { LeavesAlone seat.old.directory.aloft seat.new.directory.aloft flight }
     ensures landed { OnOk result (Lands seat.old.directory.made seat.new.directory.made) }
     ensures follows { OnOk result
@@ -190,8 +192,10 @@ fn image_of<R: Wait, E: Catalogue + Drop>(
     let needs = needs_of(alloc, site, node, frame, region)?;
     let tiles = gathered(rt, alloc, site, seat, tally, node, needs.as_slice())?;
     rendered(
+        rt,
         alloc,
         site,
+        &mut seat.gates,
         node,
         frame,
         region,

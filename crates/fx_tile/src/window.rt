@@ -1,5 +1,5 @@
 //! A tile of the picture of a frame.
-ghost use Rattle.std.specs.Prelude.{◌≡◌, ◌+◌, ◌<◌, ◌∷◌, [], ℤ, IfOk, OnOk, length};
+ghost use Rattle.std.specs.Prelude.{◌≡◌, ◌+◌, ◌<◌, ◌≤◌, ◌∷◌, [], None, ℤ, IfOk, OnOk, length};
 ghost use Rattle.fx_base.specs.Bounds.{IsRect};
 ghost use Rattle.fx_base.specs.Rect.{IsWithin};
 ghost use Rattle.fx_image.specs.Part.{IsPart, IsWritten, SamePart, narrowed};
@@ -11,7 +11,8 @@ ghost use Rattle.fx_region.specs.Sites.{scene_nodes};
 ghost use Rattle.fx_region.specs.Tables.{AreRegions};
 ghost use Rattle.fx_scene.specs.Scenes.{images_in, picture};
 ghost use Rattle.fx_tile.specs.Counts.{CountsEnd, CountsRises};
-ghost use Rattle.fx_tile.specs.Sites.{HasLife, IsReady, IsSeat, IsSite, IsTileOf, KeepsSeat, end_renders};
+ghost use Rattle.fx_life.specs.Seats.{HasLife};
+ghost use Rattle.fx_tile.specs.Sites.{IsReady, IsSeat, IsSite, IsTileOf, KeepsSeat, end_renders};
 ghost use Rattle.fx_tile.specs.Tiles.{IsRegion};
 
 use crate::count::{Tally, TileCount};
@@ -31,9 +32,11 @@ use std::sync::{Arc, Wait};
 
 /// Writes the pixels of a tile of the picture of a frame into a part, and no others. The tile lies within the
 /// project's extent and the part, which has the picture's depth and components; the regions are those of the scene at
-/// that frame; the life is that of its graph, and the directory's name is that of the scene. The seat is one of the
-/// directory and has no flight, before and after. `Memory` comes where memory is wanting: then the pixels of the tile
-/// may be anything, and each flight of the call was dropped. Where another renders what is needed it is waited for.
+/// that frame; the life is that of its graph, and the directory's name is that of the scene; there are gates for 64
+/// plug-ins and each node. The seat is one of the directory and of the gates, and has no flight and no gate, before and
+/// after. `Memory` comes where memory is wanting: then the pixels of the tile may be anything, and each flight of the
+/// call was dropped. Where another renders what is needed it is waited for. A render holds the gate of its node, once
+/// what it reads is there, and releases it before it lands.
 pub fn window_tile<R: Wait, E: Catalogue + Drop>(
     rt: &R,
     alloc: Global,
@@ -52,6 +55,8 @@ pub fn window_tile<R: Wait, E: Catalogue + Drop>(
     requires name { shared.now.directory.name.scene.value ≡ scene.now }
     requires seat { seat.old.directory.row ≡ shared.now.directory }
     requires free { seat.old.directory.aloft ≡ [] }
+    requires gates { 64 + length scene.now.graph.nodes ≤ shared.now.gates.gates }
+    requires gate_seat { (seat.old.gates.row ≡ shared.now.gates) × (seat.old.gates.turn ≡ None) }
     requires tile { IsRegion tile }
     requires project { IsWithin tile scene.now.graph.project }
     requires part { IsPart out.old }

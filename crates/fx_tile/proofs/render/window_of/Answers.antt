@@ -1,19 +1,36 @@
-use Rattle.std.proofs.Common.{◌≡◌, subst, rules, arith}
+use Rattle.std.proofs.Common.{◌≡◌, subst, ap, rules, arith, length}
 use Rattle.std.proofs.lemmas.Int.{ints}
-use Rattle.fx_graph.specs.Shown.{GraphShown}
+use Rattle.std.proofs.lemmas.List.{length-map}
+use Rattle.fx_graph.specs.Shown.{GraphShown, shown}
 use Rattle.fx_scene.specs.Nodes.{AreNodes}
 use Rattle.fx_scene.specs.Scenes.{graph_nodes, graph_shown, images_in}
-use Rattle.fx_tile.specs.Sites.{HasLife}
-use Rattle.fx_tile.proofs.RenderLemmas.{filled_window, has_instance, may_render}
+use Rattle.fx_life.specs.Seats.{HasLife}
+use Rattle.fx_tile.proofs.RenderLemmas.{filled_window, has_instance, may_render, place_below}
 use Rattle.fx_tile.proofs.render.window_of.Goals as goal
 
-pub render_whole-requires-clause-frame : goal.render_whole-requires-clause-frame
-render_whole-requires-clause-frame g c =
+pub render_image-requires-clause-gates : goal.render_image-requires-clause-gates
+render_image-requires-clause-gates g c =
+    let of = c.requires.asked.of_site in
+    let low = place_below (graph_shown c.args.site.now.graph.now) c.args.node.now c.requires.asked.there in
+    let same = ap (λ (h : GraphShown _). length h.nodes) of.graph in
+    let many = of.gates in
+    omega (arith, low, same, many)
+
+pub render_image-requires-clause-small : goal.render_image-requires-clause-small
+render_image-requires-clause-small g c =
+    let graph = c.args.site.now.graph.now in
+    let low = place_below (graph_shown graph) c.args.node.now c.requires.asked.there in
+    let few = graph.rendered.few in
+    let long = length-map graph.nodes.items shown in
+    omega (arith, low, few, long)
+
+pub render_image-requires-clause-frame : goal.render_image-requires-clause-frame
+render_image-requires-clause-frame g c =
     let low = c.requires.asked.near.low in let high = c.requires.asked.near.high in
     (omega (arith, ints), omega (arith, ints))
 
-pub render_whole-requires-clause-may : goal.render_whole-requires-clause-may
-render_whole-requires-clause-may g c =
+pub render_image-requires-clause-may : goal.render_image-requires-clause-may
+render_image-requires-clause-may g c =
     let site = c.args.site.now in
     let node = c.args.node.now in
     let graph = site.graph.now in
@@ -38,5 +55,5 @@ returns-clause-window g c =
     let of = c.requires.asked.of_site in
     let life = subst (λ (h : GraphShown _). HasLife g.E.Catalogue.number_of h site.life.now) of.graph of.life in
     let plays = has_instance g.E.ImageEffect.meaning (graph_shown site.graph.now) g.E.Catalogue.number_of site.life.now life node c.requires.asked.there in
-    filled_window c.in_ok-image.image c.render_whole.new.image (g.E.ImageEffect.meaning node.effect.now) c.args.values.now c.args.inputs.now node.depth node.components c.args.region
-    c.in_ok-image.ensures.rect c.in_ok-image.ensures.depth c.in_ok-image.ensures.components (c.in_ok-render_whole.ensures.filled node.effect.now plays)
+    filled_window c.in_ok-image.image c.render_image.new.image (g.E.ImageEffect.meaning node.effect.now) c.args.values.now c.args.inputs.now node.depth node.components c.args.region
+    c.in_ok-image.ensures.rect c.in_ok-image.ensures.depth c.in_ok-image.ensures.components (c.in_ok-render_image.ensures.filled node.effect.now plays)

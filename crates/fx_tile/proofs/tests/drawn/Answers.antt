@@ -2,7 +2,7 @@ use Rattle.std.proofs.Common.{ℕ, refl, sym, subst, ap, List, arith, length, ma
 use Rattle.std.specs.List.{Contains}
 use Rattle.fx_graph.specs.Shown.{GraphShown}
 use Rattle.fx_tile.specs.declared.toy.Toy.{Toy}
-use Rattle.fx_tile.proofs.LifeLemmas.{started_life}
+use Rattle.fx_life.proofs.LifeLemmas.{started_life}
 use Rattle.fx_tile.proofs.tests.drawn.Goals as goal
 
 pub start-requires-clause-numbers : goal.start-requires-clause-numbers

@@ -25,6 +25,7 @@ invariant-fetch-loop g l =
       row : l.seat.directory.row ≡ l.fn.seat.directory.row;
       parts : l.seat.directory.parts ≡ l.fn.seat.directory.parts;
       aloft : l.seat.directory.aloft ≡ l.fn.seat.directory.aloft;
+      gates : l.seat.gates ≡ l.fn.seat.gates;
       landed : l.seat.directory.made.landed ≡ l.fn.seat.directory.made.landed;
       hits : l.seat.directory.made.hits ≡ l.fn.seat.directory.made.hits;
       dropped : l.seat.directory.made.dropped ≡ l.fn.seat.directory.made.dropped;

@@ -52,6 +52,7 @@ tile_shown-requires-clause-site g c =
       life = c.requires.life;
       regions = record { at = c.args.frame; are = c.requires.regions };
       name = c.requires.name;
+      gates = c.requires.gates;
     }
 
 pub tile_shown-requires-clause-ready : goal.tile_shown-requires-clause-ready
