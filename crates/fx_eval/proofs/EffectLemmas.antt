@@ -1,5 +1,5 @@
 -- Effects in their places of a graph.
-use Rattle.std.proofs.Common.{◌≡◌, ℕ, ◌<◌, ℤ, List, [], ◌∷◌, map, length, take, get_or, Bool, refl, sym, ap, ◌∙◌, subst, Option, Some, None, IfSome, is_some, pos, slice_index_or, arith}
+use Rattle.std.proofs.Common.{◌≡◌, ℕ, ◌<◌, ◌≤◌, ◌+◌, ℤ, List, [], ◌∷◌, map, length, take, get_or, Bool, refl, sym, ap, ◌∙◌, subst, Option, Some, None, IfSome, is_some, pos, slice_index_or, arith}
 use Rattle.std.specs.List.{range_with_len}
 use Rattle.std.specs.declared.alloc.Global.{Global}
 use Rattle.std.specs.declared.vec.Vec.{Vec}
@@ -15,7 +15,7 @@ use Rattle.fx_effect.specs.Given.{Given}
 use Rattle.fx_effect.specs.declared.values.Values.{Values}
 use Rattle.fx_params.specs.Parameter.{Parameter}
 use Rattle.fx_actions.specs.Clips.{NamesClips, each_clip}
-use Rattle.fx_life.specs.Seats.{Lives, Plays, used_by}
+use Rattle.fx_life.specs.Seats.{HasLife, Lives, Plays, used_by}
 use Rattle.fx_effect.specs.DefaultLaws.{flag_for_each}
 use Rattle.fx_effect.specs.Laws.{seen_as}
 use Rattle.fx_effect.specs.Meaning.{Meaning}
@@ -28,7 +28,7 @@ use Rattle.fx_scene.specs.Frames.{clip_frames, frames_of, items_of}
 use Rattle.fx_scene.specs.Scenes.{Images, effect_node, graph_nodes}
 use Rattle.fx_scene.proofs.GraphLemmas.{names_clips, node_is, use_at}
 use Rattle.fx_eval.specs.declared.site.EffectNode.{EffectNode}
-use Rattle.fx_eval.specs.Sites.{HasLife, StandsIn, does_by, effect_at, seen_in}
+use Rattle.fx_eval.specs.Sites.{StandsIn, does_by, effect_at, seen_in}
 use Rattle.fx_eval.specs.Inputs.{AreReads}
 
 map_map : {A B C : Type 0} (f : B → C) (g : A → B) (xs : List A) → map f (map g xs) ≡ map (λ x. f (g x)) xs
@@ -74,6 +74,10 @@ module _ {E : Type 0} (meaning : E → Meaning) (g : GraphShown E) where
   pub is_effect : (images : Images) → AreNodes (graph_nodes meaning g images) → (n : EffectNode E) → StandsIn g n
       → IsEffectNode n.place (effect_at meaning g.project n)
   is_effect images are n at = subst (IsNode n.place) (effect_is images n at) (are n.place)
+
+  -- its gate is one of so many
+  pub has_gate : (gates : ℕ) → 64 + length g.nodes ≤ gates → (n : EffectNode E) → StandsIn g n → 64 + n.place < gates
+  has_gate gates enough n at = let low = slice_get_within g.nodes n.place at.node at.there in omega (arith, enough, low)
 
   -- its instance is in the life
   pub has_instance : (number : E → ℕ) (life : Lives E) → HasLife number g life → (n : EffectNode E) → StandsIn g n

@@ -7,5 +7,4 @@ pub mod OrderLemmas
 pub mod ReaderLemmas
 pub mod FlightLemmas
 pub mod RenderLemmas
-pub mod LifeLemmas
 pub mod PictureLemmas

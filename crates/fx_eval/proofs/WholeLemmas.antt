@@ -40,7 +40,8 @@ use Rattle.fx_eval.specs.declared.whole.Whole.{Whole}
 use Rattle.fx_eval.specs.Cuts.{IsCut}
 use Rattle.fx_eval.specs.Wholes.{AreWhole, HasRegion, IsImageOf, IsMade, IsReady, IsWhole, images_made, look, rect_of}
 use Rattle.fx_eval.specs.Inputs.{Adds, AreMade, AreReads, IsOne, Reads, blank}
-use Rattle.fx_eval.specs.Filled.{AreWindows, IsFilled, IsWindowOf}
+use Rattle.fx_life.specs.Filled.{IsFilled}
+use Rattle.fx_eval.specs.Filled.{AreWindows, IsWindowOf}
 use Rattle.fx_eval.proofs.PieceLemmas.{in_has, read_is, source_area_is, window_image}
 
 -- ---- what is kept

@@ -1,23 +1,15 @@
--- Images that were written whole, and windows that were rendered.
+-- Windows that were rendered.
 use Rattle.std.specs.Prelude.{◌≡◌, ℤ, List, map, All}
 use Rattle.fx_base.specs.Bounds.{Bounds}
 use Rattle.fx_base.specs.Rect.{Holds}
 use Rattle.fx_pixel.specs.declared.Depth.{Depth}
 use Rattle.fx_pixel.specs.declared.Components.{Components}
-use Rattle.fx_pixel.specs.declared.Pixel.{Pixel}
 use Rattle.fx_image.specs.Stored.{Stored, shown}
 use Rattle.fx_effect.specs.Given.{Given}
 use Rattle.fx_effect.specs.Meaning.{Meaning, rendered}
 use Rattle.fx_effect.specs.declared.values.Values.{Values}
 use Rattle.fx_eval.specs.Cuts.{Cover, IsCut}
 use Rattle.fx_eval.specs.Wholes.{rect_of}
-
--- the image keeps its form, and shows these pixels at each place of its rectangle
-pub record IsFilled (old new : Stored) (f : ℤ → ℤ → Pixel) : Type 0 where
-  pub rect : new.rect ≡ old.rect
-  pub depth : new.depth ≡ old.depth
-  pub components : new.components ≡ old.components
-  pub pixels : (x y : ℤ) → Holds old.rect x y → shown new x y ≡ f x y
 
 -- the window of an effect's node, by what it reads
 pub record IsWindowOf (m : Meaning) (v : Values) (given : Given) (depth : Depth) (c : Components) (region : Bounds)

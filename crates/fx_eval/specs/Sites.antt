@@ -1,5 +1,5 @@
 -- What renders are made from, and effects in their places of a graph.
-use Rattle.std.specs.Prelude.{◌≡◌, ℕ, ℤ, map, Bool, Option, Some, None, slice_get, if◌then◌else◌}
+use Rattle.std.specs.Prelude.{◌≡◌, ◌≤◌, ◌+◌, ℕ, ℤ, length, map, Bool, Option, Some, None, slice_get, if◌then◌else◌}
 use Rattle.fx_base.specs.Bounds.{Bounds, none}
 use Rattle.fx_pixel.specs.declared.Components.{Components}
 use Rattle.fx_pixel.specs.declared.Components.TheVariants as components
@@ -7,22 +7,17 @@ use Rattle.fx_image.specs.Stored.{Stored}
 use Rattle.fx_effect.specs.Given.{Given}
 use Rattle.fx_effect.specs.Meaning.{Meaning}
 use Rattle.fx_effect.specs.declared.values.Values.{Values}
+use Rattle.fx_gate.specs.Gates.{GateSeatState}
 use Rattle.fx_graph.specs.Kept.{use_values}
 use Rattle.fx_graph.specs.Shown.{Does, Shown, GraphShown}
 use Rattle.fx_graph.specs.Shown as does
-use Rattle.fx_life.specs.Seats.{Lives, Used, used_by, Plays}
+use Rattle.fx_life.specs.Seats.{HasLife}
 use Rattle.fx_scene.specs.Nodes.{Nodes, AreNodes}
 use Rattle.fx_scene.specs.Reach.{IsNearFrame}
 use Rattle.fx_scene.specs.Nodes as nodes
 use Rattle.fx_scene.specs.Scenes.{graph_shown, graph_nodes, images_in, effect_node}
 use Rattle.fx_eval.specs.declared.site.Site.{Site}
 use Rattle.fx_eval.specs.declared.site.EffectNode.{EffectNode}
-
--- each node of the graph that uses an effect has its instance, of the plug-in of that effect, in a sequence
-abbrev pub HasLife : {E : Type 0} → (E → ℕ) → GraphShown E → Lives E → Type 0
-HasLife {E} number g life =
-    (k : ℕ) (node : Shown E) (used : Used E) → slice_get g.nodes k ≡ Some node → used_by node.does ≡ Some used
-    → Plays number life k used.effect
 
 -- ---- a site
 
@@ -34,6 +29,12 @@ pub record IsSite {E : Type 0} {c e : _} (meaning : E → Meaning) (number : E �
   pub scene : site.scene.now.graph ≡ graph_shown site.graph.now
   pub nodes : AreNodes (site_nodes meaning site)
   pub life : HasLife number (graph_shown site.graph.now) site.life.now
+  pub gates : 64 + length (graph_shown site.graph.now).nodes ≤ site.gates.now.gates
+
+-- the seat is of the row of the site's gates, and holds none of them
+pub record IsFree {E : Type 0} {c e : _} (site : Site E c e) (seat : GateSeatState) : Type 0 where
+  pub row : seat.row ≡ site.gates.now
+  pub turn : seat.turn ≡ None
 
 -- ---- an effect in its place
 

@@ -1,4 +1,5 @@
--- The effect of the tests: of each pixel of its one clip, r and g of the frame before and b and a of its own.
+-- The effect of the tests, of which an instance renders once at a time: of each pixel of its one clip, r and g of the
+-- frame before and b and a of its own.
 use Rattle.std.specs.Prelude.{◌≡◌, ◌<◌, ℕ, ℤ, pos, ◌≤ℤ◌, ◌+ℤ◌, ◌-ℤ◌, Bool, true, List, [], ◌∷◌, codes, length, refl}
 use Rattle.std.specs.List.{AllZip, Contains}
 use Rattle.std.proofs.Common.{zero, suc, ap, sym, subst, arith, ◌∙◌}
@@ -22,13 +23,13 @@ use Rattle.fx_effect.specs.Laws.{Laws, IsNearSpan}
 use Rattle.fx_effect.specs.DefaultLaws.{flag_for_each, region_near, region_is_rect}
 use Rattle.fx_effect.specs.Local.{Read, IsRead, local_laws}
 use Rattle.fx_effect.specs.declared.action.Identity.TheVariants.{No}
-use Rattle.fx_effect.specs.declared.action.Safety.TheVariants.{FullySafe}
+use Rattle.fx_effect.specs.declared.action.Safety.TheVariants.{InstanceSafe}
 use Rattle.fx_effect.specs.declared.values.Values.{Values}
 
 abbrev pub toy_shape : Shape
 toy_shape =
     source_shape (codes "joined") (depths.Byte ∷ depths.Short ∷ []) (components.Rgba ∷ components.Alpha ∷ []) true
-    FullySafe []
+    InstanceSafe []
 
 -- the frame before
 abbrev pub before : Values → ℤ

@@ -1,5 +1,5 @@
 //! The picture of a frame.
-ghost use Rattle.std.specs.Prelude.{◌≡◌, ◌∷◌, [], ◌≤ℤ◌, ℤ, pos, neg_ℤ, IfOk, OnOk, OnErr};
+ghost use Rattle.std.specs.Prelude.{◌≡◌, ◌+◌, ◌∷◌, [], ◌≤◌, ◌≤ℤ◌, ℤ, pos, neg_ℤ, length, None, IfOk, OnOk, OnErr};
 ghost use Rattle.fx_base.specs.declared.limits.TheConstants.{LAST_FRAME};
 ghost use Rattle.fx_pam.specs.Laws.{components_for};
 ghost use Rattle.fx_image.specs.Image.{SameImage};
@@ -7,9 +7,10 @@ ghost use Rattle.fx_image.specs.Stored.{image_of};
 ghost use Rattle.fx_effect.specs.Shape.{IsProject};
 ghost use Rattle.fx_effect.specs.Given.{row_pixel};
 ghost use Rattle.fx_scene.specs.Scenes.{graph_nodes, graph_shown, images_in, picture};
-ghost use Rattle.fx_eval.specs.Sites.{HasLife, IsSite, site_nodes};
+ghost use Rattle.fx_life.specs.Filled.{IsFilled};
+ghost use Rattle.fx_life.specs.Seats.{HasLife};
+ghost use Rattle.fx_eval.specs.Sites.{IsSite, site_nodes};
 ghost use Rattle.fx_eval.specs.Wholes.{AreWhole, IsMade};
-ghost use Rattle.fx_eval.specs.Filled.{IsFilled};
 ghost use Rattle.fx_eval.specs.Flights.{IsIdle, Drops};
 ghost use Rattle.fx_eval.specs.Renders.{HasRendered};
 
@@ -20,45 +21,58 @@ use crate::whole::{Whole, wholes};
 use fx_base::{Memory, Rect};
 use fx_core::Core;
 use fx_effect::{Catalogue, Inputs};
+use fx_gate::{GateSeat, Gates};
 use fx_image::Image;
 use fx_life::Life;
 use fx_pixel::{Components, Depth, Format};
 use fx_scene::{Key, Moment, Scene, reach};
 use std::alloc::Global;
 use std::collections::BTreeMap;
+use std::sync::Wait;
 
 /// The picture of a frame: the value of the output's node over the project's extent, at the project's depth,
 /// with Alpha for grey files and RGBA for all others. The life is that of a graph of these nodes. Each node is
 /// rendered by its own instance, once at each frame at which the output reads it, over its region of definition
 /// in pieces of at most 4,096 by 4,096 pixels, each under the ticket of a flight that the core lends. The core keeps
 /// nothing, and nothing flies in it before and after: each flight lands, or at want of memory is dropped. A core that
-/// has counted 2^62 asks is asked no more. `Memory` comes where memory is wanting.
-pub fn frame<E: Catalogue + Drop>(
+/// has counted 2^62 asks is asked no more. Each render holds the gate of its node, the one that `Life::gate_of` tells,
+/// and no other: what it reads is made before it waits for the gate. The seat is of the row of these gates, of which
+/// there is one for each plug-in and each node, and holds none of them before and after. `Memory` comes where memory
+/// is wanting.
+pub fn frame<R: Wait, E: Catalogue + Drop>(
+    rt: &R,
     alloc: Global,
     scene: &Scene<E>,
     life: &Life<E>,
     core: &mut Core<Key, Image>,
+    gates: &Gates,
+    seat: &mut GateSeat,
     frame: i64,
 ) -> Result<Image, Memory>
     requires life { HasLife E.number_of scene.now.graph life.now }
     requires idle { IsIdle core.old }
     requires low { neg_ℤ (pos LAST_FRAME) ≤ℤ frame }
     requires high { frame ≤ℤ pos LAST_FRAME }
+    requires row { seat.old.row ≡ gates.now }
+    requires free { seat.old.turn ≡ None }
+    requires gates { 64 + length scene.now.graph.nodes ≤ gates.now.gates }
     ensures picture { let picture = picture E.meaning scene.now.graph (images_in scene.now.store) frame in
         IfOk result (λ image. SameImage (image_of image) picture) }
     ensures renders { let g = scene.now.graph in let nodes = graph_nodes E.meaning g (images_in scene.now.store) in
         OnOk result (HasRendered nodes g.output frame core.old core.new) }
     ensures drops { OnErr result (Drops core.old core.new) }
     ensures idle { IsIdle core.new }
+    ensures seat { seat.new ≡ seat.old }
 {
     let site = Site {
         scene,
         graph: scene.graph(),
         store: scene.store(),
         life,
+        gates,
     };
     let moments = reach(alloc, site.graph, frame, frame)?;
-    let made = wholes(alloc, &site, core, &moments)?;
+    let made = wholes(rt, alloc, &site, core, seat, &moments)?;
     let mut image = blank(
         alloc,
         site.graph.project,

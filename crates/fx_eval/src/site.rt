@@ -8,6 +8,7 @@ ghost use Rattle.fx_eval.specs.Sites.{image_shown, seen_in};
 
 use fx_base::{Memory, Names};
 use fx_effect::{Catalogue, Context, Flags};
+use fx_gate::Gates;
 use fx_graph::Graph;
 use fx_image::Image;
 use fx_life::Life;
@@ -17,14 +18,15 @@ use fx_scene::{Scene, shown_frame};
 use fx_seq::Store;
 use std::alloc::Global;
 
-/// A scene, its graph and the frames of its sources that were fetched, and the instances that render the
-/// graph's effects.
+/// A scene, its graph and the frames of its sources that were fetched, the instances that render the graph's
+/// effects, and the gates that renders hold.
 #[derive(Drop)]
 pub(crate) struct Site<'a, E: Catalogue> {
     pub scene: &'a Scene<E>,
     pub graph: &'a Graph<E>,
     pub store: &'a Store,
     pub life: &'a Life<E>,
+    pub gates: &'a Gates,
 }
 
 /// An effect in its place of a graph, with the depth and components of its pixels.

@@ -1,11 +1,12 @@
 //! Pictures that are worked by hand.
-ghost use Rattle.std.specs.Prelude.{◌≡◌, ◌≤◌, [], ◌∷◌, IfOk};
+ghost use Rattle.std.specs.Prelude.{◌≡◌, ◌≤◌, ◌+◌, [], ◌∷◌, length, None, IfOk};
 ghost use Rattle.fx_eval.specs.Flights.{IsIdle};
 
 use crate::frame;
 use crate::toy::Toy;
 use fx_base::{Memory, Name};
 use fx_core::{Core, Permit, Totals};
+use fx_gate::{GateSeat, Gates};
 use fx_graph::{Graph, accept};
 use fx_image::Image;
 use fx_life::Life;
@@ -15,6 +16,7 @@ use fx_scene::{Key, Scene, wants};
 use fx_seq::Store;
 use fx_text::{GraphFault, read_graph};
 use std::alloc::{AllocError, Global};
+use std::sync::Wait;
 use std::test::Fail;
 
 // A source of the frames 3 to 5, black or held outside of them, under two effects, or alone.
@@ -174,7 +176,8 @@ fn toys(alloc: Global) -> Result<Vec<Toy>, Memory>
 }
 
 // The picture of a frame, over frames of this width, and what the core counted.
-fn picture_of(
+fn picture_of<R: Wait>(
+    rt: &R,
     alloc: Global,
     graph: Graph<Toy>,
     width: u32,
@@ -185,8 +188,10 @@ fn picture_of(
     let store = store_of(alloc, &graph, width, at)?;
     let (scene, permit) = Scene::new(graph, store, 7);
     let mut core = empty_core(alloc, permit)?;
+    let (gates, mut seat) = gates_for(alloc, scene.graph())?;
     let life = Life::start(alloc, scene.graph(), toys(alloc)?, 0, 9)?;
-    let picture = frame(alloc, &scene, &life, &mut core, i64::from(at));
+    let at = i64::from(at);
+    let picture = frame(rt, alloc, &scene, &life, &mut core, &gates, &mut seat, at);
     life.finish();
     let (_, totals) = core.finish();
     Ok((picture?, totals))
@@ -200,6 +205,14 @@ fn empty_core(alloc: Global, permit: Permit) -> Result<Core<Key, Image>, Memory>
         Ok(core) => Ok(core),
         Err((_, memory)) => Err(memory),
     }
+}
+
+// A gate for each plug-in and each node.
+fn gates_for(alloc: Global, graph: &Graph<Toy>) -> Result<(Gates, GateSeat), Memory>
+    ensures gates { IfOk result (λ r. r.0.gates ≡ 64 + length graph.now.nodes.items) }
+    ensures seat { IfOk result (λ r. (r.1.row ≡ r.0) × (r.1.turn ≡ None)) }
+{
+    Gates::new(alloc, 64 + graph.nodes.len() as u32)
 }
 
 // Each render had a flight, which landed.
@@ -240,7 +253,7 @@ fn pictures_show_the_output(rt: HostRuntime) -> Result<(), Fail> {
         let graph = graph_of(alloc, 2, depth, format, source, effects)
             .ok()
             .ok_or("refused")?;
-        let (picture, totals) = picture_of(alloc, graph, 1, (*at).min(9))?;
+        let (picture, totals) = picture_of(&rt, alloc, graph, 1, (*at).min(9))?;
         assert_eq!(rt; told(alloc, &picture, &[0, 1])?.as_str(), *expected);
         assert_eq!(rt; totals, counted(*renders));
     }
@@ -253,7 +266,7 @@ fn a_wide_region_is_made_in_pieces(rt: HostRuntime) -> Result<(), Fail> {
     let graph = graph_of(alloc, 4100, "byte", "RGB", BLACK, TWICE)
         .ok()
         .ok_or("refused")?;
-    let (picture, totals) = picture_of(alloc, graph, 4100, 5)?;
+    let (picture, totals) = picture_of(&rt, alloc, graph, 4100, 5)?;
     let expected = "16400 bytes: 3 0 0 105, 3 255 0 105, 3 255 15 105, 3 0 16 105, 3 3 16 105, ";
     let columns = [0, 255, 4095, 4096, 4099];
     assert_eq!(rt; told(alloc, &picture, &columns)?.as_str(), expected);

@@ -17,7 +17,7 @@ use fx_pixel::{Components, Depth, Pixel};
 use fx_props::{PropSet, write_frames};
 use std::alloc::Global;
 
-/// Of each pixel of its clip Source, r and g of the frame before and b and a of its own.
+/// Of each pixel of its clip Source, r and g of the frame before and b and a of its own. Each node has a gate.
 #[derive(Clone, Copy, Drop)]
 pub struct Toy;
 
@@ -33,7 +33,7 @@ impl ImageEffect for Toy {
             depths: &[Depth::Byte, Depth::Short],
             temporal: true,
             tiles: true,
-            safety: Safety::FullySafe,
+            safety: Safety::InstanceSafe,
         };
         description.write(alloc, descriptor)?;
         Ok(Reply::Ok)
@@ -138,7 +138,7 @@ impl Catalogue for Toy {
     }
 
     fn safety(&self) -> Safety {
-        Safety::FullySafe
+        Safety::InstanceSafe
     }
 }
 

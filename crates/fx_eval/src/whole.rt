@@ -4,7 +4,7 @@ ghost use Rattle.std.specs.Arc.{arc_value};
 ghost use Rattle.std.specs.BTreeSet.{IsOrdered};
 ghost use Rattle.fx_effect.specs.Asked.{IsWindow};
 ghost use Rattle.fx_scene.specs.Reach.{IsNearFrame, IsPlace, moment_cmp};
-ghost use Rattle.fx_eval.specs.Sites.{IsSite, IsAsked, StandsIn, effect_at, site_nodes, area_shown, image_shown};
+ghost use Rattle.fx_eval.specs.Sites.{IsSite, IsAsked, IsFree, StandsIn, effect_at, site_nodes, area_shown, image_shown};
 ghost use Rattle.fx_eval.specs.Wholes.{AreWhole, IsOrder, IsReady, IsWhole, KeepsUnread};
 ghost use Rattle.fx_eval.specs.Readers.{Makes};
 ghost use Rattle.fx_eval.specs.Filled.{AreWindows};
@@ -25,13 +25,14 @@ use fx_actions::region_of_definition;
 use fx_base::{Memory, Rect};
 use fx_core::Core;
 use fx_effect::{Catalogue, Inputs, Values};
+use fx_gate::GateSeat;
 use fx_graph::Work;
 use fx_image::Image;
 use fx_scene::{Key, Moment, frames_read, reads_of, use_values};
 use fx_seq::Store;
 use std::alloc::Global;
 use std::collections::{BTreeMap, BTreeSet};
-use std::sync::Arc;
+use std::sync::{Arc, Wait};
 
 /// What is made of a node at a frame: its region of definition, and for an effect images that together have
 /// it. A source has none, since its frame is held by the store.
@@ -43,14 +44,17 @@ pub(crate) struct Whole {
 
 /// Makes each of these nodes at frames in their order, so that what one reads is made before it. Each is let go
 /// when the last that reads it is made: so of those that are read as few are kept as that order allows.
-pub(crate) fn wholes<E: Catalogue + Drop>(
+pub(crate) fn wholes<R: Wait, E: Catalogue + Drop>(
+    rt: &R,
     alloc: Global,
     site: &Site<'_, E>,
     core: &mut Core<Key, Image>,
+    seat: &mut GateSeat,
     moments: &BTreeSet<Moment>,
 ) -> Result<BTreeMap<Moment, Whole>, Memory>
     requires site { IsSite E.meaning E.number_of site.now }
     requires idle { IsIdle core.old }
+    requires free { IsFree site.now seat.old }
     requires order { IsOrder (site_nodes E.meaning site.now) (length site.now.graph.now.nodes.items) moments.now }
     ensures whole { IfOk result (AreWhole (site_nodes E.meaning site.now)) }
     ensures kept { IfOk result (KeepsUnread (site_nodes E.meaning site.now) moments.now) }
@@ -58,20 +62,23 @@ pub(crate) fn wholes<E: Catalogue + Drop>(
         OnOk result (core.new ≡ after_renders core.old (renders_of nodes moments.now.keys)) }
     ensures once { OnOk result (IsOrdered moment_cmp moments.now) }
     ensures drops { OnErr result (Drops core.old core.new) }
+    ensures seat { seat.new ≡ seat.old }
 {
     let last = last_readers(alloc, site.graph, moments)?;
     let mut made = BTreeMap::new(alloc);
     for moment in moments {
-        make(alloc, site, core, &last, *moment, &mut made)?;
+        make(rt, alloc, site, core, seat, &last, *moment, &mut made)?;
     }
     Ok(made)
 }
 
 // Makes a node at a frame, and lets go what it reads as the last.
-fn make<E: Catalogue + Drop>(
+fn make<R: Wait, E: Catalogue + Drop>(
+    rt: &R,
     alloc: Global,
     site: &Site<'_, E>,
     core: &mut Core<Key, Image>,
+    seat: &mut GateSeat,
     last: &BTreeMap<Moment, Moment>,
     moment: Moment,
     made: &mut BTreeMap<Moment, Whole>,
@@ -81,23 +88,27 @@ fn make<E: Catalogue + Drop>(
     requires whole { AreWhole (site_nodes E.meaning site.now) made.old }
     requires ready { IsReady (site_nodes E.meaning site.now moment.node) moment.frame made.old }
     requires idle { IsIdle core.old }
+    requires free { IsFree site.now seat.old }
     ensures whole { OnOk result (AreWhole (site_nodes E.meaning site.now) made.new) }
     ensures makes { OnOk result (Makes last.now moment made.old made.new) }
     ensures lands { let nodes = site_nodes E.meaning site.now in
         OnOk result (core.new ≡ after_renders core.old (renders_at nodes moment.node moment.frame)) }
     ensures drops { OnErr result (Drops core.old core.new) }
+    ensures seat { seat.new ≡ seat.old }
 {
-    let whole = whole_of(alloc, site, core, made, moment)?;
+    let whole = whole_of(rt, alloc, site, core, seat, made, moment)?;
     made.insert(moment, whole)?;
     let reads = reads_of(alloc, site.graph, moment)?;
     let_go(&reads, moment, last, made);
     Ok(())
 }
 
-fn whole_of<E: Catalogue + Drop>(
+fn whole_of<R: Wait, E: Catalogue + Drop>(
+    rt: &R,
     alloc: Global,
     site: &Site<'_, E>,
     core: &mut Core<Key, Image>,
+    seat: &mut GateSeat,
     made: &BTreeMap<Moment, Whole>,
     moment: Moment,
 ) -> Result<Whole, Memory>
@@ -106,10 +117,12 @@ fn whole_of<E: Catalogue + Drop>(
     requires whole { AreWhole (site_nodes E.meaning site.now) made.now }
     requires ready { IsReady (site_nodes E.meaning site.now moment.node) moment.frame made.now }
     requires idle { IsIdle core.old }
+    requires free { IsFree site.now seat.old }
     ensures whole { IfOk result (IsWhole (site_nodes E.meaning site.now) moment.node moment.frame) }
     ensures lands { let nodes = site_nodes E.meaning site.now in
         OnOk result (core.new ≡ after_renders core.old (renders_at nodes moment.node moment.frame)) }
     ensures drops { OnErr result (Drops core.old core.new) }
+    ensures seat { seat.new ≡ seat.old }
 {
     let Moment { node: n, frame } = moment;
     let node = &site.graph.nodes[n as usize];
@@ -144,7 +157,7 @@ fn whole_of<E: Catalogue + Drop>(
                 masks,
                 params: params.as_slice(),
             };
-            effect_whole(alloc, site, core, made, &used, frame)
+            effect_whole(rt, alloc, site, core, seat, made, &used, frame)
         }
     }
 }
@@ -160,10 +173,12 @@ fn area_shown(store: &Store, n: u32, first: u32, last: u32, hold: bool, frame: i
     }
 }
 
-fn effect_whole<E: Catalogue + Drop>(
+fn effect_whole<R: Wait, E: Catalogue + Drop>(
+    rt: &R,
     alloc: Global,
     site: &Site<'_, E>,
     core: &mut Core<Key, Image>,
+    seat: &mut GateSeat,
     made: &BTreeMap<Moment, Whole>,
     node: &EffectNode<'_, E>,
     frame: i64,
@@ -174,10 +189,12 @@ fn effect_whole<E: Catalogue + Drop>(
     requires whole { AreWhole (site_nodes E.meaning site.now) made.now }
     requires ready { IsReady (Effect (effect_at E.meaning site.now.graph.now.project node.now)) frame made.now }
     requires idle { IsIdle core.old }
+    requires free { IsFree site.now seat.old }
     ensures whole { IfOk result (IsWhole (site_nodes E.meaning site.now) node.now.place frame) }
     ensures lands { let nodes = site_nodes E.meaning site.now in
         OnOk result (core.new ≡ after_renders core.old (renders_at nodes node.now.place frame)) }
     ensures drops { OnErr result (Drops core.old core.new) }
+    ensures seat { seat.new ≡ seat.old }
 {
     let project = site.graph.project;
     let values = use_values(alloc, project, node.clips, node.params, frame)?;
@@ -193,15 +210,17 @@ fn effect_whole<E: Catalogue + Drop>(
         areas.as_slice(),
     )?;
     let inputs = inputs_of(alloc, site, made, node, frame, frames)?;
-    let images = images_of(alloc, site, core, node, area, &values, &inputs)?;
+    let images = images_of(rt, alloc, site, core, seat, node, area, &values, &inputs)?;
     Ok(Whole { area, images })
 }
 
 // Images that together are a region of a node.
-fn images_of<E: Catalogue + Drop>(
+fn images_of<R: Wait, E: Catalogue + Drop>(
+    rt: &R,
     alloc: Global,
     site: &Site<'_, E>,
     core: &mut Core<Key, Image>,
+    seat: &mut GateSeat,
     node: &EffectNode<'_, E>,
     area: Rect,
     values: &Values,
@@ -210,16 +229,18 @@ fn images_of<E: Catalogue + Drop>(
     requires asked { IsAsked E.meaning E.number_of site.now node.now values.now inputs.now }
     requires area { IsWindow area }
     requires idle { IsIdle core.old }
+    requires free { IsFree site.now seat.old }
     ensures windows { let m = E.meaning node.now.effect.now in let depth = node.now.depth in
         IfOk result (λ images.
         AreWindows m values.now inputs.now depth node.now.components area (map arc_value images.items)) }
     ensures lands { OnOk result (core.new ≡ after_renders core.old (pieces area)) }
     ensures drops { OnErr result (Drops core.old core.new) }
+    ensures seat { seat.new ≡ seat.old }
 {
     let cuts = cut(alloc, area)?;
     let mut images = Vec::new(alloc);
     for region in &cuts {
-        let image = window_of(alloc, site, core, node, *region, values, inputs)?;
+        let image = window_of(rt, alloc, site, core, seat, node, *region, values, inputs)?;
         images.push(image)?;
     }
     Ok(images)

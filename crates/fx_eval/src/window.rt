@@ -3,32 +3,34 @@ ghost use Rattle.std.specs.Prelude.{◌≡◌, ◌≤◌, ◌*◌, ◌∷◌, []
 ghost use Rattle.std.specs.Arc.{arc_value};
 ghost use Rattle.fx_base.specs.Rect.{IsNear, columns};
 ghost use Rattle.fx_image.specs.Stored.{pixel_size};
-ghost use Rattle.fx_eval.specs.Sites.{IsAsked};
+ghost use Rattle.fx_eval.specs.Sites.{IsAsked, IsFree};
 ghost use Rattle.fx_eval.specs.Cuts.{IsCut};
 ghost use Rattle.fx_eval.specs.Filled.{IsWindowOf};
 ghost use Rattle.fx_eval.specs.Flights.{IsIdle, FliesAlone, Drops, after_renders, one_landed, one_dropped};
 
-use crate::render::render_whole;
 use crate::site::{EffectNode, Site};
 use fx_base::{Memory, Rect};
 use fx_core::{Answer, Core, Flight, Ticket};
 use fx_effect::{Catalogue, Inputs, Values};
+use fx_gate::GateSeat;
 use fx_image::Image;
 use fx_pixel::{Components, Depth};
 use fx_scene::Key;
 use std::alloc::Global;
-use std::sync::Arc;
+use std::sync::{Arc, Wait};
 
 /// The most asks that a core counts.
 pub(crate) const MOST_ASKS: u64 = 1 << 62;
 
-/// A window of a node in an image of its own, rendered under the ticket of a flight of its key. The flight
-/// lands, or at want of memory is dropped. A core that has counted all its asks is asked no more, and the ticket
-/// is then one of no flight.
-pub(crate) fn window_of<E: Catalogue + Drop>(
+/// A window of a node in an image of its own, rendered under the ticket of a flight of its key and under a hold of
+/// the node's gate. The flight lands, or at want of memory is dropped. A core that has counted all its asks is asked
+/// no more, and the ticket is then one of no flight.
+pub(crate) fn window_of<R: Wait, E: Catalogue + Drop>(
+    rt: &R,
     alloc: Global,
     site: &Site<'_, E>,
     core: &mut Core<Key, Image>,
+    seat: &mut GateSeat,
     node: &EffectNode<'_, E>,
     region: Rect,
     values: &Values,
@@ -36,18 +38,22 @@ pub(crate) fn window_of<E: Catalogue + Drop>(
 ) -> Result<Arc<Image>, Memory>
     requires asked { IsAsked E.meaning E.number_of site.now node.now values.now inputs.now }
     requires region { IsCut region }
+    requires free { IsFree site.now seat.old }
     requires idle { IsIdle core.old }
     ensures window { let m = E.meaning node.now.effect.now in let c = node.now.components in
         IfOk result (λ image. IsWindowOf m values.now inputs.now node.now.depth c region (arc_value image)) }
     ensures lands { OnOk result (core.new ≡ after_renders core.old 1) }
     ensures drops { OnErr result (Drops core.old core.new) }
+    ensures seat { seat.new ≡ seat.old }
 {
     if core.totals().asks >= MOST_ASKS {
-        return unasked(alloc, site, node, region, values, inputs);
+        return unasked(rt, alloc, site, seat, node, region, values, inputs);
     }
     let key = site.scene.key(alloc, node.place, values.frame, region)?;
     match core.ask(alloc, key)? {
-        Answer::Fly(flight) => flown(alloc, site, core, node, region, values, inputs, flight),
+        Answer::Fly(flight) => flown(
+            rt, alloc, site, core, seat, node, region, values, inputs, flight,
+        ),
         // Nothing is kept.
         Answer::Here(_) => unreachable!(),
         // Nothing else flies.
@@ -56,9 +62,11 @@ pub(crate) fn window_of<E: Catalogue + Drop>(
 }
 
 // The window, made under a ticket of no flight.
-fn unasked<E: Catalogue + Drop>(
+fn unasked<R: Wait, E: Catalogue + Drop>(
+    rt: &R,
     alloc: Global,
     site: &Site<'_, E>,
+    seat: &mut GateSeat,
     node: &EffectNode<'_, E>,
     region: Rect,
     values: &Values,
@@ -66,15 +74,27 @@ fn unasked<E: Catalogue + Drop>(
 ) -> Result<Arc<Image>, Memory>
     requires asked { IsAsked E.meaning E.number_of site.now node.now values.now inputs.now }
     requires region { IsCut region }
-    ensures { let m = E.meaning node.now.effect.now in let c = node.now.components in
+    requires free { IsFree site.now seat.old }
+    ensures window { let m = E.meaning node.now.effect.now in let c = node.now.components in
         IfOk result (λ image. IsWindowOf m values.now inputs.now node.now.depth c region (arc_value image)) }
+    ensures seat { seat.new ≡ seat.old }
 {
     let mut ticket = Ticket {
         scene: site.scene.number(),
         number: 0,
         stamped: false,
     };
-    let window = made(alloc, site, node, region, values, inputs, &mut ticket);
+    let window = made(
+        rt,
+        alloc,
+        site,
+        seat,
+        node,
+        region,
+        values,
+        inputs,
+        &mut ticket,
+    );
     let Ticket {
         scene: _,
         number: _,
@@ -84,10 +104,12 @@ fn unasked<E: Catalogue + Drop>(
 }
 
 // The window, made under a flight.
-fn flown<E: Catalogue + Drop>(
+fn flown<R: Wait, E: Catalogue + Drop>(
+    rt: &R,
     alloc: Global,
     site: &Site<'_, E>,
     core: &mut Core<Key, Image>,
+    seat: &mut GateSeat,
     node: &EffectNode<'_, E>,
     region: Rect,
     values: &Values,
@@ -96,16 +118,20 @@ fn flown<E: Catalogue + Drop>(
 ) -> Result<Arc<Image>, Memory>
     requires asked { IsAsked E.meaning E.number_of site.now node.now values.now inputs.now }
     requires region { IsCut region }
+    requires free { IsFree site.now seat.old }
     requires alone { FliesAlone core.old flight }
     ensures window { let m = E.meaning node.now.effect.now in let c = node.now.components in
         IfOk result (λ image. IsWindowOf m values.now inputs.now node.now.depth c region (arc_value image)) }
     ensures lands { OnOk result (core.new ≡ one_landed core.old) }
     ensures drops { OnErr result (core.new ≡ one_dropped core.old) }
+    ensures seat { seat.new ≡ seat.old }
 {
     let mut flight = flight;
     match made(
+        rt,
         alloc,
         site,
+        seat,
         node,
         region,
         values,
@@ -147,9 +173,11 @@ fn landed(
 }
 
 // The window, rendered under this ticket.
-fn made<E: Catalogue + Drop>(
+fn made<R: Wait, E: Catalogue + Drop>(
+    rt: &R,
     alloc: Global,
     site: &Site<'_, E>,
+    seat: &mut GateSeat,
     node: &EffectNode<'_, E>,
     region: Rect,
     values: &Values,
@@ -158,15 +186,17 @@ fn made<E: Catalogue + Drop>(
 ) -> Result<Arc<Image>, Memory>
     requires asked { IsAsked E.meaning E.number_of site.now node.now values.now inputs.now }
     requires region { IsCut region }
+    requires free { IsFree site.now seat.old }
     ensures window { let m = E.meaning node.now.effect.now in let c = node.now.components in
         IfOk result (λ image. IsWindowOf m values.now inputs.now node.now.depth c region (arc_value image)) }
     ensures number { ticket.new.number ≡ ticket.old.number }
     ensures stamped { OnOk result (IsTrue ticket.new.stamped) }
+    ensures seat { seat.new ≡ seat.old }
 {
     let row_bytes = row_bytes_of(region, node.depth, node.components);
     let mut image = Image::new(alloc, region, node.depth, node.components, row_bytes)?;
-    render_whole(
-        alloc, site.life, node.place, values, inputs, ticket, &mut image,
+    site.life.render_image(
+        rt, alloc, site.gates, seat, node.place, values, inputs, ticket, &mut image,
     )?;
     Ok(Arc::new(alloc, image)?)
 }

@@ -1,4 +1,4 @@
-use Rattle.std.proofs.Common.{sym, subst, w64, to_z, of_z, length, arith}
+use Rattle.std.proofs.Common.{◌≤◌, ◌+◌, sym, subst, w64, to_z, of_z, length, arith}
 use Rattle.std.proofs.lemmas.Int.{to_z-of_z, ints}
 use Rattle.std.proofs.lemmas.List.{length-map}
 use mir.Val.{SFits}
@@ -10,8 +10,9 @@ use Rattle.fx_scene.specs.Scenes.{graph_nodes, graph_shown, images_in, no_images
 use Rattle.fx_scene.proofs.NodesLemmas.{are_nodes}
 use Rattle.fx_scene.proofs.StoreLemmas.{store_images}
 use Rattle.fx_scene.specs.Reach.{has}
-use Rattle.fx_eval.specs.Sites.{HasLife}
+use Rattle.fx_life.specs.Seats.{HasLife}
 use Rattle.fx_eval.specs.Renders.{HasRendered}
+use Rattle.fx_eval.proofs.FlightLemmas.{drops_none, on_err}
 use Rattle.fx_eval.proofs.OrderLemmas.{reach_order, reads_same, unread_output}
 use Rattle.fx_eval.proofs.RenderLemmas.{reach_same}
 use Rattle.fx_eval.proofs.picture.frame.Goals as goal
@@ -29,7 +30,11 @@ wholes-requires-clause-site g c =
       nodes = are_nodes m graph.project (graph.depth, graph.components) (graph_shown graph).nodes (images_in store) bound.laws graph.extent (omega (arith, few, long))
           (store_images store store.sound) graph.kept;
       life = subst (λ (s : GraphShown _). HasLife g.E.Catalogue.number_of s c.args.life.now) (sym c.graph.ensures.shown) c.requires.life;
+      gates = subst (λ (s : GraphShown _). 64 + length s.nodes ≤ c.args.gates.now.gates) (sym c.graph.ensures.shown) c.requires.gates;
     }
+
+pub wholes-requires-clause-free : goal.wholes-requires-clause-free
+wholes-requires-clause-free g c = record { row = c.requires.row; turn = c.requires.free }
 
 pub wholes-requires-clause-order : goal.wholes-requires-clause-order
 wholes-requires-clause-order g c =
@@ -55,6 +60,7 @@ show-requires-clause-site g c =
       nodes = are_nodes m graph.project (graph.depth, graph.components) (graph_shown graph).nodes (images_in store) bound.laws graph.extent (omega (arith, few, long))
           (store_images store store.sound) graph.kept;
       life = subst (λ (s : GraphShown _). HasLife g.E.Catalogue.number_of s c.args.life.now) (sym c.graph.ensures.shown) c.requires.life;
+      gates = subst (λ (s : GraphShown _). 64 + length s.nodes ≤ c.args.gates.now.gates) (sym c.graph.ensures.shown) c.requires.gates;
     }
 
 pub show-requires-clause-made : goal.show-requires-clause-made
@@ -69,6 +75,9 @@ show-requires-clause-made g c =
     c.in_ok-made.ensures.kept graph.output t (least.all graph.output t (λ s closed. closed.start t (omega (arith, ints)) (omega (arith, ints))))
     (λ n u there r. unread_output (graph_nodes m shown no_images) (graph_nodes m shown (images_in c.store.result.now)) graph.output t t moments
     site.nodes (λ k v j f. reads_same m shown no_images (images_in c.store.result.now) k v j f) least n u there t r)
+
+pub returns-in_err-moments-clause-drops : goal.returns-in_err-moments-clause-drops
+returns-in_err-moments-clause-drops g c = on_err c.from_residual.result (drops_none c.args.core.now)
 
 pub returns-clause-picture : goal.returns-clause-picture
 returns-clause-picture g c =

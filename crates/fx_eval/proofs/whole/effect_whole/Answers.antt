@@ -1,8 +1,9 @@
-use Rattle.std.proofs.Common.{rules, ◌∙◌, ap, sym, subst, w64, ℤ, List, map}
-use Rattle.std.proofs.lemmas.Int.{to_z-of_z}
+use Rattle.std.proofs.Common.{rules, ◌∙◌, ap, sym, subst, w64, ℤ, List, map, arith}
+use Rattle.std.proofs.lemmas.Int.{to_z-of_z, ints}
 use Rattle.std.specs.Arc.{arc_value}
 use mir.Val.{SFits}
 use Rattle.fx_base.specs.Bounds.{Bounds}
+use Rattle.fx_base.specs.Rect.{IsFrame}
 use Rattle.fx_effect.specs.Asked.{AreRegions, IsWindow}
 use Rattle.fx_effect.specs.Shape.{IsLawfulIn}
 use Rattle.fx_effect.specs.declared.values.Values.{Values}
@@ -28,6 +29,13 @@ frames_read-requires-clause-names g c =
     let fits : SFits w64 c.args.frame = c.ranges.frame in
     let values = simp to_z-of_z at c.in_ok-values.ensures in
     has_names g.E.ImageEffect.meaning (graph_shown graph) (graph.depth, graph.components) graph.kept graph.extent c.args.node.now c.requires.there c.args.frame c.in_ok-values.values values
+
+pub frames_read-requires-clause-frame : goal.frames_read-requires-clause-frame
+frames_read-requires-clause-frame g c =
+    let fits : SFits w64 c.args.frame = c.ranges.frame in
+    let values = simp to_z-of_z at c.in_ok-values.ensures in
+    let low = c.requires.near.low in let high = c.requires.near.high in
+    subst IsFrame (sym (ap (λ (v : Values). v.frame) values)) (omega (arith, ints), omega (arith, ints))
 
 pub areas_of-requires-clause-ready : goal.areas_of-requires-clause-ready
 areas_of-requires-clause-ready g c =

@@ -3,8 +3,10 @@ use Rattle.std.proofs.lemmas.List.{length-map, take_all}
 use Rattle.std.specs.Arc.{arc_value}
 use Rattle.std.specs.List.{All}
 use Rattle.fx_base.specs.Bounds.{Bounds}
+use Rattle.fx_gate.specs.Gates.{GateSeatState}
 use Rattle.fx_image.specs.Stored.{Stored}
 use Rattle.fx_eval.specs.Cuts.{Cover, IsCut}
+use Rattle.fx_eval.specs.Sites.{IsFree}
 use Rattle.fx_eval.specs.Filled.{IsWindowOf}
 use Rattle.fx_eval.specs.Flights.{after_renders}
 use Rattle.fx_eval.specs.Wholes.{rect_of}
@@ -25,6 +27,7 @@ loop-region-preserved g c =
           (subst (λ (r : Bounds). is_window r image) (sym window.rect) window);
       renders = renders_push c.args.core.now c.loop-region.core c.window_of.new.core c.loop-region.images.items c.push.new.self.items c.in_ok-image.image
           c.loop-region.invariant.renders c.in_ok-image.ensures.lands c.in_ok-push.ensures.items;
+      seat = c.window_of.ensures.seat ∙ c.loop-region.invariant.seat;
     }
 
 pub returns-clause-windows : goal.returns-clause-windows
@@ -47,6 +50,10 @@ returns-clause-lands g c =
 
 pub window_of-requires-clause-idle : goal.window_of-requires-clause-idle
 window_of-requires-clause-idle g c = renders_idle c.args.core.now c.loop-region.core _ c.loop-region.invariant.renders c.requires.idle
+
+pub window_of-requires-clause-free : goal.window_of-requires-clause-free
+window_of-requires-clause-free g c =
+    subst (λ (s : GateSeatState). IsFree c.args.site.now s) (sym c.loop-region.invariant.seat) c.requires.free
 
 pub returns-in_err-cuts-clause-drops : goal.returns-in_err-cuts-clause-drops
 returns-in_err-cuts-clause-drops g c = on_err c.from_residual.result (drops_none c.args.core.now)

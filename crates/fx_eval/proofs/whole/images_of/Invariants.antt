@@ -12,4 +12,5 @@ invariant-loop-region g l =
       rects : map rect_of (map arc_value l.images.items) ≡ take l.region-index l.region-items;
       each : All (λ image. IsWindowOf (g.E.ImageEffect.meaning l.node.effect.now) l.values l.inputs l.node.depth l.node.components image.rect image) (map arc_value l.images.items);
       renders : l.core ≡ after_renders l.fn.core (length l.images.items);
+      seat : l.seat ≡ l.fn.seat;
     }

@@ -1,10 +1,11 @@
-use Rattle.std.proofs.Common.{◌∙◌, sym, subst, List, length}
+use Rattle.std.proofs.Common.{◌∙◌, refl, sym, subst, List, length}
 use Rattle.std.proofs.lemmas.Map.Iter.{rest_all, rest_more}
 use Rattle.std.proofs.lemmas.Option.{none-some}
 use Rattle.std.specs.Map.Iter.{deref}
+use Rattle.fx_gate.specs.Gates.{GateSeatState}
 use Rattle.fx_scene.specs.declared.reaching.Moment.{Moment}
 use Rattle.fx_scene.specs.Scenes.{graph_shown, images_in, no_images}
-use Rattle.fx_eval.specs.Sites.{site_nodes}
+use Rattle.fx_eval.specs.Sites.{IsFree, site_nodes}
 use Rattle.fx_eval.proofs.OrderLemmas.{IsFront, front_end, front_has, front_ready, front_start, front_step}
 use Rattle.fx_eval.proofs.FlightLemmas.{on_err, drops_none}
 use Rattle.fx_eval.proofs.RenderLemmas.{IsRendering, rendering_drop, rendering_end, rendering_idle, rendering_start, rendering_step}
@@ -24,6 +25,7 @@ loop-moment-init g c =
           (front_start moments c.in_ok-last.last c.new-made.result gives.4);
       renders = subst (λ (rest : List Moment). IsRendering (site_nodes g.E.ImageEffect.meaning c.args.site.now) moments.keys rest c.args.core.now c.args.core.now) (sym gives.0)
           (rendering_start (site_nodes g.E.ImageEffect.meaning c.args.site.now) moments.keys c.args.core.now);
+      seat = refl;
     }
 
 pub make-requires-clause-place : goal.make-requires-clause-place
@@ -50,6 +52,10 @@ make-requires-clause-idle g c =
     rendering_idle (site_nodes g.E.ImageEffect.meaning c.args.site.now) c.args.moments.now.keys c.args.core.now c.loop-moment.moment-iterator c.loop-moment.core
     c.loop-moment.invariant.renders c.requires.idle
 
+pub make-requires-clause-free : goal.make-requires-clause-free
+make-requires-clause-free g c =
+    subst (λ (s : GateSeatState). IsFree c.args.site.now s) (sym c.loop-moment.invariant.seat) c.requires.free
+
 pub loop-moment-preserved : goal.loop-moment-preserved
 loop-moment-preserved g c =
     let nodes = site_nodes g.E.ImageEffect.meaning c.args.site.now in
@@ -61,6 +67,7 @@ loop-moment-preserved g c =
       front = front_step c.args.moments.now c.in_ok-last.last moment c.next.new.self c.loop-moment.made c.make.new.made front c.in_ok-make.ensures.makes;
       renders = rendering_step nodes c.args.moments.now.keys c.args.core.now moment c.next.new.self c.loop-moment.core c.make.new.core
           (subst (λ (rest : List Moment). IsRendering nodes c.args.moments.now.keys rest c.args.core.now c.loop-moment.core) step c.loop-moment.invariant.renders) c.in_ok-make.ensures.lands;
+      seat = c.make.ensures.seat ∙ c.loop-moment.invariant.seat;
     }
 
 pub returns-clause-kept : goal.returns-clause-kept

@@ -5,7 +5,7 @@ use Rattle.fx_base.specs.Rect.{rows}
 use Rattle.fx_image.specs.Stored.{Stored}
 use Rattle.fx_scene.specs.Scenes.{graph_shown, images_in}
 use Rattle.fx_eval.specs.Filled.{IsWindowOf}
-use Rattle.fx_eval.proofs.EffectLemmas.{has_instance, may_render}
+use Rattle.fx_eval.proofs.EffectLemmas.{has_gate, has_instance, is_effect, may_render}
 use Rattle.fx_eval.proofs.WholeLemmas.{filled_window}
 use Rattle.fx_eval.proofs.window.made.Goals as goal
 
@@ -16,13 +16,25 @@ new-requires-clause-small g c =
     let small : bytes ≤ 32768 = c.row_bytes_of-row_bytes.ensures.small in
     omega (arith, many, small)
 
-pub render_whole-requires-clause-frame : goal.render_whole-requires-clause-frame
-render_whole-requires-clause-frame g c =
+pub render_image-requires-clause-frame : goal.render_image-requires-clause-frame
+render_image-requires-clause-frame g c =
     let low = c.requires.asked.near.low in let high = c.requires.asked.near.high in
     (omega (arith, ints), omega (arith, ints))
 
-pub render_whole-requires-clause-may : goal.render_whole-requires-clause-may
-render_whole-requires-clause-may g c =
+pub render_image-requires-clause-gates : goal.render_image-requires-clause-gates
+render_image-requires-clause-gates g c =
+    let asked = c.requires.asked in
+    has_gate g.E.ImageEffect.meaning (graph_shown c.args.site.now.graph.now) c.args.site.now.gates.now.gates asked.of_site.gates c.args.node.now asked.there
+
+pub render_image-requires-clause-small : goal.render_image-requires-clause-small
+render_image-requires-clause-small g c =
+    let site = c.args.site.now in
+    let asked = c.requires.asked in
+    let few = (is_effect g.E.ImageEffect.meaning (graph_shown site.graph.now) (images_in site.store.now) asked.of_site.nodes c.args.node.now asked.there).few in
+    omega (arith, few)
+
+pub render_image-requires-clause-may : goal.render_image-requires-clause-may
+render_image-requires-clause-may g c =
     let site = c.args.site.now in
     let node = c.args.node.now in
     let graph = site.graph.now in
@@ -41,7 +53,7 @@ returns-clause-window g c =
     let site = c.args.site.now in
     let node = c.args.node.now in
     let plays = has_instance g.E.ImageEffect.meaning (graph_shown site.graph.now) g.E.Catalogue.number_of site.life.now c.requires.asked.of_site.life node c.requires.asked.there in
-    let is : c.in_ok-new.field-0.value ≡ c.render_whole.new.image = search rules in
+    let is : c.in_ok-new.field-0.value ≡ c.render_image.new.image = search rules in
     subst (λ (t : Stored). IsWindowOf (g.E.ImageEffect.meaning node.effect.now) c.args.values.now c.args.inputs.now node.depth node.components c.args.region t) (sym is)
-    (filled_window c.in_ok-image.image c.render_whole.new.image (g.E.ImageEffect.meaning node.effect.now) c.args.values.now c.args.inputs.now node.depth node.components c.args.region
-    c.in_ok-image.ensures.rect c.in_ok-image.ensures.depth c.in_ok-image.ensures.components (c.in_ok-render_whole.ensures.filled node.effect.now plays))
+    (filled_window c.in_ok-image.image c.render_image.new.image (g.E.ImageEffect.meaning node.effect.now) c.args.values.now c.args.inputs.now node.depth node.components c.args.region
+    c.in_ok-image.ensures.rect c.in_ok-image.ensures.depth c.in_ok-image.ensures.components (c.in_ok-render_image.ensures.filled node.effect.now plays))
