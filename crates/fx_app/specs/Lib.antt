@@ -9,3 +9,4 @@ pub mod Bench
 pub mod Made
 pub mod Modes
 pub mod Steps
+pub mod Crews

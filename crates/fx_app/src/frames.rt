@@ -5,26 +5,26 @@ ghost use Rattle.fx_outside.specs.Outside.{SameFiles};
 ghost use Rattle.fx_seq.specs.Filling.{IsQuiet};
 ghost use Rattle.fx_scene.specs.Scenes.{graph_shown, images_in};
 ghost use Rattle.fx_shipped.specs.Shipped.{number_of};
-ghost use Rattle.fx_eval.specs.Flights.{IsIdle};
-ghost use Rattle.fx_eval.specs.Sites.{HasLife};
+ghost use Rattle.fx_life.specs.Seats.{HasLife};
+ghost use Rattle.fx_app.specs.Crews.{IsCrew};
 ghost use Rattle.fx_app.specs.Graphs.{frame_count};
 ghost use Rattle.fx_app.specs.Files.{file_name, file_text, with_file, HasGained};
 ghost use Rattle.fx_app.specs.Steps.{put_fault, FilePut, FilesPut, LeavesFile, LeavesFiles};
 
+use crate::crew::Crew;
 use crate::effects::all_effects;
 use fx_base::{Memory, Name};
-use fx_core::Core;
-use fx_eval::frame;
 use fx_graph::Graph;
-use fx_image::Image;
 use fx_life::Life;
-use fx_outside::{Depot, PutFault};
+use fx_outside::{Depot, Pace, PutFault};
 use fx_pam::write;
-use fx_scene::{Key, Scene};
+use fx_scene::Scene;
 use fx_seq::Store;
 use fx_shipped::Shipped;
-use fx_words::RunFault;
+use fx_words::{Order, RunFault};
 use std::alloc::Global;
+use std::sync::Wait;
+use std::thread::Threads;
 
 /// Why not every frame was put.
 #[derive(Debug, Drop)]
@@ -57,10 +57,13 @@ impl From<PutFailure> for RunFault {
 }
 
 /// Takes the effects of the program through their order of life, and renders and puts each frame from the
-/// first to the last meanwhile. Every sequence is ended and every instance destroyed, whatever failed, and no flight
-/// stands then in the core that lends the renders' tickets. With no frame there is no sequence.
-pub(crate) fn put_frames<D: Depot>(
+/// first to the last meanwhile, by as many workers, over tiles and with a directory as they are ordered. Every sequence
+/// is ended and every instance destroyed, whatever failed. With no frame there is no sequence.
+pub(crate) fn put_frames<R: Threads + Wait + Sync, D: Depot, P: Pace>(
+    rt: &R,
     alloc: Global,
+    pace: &P,
+    order: &Order,
     graph: Graph<Shipped>,
     store: Store,
     first: u32,
@@ -82,28 +85,28 @@ pub(crate) fn put_frames<D: Depot>(
         return Ok(());
     }
     let (scene, permit) = Scene::new(graph, store, 0);
-    let mut core = match Core::new(alloc, permit, 0) {
-        Ok(core) => core,
-        Err(_) => return Err(PutFailure::Memory),
-    };
+    let mut crew = Crew::of(alloc, &scene, permit, order)?;
     let life = Life::start(alloc, scene.graph(), all_effects(alloc)?, first, last)?;
-    let put = put_each(alloc, &scene, &life, &mut core, first, last, depot);
+    let put = put_each(
+        rt, alloc, pace, &scene, &life, &mut crew, first, last, depot,
+    );
     life.finish();
-    core.finish();
     put
 }
 
-fn put_each<D: Depot>(
+fn put_each<R: Threads + Wait + Sync, D: Depot, P: Pace>(
+    rt: &R,
     alloc: Global,
+    pace: &P,
     scene: &Scene<Shipped>,
     life: &Life<Shipped>,
-    core: &mut Core<Key, Image>,
+    crew: &mut Crew,
     first: u32,
     last: u32,
     depot: &mut D,
 ) -> Result<(), PutFailure>
     requires life { HasLife number_of scene.now.graph life.now }
-    requires idle { IsIdle core.old }
+    requires crew { IsCrew scene.now crew.old }
     requires order { first ≤ last }
     requires last { last ≤ LAST_FRAME }
     ensures ok { let images = images_in scene.now.store in let n = frame_count first last in
@@ -115,10 +118,10 @@ fn put_each<D: Depot>(
         D.tells → IfErr result (λ e. LeavesFiles scene.now.graph images first n e (D.file depot.old) (D.file depot.new)) }
     ensures quiet { let at = D.last depot.new in
         OnOk result (IsQuiet (D.faults depot.old) (D.faults depot.new) (D.last depot.old) at) }
-    ensures idle { IsIdle core.new }
+    ensures crew { IsCrew scene.now crew.new }
 {
     for frame in first..last + 1 {
-        match put_frame(alloc, scene, life, core, frame, depot) {
+        match put_frame(rt, alloc, pace, scene, life, crew, frame, depot) {
             Ok(()) => {}
             Err(failure) => return Err(failure),
         }
@@ -127,16 +130,18 @@ fn put_each<D: Depot>(
 }
 
 // The picture and its text end with the call.
-fn put_frame<D: Depot>(
+fn put_frame<R: Threads + Wait + Sync, D: Depot, P: Pace>(
+    rt: &R,
     alloc: Global,
+    pace: &P,
     scene: &Scene<Shipped>,
     life: &Life<Shipped>,
-    core: &mut Core<Key, Image>,
+    crew: &mut Crew,
     frame: u32,
     depot: &mut D,
 ) -> Result<(), PutFailure>
     requires life { HasLife number_of scene.now.graph life.now }
-    requires idle { IsIdle core.old }
+    requires crew { IsCrew scene.now crew.old }
     requires frame { frame ≤ LAST_FRAME }
     ensures ok { let g = scene.now.graph in let text = file_text g (images_in scene.now.store) frame in
         D.tells → OnOk result (SameFiles (with_file (file_name g frame) text (D.file depot.old)) (D.file depot.new)) }
@@ -147,10 +152,10 @@ fn put_frame<D: Depot>(
     ensures quiet { let at = D.last depot.new in
         OnOk result (IsQuiet (D.faults depot.old) (D.faults depot.new) (D.last depot.old) at) }
     ensures later { D.faults depot.old ≤ D.faults depot.new }
-    ensures idle { IsIdle core.new }
+    ensures crew { IsCrew scene.now crew.new }
 {
     let name = scene.graph().file.name(alloc, frame)?;
-    let text = text_of(alloc, scene, life, core, frame)?;
+    let text = text_of(rt, alloc, pace, scene, life, crew, frame)?;
     match depot.put(alloc, name.text(), &text) {
         Ok(()) => Ok(()),
         Err(PutFault::Failed) => Err(PutFailure::Write(name)),
@@ -159,20 +164,22 @@ fn put_frame<D: Depot>(
 }
 
 // The text of a frame's picture. The picture itself ends with the call.
-fn text_of(
+fn text_of<R: Threads + Wait + Sync, P: Pace>(
+    rt: &R,
     alloc: Global,
+    pace: &P,
     scene: &Scene<Shipped>,
     life: &Life<Shipped>,
-    core: &mut Core<Key, Image>,
+    crew: &mut Crew,
     number: u32,
 ) -> Result<Vec<u8>, Memory>
     requires life { HasLife number_of scene.now.graph life.now }
-    requires idle { IsIdle core.old }
+    requires crew { IsCrew scene.now crew.old }
     requires frame { number ≤ LAST_FRAME }
-    ensures idle { IsIdle core.new }
+    ensures crew { IsCrew scene.now crew.new }
     ensures text { IfOk result (λ bytes. bytes.items ≡ file_text scene.now.graph (images_in scene.now.store) number) }
 {
-    let image = frame(alloc, scene, life, core, i64::from(number))?;
+    let image = crew.picture(rt, alloc, pace, scene, life, number)?;
     let mut text = Vec::new(alloc);
     write(alloc, &image, scene.graph().format, &mut text)?;
     Ok(text)

@@ -16,6 +16,7 @@ pub fn pieces_make_the_whole(graph: &Graph<Shipped>)
     ensures wants { PiecesWantNoMore (graph_shown graph.now) }
 {
     value_depends_on_reach(graph);
+    // A pattern keeps by its type that it gives different frames different names.
     let _pattern = &graph.file;
 }
 

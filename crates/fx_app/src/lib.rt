@@ -5,6 +5,7 @@
 #![tactic(auto)]
 
 mod bench;
+mod crew;
 mod effects;
 mod frames;
 mod graph;

@@ -34,17 +34,18 @@ use std::thread::Threads;
 /// memory what is made of a number. The answer is the exit status of the program: 0 done, 1 words that are no use
 /// of the command, 2 a graph that is refused, 3 a source frame that is refused, 4 a fetch that failed, 5 a put that
 /// failed, 6 want of memory, 7 a report that could not be written. Each other than 0 writes its line on `err`. A
-/// check fetches the graph alone and puts nothing, and a bench does neither. The options on tiles, their cache and
-/// the workers have no effect yet.
+/// check fetches the graph alone and puts nothing, and a bench does neither. Frames are rendered one after another, each
+/// in tiles of the side that is ordered, by as many workers as are ordered; as many tiles are kept as are ordered. These
+/// three options change no byte of a file. Each worker calls `pace.before_draw` before each of its draws.
 pub fn run<R: Threads + Wait + Sync, L: Library, D: Depot, O: Sink, F: Sink, P: Pace>(
-    _rt: &R,
+    rt: &R,
     alloc: Global,
     words: &[String],
     library: &mut L,
     depot: &mut D,
     out: &mut O,
     err: &mut F,
-    _pace: &P,
+    pace: &P,
 ) -> u8
     // A render at status 0 was accepted; the depot has gained the file of each frame's picture, and nothing else; the
     // report was written.
@@ -93,8 +94,8 @@ pub fn run<R: Threads + Wait + Sync, L: Library, D: Depot, O: Sink, F: Sink, P: 
         → (HasRisen (O.faults out.old) (O.faults out.new) → ⊥)
         → (result ≡ 0) ⊎ (result ≡ 6) }
 
-    // Each other status has a fault, which the outside shows, which has its cause, leaves what it leaves, and is told
-    // on `err`.
+    // At status 0 no line is written. Each other status has a fault, which the outside shows, which has its cause,
+    // leaves what it leaves, and is told on `err`.
     ensures silent { result ≡ 0 → F.written err.new ≡ F.written err.old }
     ensures ends { let asked = order_of (map string_bytes words.now) in result ≢ 0 → (fault : RunFault)
         × ((result ≡ status_of fault) ⊎ (result ≡ 6))
@@ -124,15 +125,17 @@ pub fn run<R: Threads + Wait + Sync, L: Library, D: Depot, O: Sink, F: Sink, P: 
         → (HasRisen (L.faults library.old) (L.faults library.new) → ⊥) → (result ≡ 2) ⊎ (result ≡ 6) }
     ensures statuses { IsTrue (is_status result) }
 {
-    match outcome(alloc, words, library, depot, out) {
+    match outcome(rt, alloc, pace, words, library, depot, out) {
         Ok(()) => 0,
         Err(fault) => tell(alloc, err, &fault),
     }
 }
 
 // The steps of what the words order, up to the first that fails.
-fn outcome<L: Library, D: Depot, O: Sink>(
+fn outcome<R: Threads + Wait + Sync, L: Library, D: Depot, O: Sink, P: Pace>(
+    rt: &R,
     alloc: Global,
+    pace: &P,
     words: &[String],
     library: &mut L,
     depot: &mut D,
@@ -184,9 +187,9 @@ fn outcome<L: Library, D: Depot, O: Sink>(
 {
     let order = ordered(alloc, words)?;
     match order.mode {
-        Mode::Render => render(alloc, &order, library, depot, out),
+        Mode::Render => render(rt, alloc, pace, &order, library, depot, out),
         Mode::Check => check(alloc, &order, library, out),
-        Mode::Bench => bench(alloc, &order, out),
+        Mode::Bench => bench(rt, alloc, pace, &order, out),
     }
 }
 
@@ -204,8 +207,10 @@ fn ordered(alloc: Global, words: &[String]) -> Result<Order, RunFault>
 }
 
 // Renders the graph's frames and puts them.
-fn render<L: Library, D: Depot, O: Sink>(
+fn render<R: Threads + Wait + Sync, L: Library, D: Depot, O: Sink, P: Pace>(
+    rt: &R,
     alloc: Global,
+    pace: &P,
     order: &Order,
     library: &mut L,
     depot: &mut D,
@@ -240,7 +245,7 @@ fn render<L: Library, D: Depot, O: Sink>(
     let first = first_of(&graph, order);
     let last = last_of(&graph, order);
     let store = sources_of(alloc, &graph, first, last, library)?;
-    put_frames(alloc, graph, store, first, last, depot)?;
+    put_frames(rt, alloc, pace, order, graph, store, first, last, depot)?;
     report_frames(alloc, out, frame_count(first, last))?;
     Ok(())
 }
@@ -281,7 +286,13 @@ fn check<L: Library, O: Sink>(
 }
 
 // Renders what is made of a number, in memory, and reports what was put.
-fn bench<O: Sink>(alloc: Global, order: &Order, out: &mut O) -> Result<(), RunFault>
+fn bench<R: Threads + Wait + Sync, O: Sink, P: Pace>(
+    rt: &R,
+    alloc: Global,
+    pace: &P,
+    order: &Order,
+    out: &mut O,
+) -> Result<(), RunFault>
     requires { IsTrue (is_bench_number order.now.graph) }
     ensures benched { OnOk result (IsAccepted (Some order.now) (made_of order.now.graph)) }
     ensures told { O.tells → OnOk result (HasBenched (Some order.now) (O.written out.old) (O.written out.new)) }
@@ -292,13 +303,18 @@ fn bench<O: Sink>(alloc: Global, order: &Order, out: &mut O) -> Result<(), RunFa
         → IfErr result (λ e. LeavesBenchReport (Some order.now) e (O.written out.old) (O.written out.new)) }
     ensures words { IfErr result (λ e. e ≢ OtherWords) }
 {
-    let report = bench_report(alloc, order)?;
+    let report = bench_report(rt, alloc, pace, order)?;
     report_lines(alloc, out, &report)?;
     Ok(())
 }
 
 // What a bench reports. The graph that is made is rendered as every other.
-fn bench_report(alloc: Global, order: &Order) -> Result<Report, RunFault>
+fn bench_report<R: Threads + Wait + Sync, P: Pace>(
+    rt: &R,
+    alloc: Global,
+    pace: &P,
+    order: &Order,
+) -> Result<Report, RunFault>
     requires { IsTrue (is_bench_number order.now.graph) }
     ensures ok { IfOk result (λ report. IsBenchReport (Some order.now) (report_text report)) }
     ensures cause { IfErr result (λ e. IsMakingFault (Some order.now) e) }
@@ -310,7 +326,9 @@ fn bench_report(alloc: Global, order: &Order) -> Result<Report, RunFault>
     let last = last_of(&graph, order);
     let names = file_names(alloc, &graph, first, last)?;
     let store = sources_of(alloc, &graph, first, last, &mut library)?;
-    put_frames(alloc, graph, store, first, last, &mut depot)?;
+    put_frames(
+        rt, alloc, pace, order, graph, store, first, last, &mut depot,
+    )?;
     let totals = totals_of(&names, &depot);
     Ok(Report::Bench {
         frames: frame_count(first, last),

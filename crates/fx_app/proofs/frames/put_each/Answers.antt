@@ -44,5 +44,5 @@ loop-frame-preserved g c =
           subst (λ n. HasGained h images a n (depot.file c.args.depot.now) (depot.file c.put_frame.new.depot)) more
           (one_gained h images a (t - a) t (depot.file c.args.depot.now) (depot.file c.loop-frame.depot) (depot.file c.put_frame.new.depot) place (c.loop-frame.invariant.gained tells) (c.in-Ok.ensures.ok tells));
       quiet = quiet_more c.loop-frame.invariant.quiet c.in-Ok.ensures.quiet;
-      idle = c.in-Ok.ensures.idle;
+      crew = c.put_frame.ensures.crew;
     }

@@ -1,7 +1,7 @@
 use Rattle.std.proofs.Common.{◌≡◌, ◌≤◌, ◌+◌, ◌-◌}
 use Rattle.fx_seq.specs.Filling.{IsQuiet}
 use Rattle.fx_scene.specs.Scenes.{images_in}
-use Rattle.fx_eval.specs.Flights.{IsIdle}
+use Rattle.fx_app.specs.Crews.{IsCrew}
 use Rattle.fx_app.specs.Files.{HasGained}
 use Rattle.fx_app.proofs.frames.put_each.Given as goal
 
@@ -14,5 +14,5 @@ invariant-loop-frame g l =
       until : l.frame-end ≡ l.last + 1;
       gained : depot.tells → HasGained l.scene.graph (images_in l.scene.store) l.first (l.frame - l.first) (depot.file l.fn.depot) (depot.file l.depot);
       quiet : IsQuiet (depot.faults l.fn.depot) (depot.faults l.depot) (depot.last l.fn.depot) (depot.last l.depot);
-      idle : IsIdle l.core;
+      crew : IsCrew l.scene l.crew;
     }

@@ -4,7 +4,7 @@ use Rattle.std.specs.List.{AllPairs, Contains}
 use Rattle.fx_scene.specs.Scenes.{Shot, images_in}
 use Rattle.fx_shipped.specs.declared.shipped.Shipped.{Shipped}
 use Rattle.fx_shipped.specs.Shipped.{number_of}
-use Rattle.fx_eval.proofs.LifeLemmas.{started_life}
+use Rattle.fx_life.proofs.LifeLemmas.{started_life}
 use Rattle.fx_app.specs.Graphs.{Graph, frame_count}
 use Rattle.fx_app.specs.Files.{HasGained}
 use Rattle.fx_app.specs.Steps.{LeavesFiles}
@@ -20,7 +20,7 @@ start-requires-clause-among g c = λ k used at.
     subst (λ (es : List Shipped). Contains (map number_of es) (number_of used.effect)) (sym c.in_ok-all_effects.ensures) (number_among used.effect)
 
 pub put_each-put-requires-clause-life : goal.put_each-put-requires-clause-life
-put_each-put-requires-clause-life g c =
+put_each-put-requires-clause-life g c = λ _ _.
     started_life number_of c.graph.result.now.nodes.items c.args.first c.args.last c.new-scene.result.0.graph c.in_ok-life.life
     (ap (λ (s : Graph). s.nodes) c.graph.ensures.shown) c.in_ok-life.ensures.life
 

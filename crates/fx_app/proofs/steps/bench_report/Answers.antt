@@ -19,7 +19,7 @@ made_as : (inside word : List ℕ) (library : Files) → inside ≡ word → ((n
 made_as inside word library same each = fun_ext each ∙ ap made_of same
 
 pub returns-in_err-graph-clause-cause : goal.returns-in_err-graph-clause-cause
-returns-in_err-graph-clause-cause c =
+returns-in_err-graph-clause-cause g c =
     let at : c.order.inside.graph ≡ c.args.order.now.graph = ap (λ (o : Ordered). o.graph) c.order.view_is in
     let made : sure_library_files c.in_ok-library.library ≡ made_of c.args.order.now.graph = made_as c.order.inside.graph c.args.order.now.graph (sure_library_files c.in_ok-library.library) at c.in_ok-library.ensures.ok in
     let p = err_from_is_err_and c.from_residual-in_err-graph.result c.from_residual-in_err-graph.ensures.1 in
@@ -28,7 +28,7 @@ returns-in_err-graph-clause-cause c =
     (subst (λ (n : List ℕ). GraphFetch n 0 0 [] [] c.in_err-graph.field-0.0) at c.in_err-graph.ensures.fetch))
 
 pub returns-in_err-store-clause-cause : goal.returns-in_err-store-clause-cause
-returns-in_err-store-clause-cause c =
+returns-in_err-store-clause-cause g c =
     let at : c.order.inside.graph ≡ c.args.order.now.graph = ap (λ (o : Ordered). o.graph) c.order.view_is in
     let made : sure_library_files c.in_ok-library.library ≡ made_of c.args.order.now.graph = made_as c.order.inside.graph c.args.order.now.graph (sure_library_files c.in_ok-library.library) at c.in_ok-library.ensures.ok in
     let there : graph_under (sure_library_files c.in_ok-library.library) c.args.order.now.graph ≡ Some (Ok (graph_shown c.in_ok-graph.graph)) =
@@ -40,7 +40,7 @@ returns-in_err-store-clause-cause c =
     c.first_of-first.ensures.value c.last_of-last.ensures.value cause c.in_err-store.ensures.fetch)
 
 pub totals_of-totals-requires-clause-few : goal.totals_of-totals-requires-clause-few
-totals_of-totals-requires-clause-few c =
+totals_of-totals-requires-clause-few g c =
     let many : length c.deref.result.now ≡ frame_count c.first_of-first.result c.last_of-last.result =
     ap length (c.deref.ensures.value ∙ c.in_ok-names.ensures.names)
     ∙ length-map-range_with_len (file_name (graph_shown c.in_ok-graph.graph)) c.first_of-first.result (frame_count c.first_of-first.result c.last_of-last.result) in
@@ -48,12 +48,12 @@ totals_of-totals-requires-clause-few c =
     omega (arith, many, low)
 
 pub totals_of-totals-requires-clause-short : goal.totals_of-totals-requires-clause-short
-totals_of-totals-requires-clause-short c =
+totals_of-totals-requires-clause-short g c =
     are_short (graph_shown c.in_ok-graph.graph) (images_in c.in_ok-store.store) c.first_of-first.result (frame_count c.first_of-first.result c.last_of-last.result) (sure_depot_files c.new-depot.result) (sure_depot_files c.put_frames.new.depot) c.in_ok-names.ensures.files c.new-depot.ensures
     (c.in_ok-put_frames.ensures.ok tt)
 
 pub returns-clause-ok : goal.returns-clause-ok
-returns-clause-ok c =
+returns-clause-ok g c =
     let at : c.order.inside.graph ≡ c.args.order.now.graph = ap (λ (o : Ordered). o.graph) c.order.view_is in
     let made : sure_library_files c.in_ok-library.library ≡ made_of c.args.order.now.graph = made_as c.order.inside.graph c.args.order.now.graph (sure_library_files c.in_ok-library.library) at c.in_ok-library.ensures.ok in
     let there : graph_under (sure_library_files c.in_ok-library.library) c.args.order.now.graph ≡ Some (Ok (graph_shown c.in_ok-graph.graph)) =

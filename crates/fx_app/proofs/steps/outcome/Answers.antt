@@ -1,4 +1,4 @@
-use Rattle.std.proofs.Common.{◌∙◌, Option, sym, subst, map, string_bytes, ap}
+use Rattle.std.proofs.Common.{◌∙◌, Option, sym, subst, map, string_bytes, ap, rules}
 use Rattle.std.specs.Prelude.{OnOk}
 use Rattle.fx_words.specs.Ordered.{Ordered}
 use Rattle.fx_app.specs.Run.{HasTold}
@@ -7,9 +7,14 @@ use Rattle.fx_app.proofs.WordLemmas.{bench_number}
 use Rattle.fx_app.proofs.steps.outcome.Goals as goal
 
 pub bench-requires : goal.bench-requires
-bench-requires g c =
+bench-requires g c = (
+  search rules,
+  (
+    search rules,
     bench_number (map string_bytes c.args.words.now) c.in_ok-order.order c.in_ok-order.ensures.ok
-    (sym (ap (λ (o : Ordered). o.mode) c.order.view_is) ∙ c.in-Bench.is)
+        (sym (ap (λ (o : Ordered). o.mode) c.order.view_is) ∙ c.in-Bench.is),
+  ),
+)
 
 pub returns-in-Render-clause-told : goal.returns-in-Render-clause-told
 returns-in-Render-clause-told g c = λ render tells told.
