@@ -6,7 +6,8 @@
 //! too, of r, g, b and a; with `rgb`, `scaled` or `short` behind its name, of other samples. `image` makes
 //! an image of that width, and `write` and `write_rgb` write it too. `graph` makes the text of a graph of 256
 //! nodes with so many keys each, `parse` reads it too, and `accept` reads it and accepts it over the effects that are
-//! shipped. Whole frames are rendered under the words of `effects.rt`. Several such pairs are done in their order.
+//! shipped. `regions` asks where twelve nodes have pixels, and what each tile of an HD frame needs of each. Whole frames
+//! are rendered under the words of `effects.rt`. Several such pairs are done in their order.
 #![tactic(auto)]
 
 mod effects;
@@ -17,6 +18,7 @@ mod number;
 mod paint;
 mod pam;
 mod pool;
+mod regions;
 mod rows;
 mod shared;
 mod turns;
@@ -51,6 +53,7 @@ fn main(rt: HostRuntime) -> ExitCode {
                 .ok(),
             "parse" => graph::read(rt.alloc(), count).ok(),
             "accept" => graph::accepted(rt.alloc(), count).ok(),
+            "regions" => regions::ask_regions(rt.alloc(), count).ok(),
             "kept" => kept::ask_kept(rt.alloc(), count).ok(),
             "shared" => shared::ask_alone(&rt, count).ok(),
             "sharing" => shared::ask_together(&rt, count).ok(),

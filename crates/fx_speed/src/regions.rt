@@ -1,0 +1,152 @@
+//! Regions of a frame of 1,920 by 1,080 pixels through a graph of twelve nodes: of each node that is reached, and what
+//! each tile of 64 by 64 pixels of each needs.
+ghost use Rattle.std.specs.Prelude.{All, IfOk, pos};
+ghost use Rattle.fx_base.specs.Rect.{IsWithin};
+ghost use Rattle.fx_scene.specs.Areas.{area};
+ghost use Rattle.fx_region.specs.Sites.{scene_nodes};
+ghost use Rattle.fx_region.specs.Tables.{Has, IsMadeOf};
+ghost use Rattle.fx_speed.specs.Reached.{IsReachedAt};
+
+use fx_base::{Grid, Memory, Name, Rect};
+use fx_effect::Catalogue;
+use fx_graph::{Graph, accept};
+use fx_outside::SureLibrary;
+use fx_region::{Regions, demand};
+use fx_scene::{Moment, Scene, reach, wants};
+use fx_seq::{Store, Wanted};
+use fx_shipped::Shipped;
+use fx_text::{GraphFault, read_graph};
+use std::alloc::Global;
+
+// The frame that is asked for, between the ends of the fade.
+const FRAME: u32 = 11;
+
+// The tiles round the picture, of which each node has some.
+const ROUND: Rect = Rect {
+    x1: -64,
+    y1: -64,
+    x2: 1984,
+    y2: 1152,
+};
+
+const GRAPH: &str =
+    r#"{"ofxr":1,"project":{"width":1920,"height":1080,"depth":"byte","components":"RGBA"},"output":{"node":"n","file":"o####.pam","format":"RGB_ALPHA"},"range":{"first":0,"last":23},"nodes":[{"name":"plate","source":"p####.pam","first":0,"last":23,"outside":"hold"},{"name":"blur","effect":"boxblur","clips":{"Source":"plate"},"params":{"rx":2,"ry":2}},{"name":"gain","effect":"gain","clips":{"Source":"blur"},"params":{"gain":"1.2"}},{"name":"colour","effect":"saturation","clips":{"Source":"gain"},"params":{"amount":"1.5"}},{"name":"blend","effect":"frameblend","clips":{"Source":"plate"},"params":{"radius":1}},{"name":"fade","effect":"dissolve","clips":{"SourceFrom":"colour","SourceTo":"blend"},"params":{"Transition":{"keys":[[0,0],[23,1]]}}},{"name":"order","effect":"shuffle","clips":{"Source":"fade"}},{"name":"move","effect":"translate","clips":{"Source":"order"},"params":{"dx":"10.25"}},{"name":"squares","effect":"checker"},{"name":"grain","effect":"grain","params":{"amount":"0.1"}},{"name":"over","effect":"merge","clips":{"A":"move","B":"squares"},"params":{"operation":"over"}},{"name":"n","effect":"merge","clips":{"A":"over","B":"grain"},"params":{"operation":"plus"}}]}"#;
+
+/// Makes the regions of the frame so many times, and asks each time what each tile of each node needs: the number of
+/// what is needed. Where the graph or its frames are refused it is want of memory.
+pub(crate) fn ask_regions(alloc: Global, times: u32) -> Result<u64, Memory> {
+    let scene = scene(alloc)?;
+    let moments = moments_of(alloc, &scene)?;
+    let mut needs = 0;
+    for _ in 0..times {
+        needs = needs_of_frame(alloc, &scene, moments.as_slice())?;
+    }
+    Ok(needs)
+}
+
+// ---- the scene
+
+fn scene(alloc: Global) -> Result<Scene<Shipped>, Memory> {
+    let graph = graph_of(alloc).ok().ok_or(Memory)?;
+    let wanted = wants(alloc, &graph, FRAME, FRAME)?;
+    let mut library = SureLibrary::new(alloc, files_of(alloc, &wanted)?);
+    let store = Store::fill(alloc, &mut library, &wanted, 100_000_000, 8192)
+        .ok()
+        .ok_or(Memory)?;
+    let (scene, _permit) = Scene::new(graph, store, 1);
+    Ok(scene)
+}
+
+fn graph_of(alloc: Global) -> Result<Graph<Shipped>, GraphFault> {
+    let raw = read_graph(alloc, GRAPH.as_bytes(), 256, 4096)?;
+    accept(alloc, raw)
+}
+
+// The files of these frames: zeros, of the project's extent.
+fn files_of(alloc: Global, wanted: &[Wanted]) -> Result<Vec<(Name, Vec<u8>)>, Memory> {
+    let mut files = Vec::new(alloc);
+    for frame in wanted {
+        let name = Name::of(String::from_str(alloc, frame.name.text())?);
+        files.push((name, file(alloc)?))?;
+    }
+    Ok(files)
+}
+
+fn file(alloc: Global) -> Result<Vec<u8>, Memory> {
+    let mut bytes = b"P7\nWIDTH 1920\nHEIGHT 1080\nDEPTH 1\nMAXVAL 255\nENDHDR\n".to_vec(alloc)?;
+    bytes.resize(bytes.len() + 1920 * 1080, 0)?;
+    Ok(bytes)
+}
+
+// ---- what is asked
+
+// The nodes at frames that are reached.
+fn moments_of<E: Catalogue>(alloc: Global, scene: &Scene<E>) -> Result<Vec<Moment>, Memory>
+    ensures { IfOk result (λ moments. All (IsReachedAt E.meaning scene.now (pos FRAME)) moments.items) }
+{
+    let frame = i64::from(FRAME);
+    let reached = reach(alloc, scene.graph(), frame, frame)?;
+    let mut moments = Vec::new(alloc);
+    for moment in &reached {
+        moments.push(*moment)?;
+    }
+    Ok(moments)
+}
+
+// How many parts each tile of each of these nodes needs.
+fn needs_of_frame<E: Catalogue>(
+    alloc: Global,
+    scene: &Scene<E>,
+    moments: &[Moment],
+) -> Result<u64, Memory>
+    requires { All (IsReachedAt E.meaning scene.now (pos FRAME)) moments.now }
+{
+    let regions = Regions::of(alloc, scene, i64::from(FRAME))?;
+    let tiles = Grid { side: 64 }.tiles_of(alloc, ROUND)?;
+    let mut needs = 0u64;
+    for moment in moments {
+        let more = needs_of_node(alloc, scene, &regions, *moment, &tiles)?;
+        needs = needs.wrapping_add(more);
+    }
+    Ok(needs)
+}
+
+// How many parts each of these tiles of a node needs.
+fn needs_of_node<E: Catalogue>(
+    alloc: Global,
+    scene: &Scene<E>,
+    regions: &Regions,
+    moment: Moment,
+    tiles: &[Rect],
+) -> Result<u64, Memory>
+    requires regions { IsMadeOf E.meaning scene.now regions.now }
+    requires reached { Has regions.now moment.node moment.frame }
+{
+    let area = regions.rod(moment.node, moment.frame);
+    let mut needs = 0u64;
+    for tile in tiles {
+        let more = needs_of_tile(alloc, scene, regions, moment, tile.meet(area))?;
+        needs = needs.wrapping_add(more);
+    }
+    Ok(needs)
+}
+
+// How many parts a tile needs.
+fn needs_of_tile<E: Catalogue>(
+    alloc: Global,
+    scene: &Scene<E>,
+    regions: &Regions,
+    moment: Moment,
+    tile: Rect,
+) -> Result<u64, Memory>
+    requires regions { IsMadeOf E.meaning scene.now regions.now }
+    requires reached { Has regions.now moment.node moment.frame }
+    requires within { IsWithin tile (area (scene_nodes E.meaning scene.now) moment.node moment.frame) }
+{
+    if tile.is_empty() {
+        return Ok(0);
+    }
+    let Moment { node, frame } = moment;
+    let needs = demand(alloc, scene, regions, node, frame, tile, Grid { side: 64 })?;
+    Ok(needs.len() as u64)
+}
