@@ -1,12 +1,14 @@
 //! One effect through all its actions: what it describes, what it answers, and what it renders.
-ghost use Rattle.std.specs.Prelude.{◌≡◌, [], ◌∷◌, IsTrue, IfOk};
+ghost use Rattle.std.specs.Prelude.{◌≡◌, ◌≢◌, ◌<◌, [], ◌∷◌, IsTrue, IfOk, IfSome, length, slice_get};
 ghost use Rattle.std.specs.List.{Contains};
+ghost use Rattle.fx_base.specs.Bounds.{none};
 ghost use Rattle.fx_base.specs.Rect.{IsFrame};
+ghost use Rattle.fx_image.specs.Part.{IsPart, SamePart};
 ghost use Rattle.fx_pixel.specs.Pixel.{IsOfDepth, components_of};
 ghost use Rattle.fx_pixel.specs.declared.Depth.TheVariants.{Byte, Short};
 ghost use Rattle.fx_pixel.specs.declared.Components.TheVariants.{Rgba};
-ghost use Rattle.fx_effect.specs.Shape.{IsLawfulIn, clip_names, optional_flags, shown_components, supports};
-ghost use Rattle.fx_effect.specs.Asked.{AreRegions, IsWindow};
+ghost use Rattle.fx_effect.specs.Shape.{IsLawful, IsLawfulIn, clip_names, optional_flags, shown_components, supports};
+ghost use Rattle.fx_effect.specs.Asked.{AreRegions, IsWindow, MayRender};
 ghost use Rattle.fx_shipped.specs.Shipped.{meaning_of};
 ghost use Rattle.fx_rows.specs.Asked.{IsSmallWindow};
 
@@ -18,7 +20,7 @@ use fx_effect::{
     window_args,
 };
 use fx_gate::Gates;
-use fx_image::Image;
+use fx_image::{Image, Part};
 use fx_life::{Running, Use};
 use fx_params::{ParamDef, ParamKind};
 use fx_pixel::{Components, Depth, Pixel};
@@ -26,7 +28,7 @@ use fx_props::PropSet;
 use fx_shipped::Shipped;
 use std::alloc::Global;
 use std::process::Abort;
-use std::sync::Arc;
+use std::sync::{Arc, Wait};
 use std::test::Fail;
 
 /// The bounds of a rectangle: left, bottom, right and top.
@@ -108,8 +110,8 @@ pub struct Frame {
 }
 
 /// Takes an effect through all its actions, and renders bytes.
-pub fn byte_row(
-    rt: &impl Abort,
+pub fn byte_row<R: Abort + Wait>(
+    rt: &R,
     alloc: Global,
     effect: Shipped,
     context: Context,
@@ -140,8 +142,8 @@ pub fn byte_row(
 }
 
 /// Renders shorts.
-pub fn short_row(
-    rt: &impl Abort,
+pub fn short_row<R: Abort + Wait>(
+    rt: &R,
     alloc: Global,
     effect: Shipped,
     context: Context,
@@ -374,8 +376,8 @@ fn same_answers(rt: &impl Abort, found: &Answers, row: &Row<'_>) -> Result<(), F
 // ---- what it renders
 
 // Renders the row's window by the second of two instances, from their loading to their unloading.
-fn rendered(
-    rt: &impl Abort,
+fn rendered<R: Abort + Wait>(
+    rt: &R,
     alloc: Global,
     effect: Shipped,
     context: Context,
@@ -394,14 +396,13 @@ fn rendered(
     let mut image = Image::new(alloc, row.window, depth, Components::Rgba, 1024)?;
     let uses = [Use { node: 3, context }, Use { node: 4, context }];
     let running = Running::start(alloc, effect, &uses, 0, 9)?;
-    let mut hold = Gates::free(alloc);
     let mut ticket = Ticket {
         scene: 1,
         number: 2,
         stamped: false,
     };
     let mut part = image.part(row.window);
-    let outcome = running.render(alloc, 1, values, &inputs, &mut hold, &mut ticket, &mut part);
+    let outcome = second_renders(rt, alloc, &running, values, &inputs, &mut ticket, &mut part);
     let Ticket {
         scene: _,
         number: _,
@@ -411,6 +412,37 @@ fn rendered(
     outcome?;
     assert!(rt; stamped, "{}", row.label);
     Ok(image)
+}
+
+// Renders the part's rectangle by the second instance, which is that of node 4, under a hold of its gate.
+fn second_renders<R: Wait>(
+    rt: &R,
+    alloc: Global,
+    running: &Running<Shipped>,
+    values: &Values,
+    inputs: &Inputs<'_>,
+    ticket: &mut Ticket,
+    part: &mut Part<'_>,
+) -> Result<(), Memory>
+    requires two { 1 < length running.now.sequences }
+    requires second { IfSome (slice_get running.now.sequences 1) (λ s. s.node ≡ 4) }
+    requires part { IsPart part.old }
+    requires window { part.old.rect ≢ none }
+    requires lawful { IsLawful (meaning_of running.now.effect).shape values.now }
+    requires frame { IsFrame values.now.frame }
+    requires may { let image = part.old.image.now in
+        MayRender (meaning_of running.now.effect).shape values.now inputs.now image.depth image.components }
+    ensures { SamePart part.old part.new }
+{
+    let (gates, mut seat) = Gates::new(alloc, 69)?;
+    let Some(gate) = running.gate_of(4) else {
+        let mut free = Gates::free(alloc);
+        return running.render(alloc, 1, values, inputs, &mut free, ticket, part);
+    };
+    let mut hold = gates.hold(rt, &mut seat, gate);
+    let outcome = running.render(alloc, 1, values, inputs, &mut hold, ticket, part);
+    gates.release(&mut seat, hold);
+    outcome
 }
 
 fn inputs_of(

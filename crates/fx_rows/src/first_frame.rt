@@ -3,7 +3,7 @@ use crate::graph_text::{SOLID, edited};
 use crate::outcome::{Outside, RENDER, SOUND, Told, done, ended, run_with};
 use std::test::Fail;
 
-const FILE: &[u8] =
+pub(crate) const FILE: &[u8] =
     b"P7\nWIDTH 2\nHEIGHT 1\nDEPTH 4\nMAXVAL 255\nTUPLTYPE RGB_ALPHA\nENDHDR\n\xff\x80\x00\xff\xff\x80\x00\xff";
 
 // Which writes of the report and of the lines fail, and what the run tells. The file is there at each.

@@ -33,9 +33,17 @@ mod moves;
 #[cfg(test)]
 mod outcome;
 #[cfg(test)]
+mod pace;
+#[cfg(test)]
 mod points;
 #[cfg(test)]
+mod regions;
+#[cfg(test)]
 mod rows;
+#[cfg(test)]
+mod strips;
+#[cfg(test)]
+mod tiles;
 #[cfg(test)]
 mod times;
 #[cfg(test)]

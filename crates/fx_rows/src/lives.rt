@@ -11,6 +11,7 @@ use fx_image::Image;
 use fx_life::{Loaded, Running, Use};
 use fx_pixel::{Components, Depth, Pixel};
 use std::alloc::Global;
+use std::sync::Wait;
 use std::sync::atomic::{AtomicU64, Ordering};
 use std::test::Fail;
 
@@ -37,8 +38,9 @@ fn used_by(node: u32) -> Use
     }
 }
 
-// Of a picture of 3 by 2 pixels that has two grey ones, an instance renders the two right columns.
-fn one_renders(alloc: Global, effect: Toy<'_>) -> Result<(Image, bool), Memory> {
+// Of a picture of 3 by 2 pixels that has two grey ones, an instance renders the two right columns, under a hold of the
+// effect's gate.
+fn one_renders<R: Wait>(rt: &R, alloc: Global, effect: Toy<'_>) -> Result<(Image, bool), Memory> {
     let (byte, rgba) = (Depth::Byte, Components::Rgba);
     let mut image = Image::new(alloc, Rect::of(0, 0, 3, 2), byte, rgba, 12)?;
     image.put(0, 1, GREY);
@@ -50,8 +52,9 @@ fn one_renders(alloc: Global, effect: Toy<'_>) -> Result<(Image, bool), Memory> 
         project: Rect::of(0, 0, 3, 2),
     };
     let inputs = Inputs::new(alloc, byte, Vec::new(alloc))?;
+    let (gates, mut seat) = Gates::new(alloc, 4)?;
     let running = Running::start(alloc, effect, &[used_by(8)], 4, 9)?;
-    let mut hold = Gates::free(alloc);
+    let mut hold = gates.hold(rt, &mut seat, 3);
     let mut ticket = Ticket {
         scene: 1,
         number: 2,
@@ -67,6 +70,7 @@ fn one_renders(alloc: Global, effect: Toy<'_>) -> Result<(Image, bool), Memory> 
         &mut ticket,
         &mut part,
     );
+    gates.release(&mut seat, hold);
     let Ticket {
         scene,
         number,
@@ -83,7 +87,7 @@ fn actions_come_in_order(rt: HostRuntime) -> Result<(), Fail> {
     let effect = Toy {
         notes: Some(&notes),
     };
-    let (image, stamped) = one_renders(rt.alloc(), effect)?;
+    let (image, stamped) = one_renders(&rt, rt.alloc(), effect)?;
     // loaded, described, and in its context; created; begun from 4 to 9; rendered; ended; destroyed; unloaded
     assert_eq!(rt; notes.load(Ordering::SeqCst), 1234549674989);
     assert!(rt; stamped);

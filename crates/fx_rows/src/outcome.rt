@@ -2,7 +2,7 @@
 use fx_app::run;
 use fx_base::Name;
 use fx_outside::{
-    FreePace, MemoryDepot, MemoryLibrary, MemorySink, SureDepot, SureLibrary, SureSink,
+    FreePace, MemoryDepot, MemoryLibrary, MemorySink, Pace, SureDepot, SureLibrary, SureSink,
 };
 use std::alloc::{AllocError, Global};
 use std::sync::Wait;
@@ -128,6 +128,18 @@ pub(crate) fn run_with<R: Threads + Wait + Sync>(
     graph: &str,
     outside: Outside<'_>,
 ) -> Result<Outcome, Fail> {
+    run_paced(rt, alloc, &FreePace, texts, graph, outside)
+}
+
+/// The same, where the workers keep a pace.
+pub(crate) fn run_paced<R: Threads + Wait + Sync, P: Pace>(
+    rt: &R,
+    alloc: Global,
+    pace: &P,
+    texts: &[&str],
+    graph: &str,
+    outside: Outside<'_>,
+) -> Result<Outcome, Fail> {
     let words = words_of(alloc, texts)?;
     let files = files_of(alloc, graph, outside.files)?;
     let mut library = MemoryLibrary::new(alloc, files, outside.fetches.to_vec(alloc)?);
@@ -142,7 +154,7 @@ pub(crate) fn run_with<R: Threads + Wait + Sync>(
         &mut depot,
         &mut out,
         &mut err,
-        &FreePace,
+        pace,
     );
     Ok(Outcome {
         status,

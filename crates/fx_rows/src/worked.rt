@@ -28,14 +28,14 @@ impl Whole<'_> {
 }
 
 /// A graph, the files of its sources, the report, and the files that are there or not.
-type Row = (
+pub(crate) type Row = (
     Whole<'static>,
     &'static [(&'static str, &'static [u8])],
     &'static [u8],
     &'static [(&'static str, Option<&'static [u8]>)],
 );
 
-const ROWS: &[Row] = &[
+pub(crate) const ROWS: &[Row] = &[
     // A blur has pixels beside its source, and they are moved into the picture.
     (
         Whole {

@@ -1,0 +1,346 @@
+//! Where regions are found, and what they need, over the effects that are shipped, worked by hand.
+ghost use Rattle.std.specs.Prelude.{◌≤◌};
+
+use crate::worked::Whole;
+use fx_base::{Grid, Memory, Name, Rect};
+use fx_effect::{Step, Steps};
+use fx_graph::{Graph, accept};
+use fx_outside::SureLibrary;
+use fx_pixel::Depth;
+use fx_region::{End, Need, Regions, demand, follow};
+use fx_scene::{Scene, wants};
+use fx_seq::Store;
+use fx_shipped::Shipped;
+use fx_text::{GraphFault, read_graph};
+use std::alloc::{AllocError, Global};
+use std::test::Fail;
+
+// A graph: the sides of the project, those of the files `s0.pam` to `s2.pam`, and the nodes.
+#[derive(Clone, Copy)]
+struct Filmed {
+    project: (u32, u32),
+    frames: (u32, u32),
+    nodes: &'static str,
+}
+
+// A wipe whose edge is the middle column, 96.
+const WIPE: Filmed = Filmed {
+    project: (192, 192),
+    frames: (192, 192),
+    nodes: r#"{"name":"a","source":"s#.pam","first":0,"last":2},{"name":"b","source":"s#.pam","first":0,"last":2},{"name":"n","effect":"wipe","clips":{"SourceFrom":"a","SourceTo":"b"},"params":{"Transition":"0.5"}}"#,
+};
+
+// The same to the frame before.
+const WIPE_BACK: Filmed = Filmed {
+    project: (192, 192),
+    frames: (192, 192),
+    nodes: r#"{"name":"a","source":"s#.pam","first":0,"last":2},{"name":"b","effect":"timeoffset","clips":{"Source":"a"},"params":{"offset":1}},{"name":"n","effect":"wipe","clips":{"SourceFrom":"a","SourceTo":"b"},"params":{"Transition":"0.5"}}"#,
+};
+
+// A blur has pixels beside its source, and they are moved into the picture.
+const MOVED_BLUR: Filmed = Filmed {
+    project: (5, 1),
+    frames: (3, 1),
+    nodes: r#"{"name":"s","source":"s#.pam","first":0,"last":2},{"name":"b","effect":"boxblur","clips":{"Source":"s"},"params":{"rx":1,"ry":0}},{"name":"n","effect":"translate","clips":{"Source":"b"},"params":{"dx":1}}"#,
+};
+
+// A blur reads one pixel beside what it renders.
+const BLUR: Filmed = Filmed {
+    project: (192, 192),
+    frames: (192, 192),
+    nodes: r#"{"name":"s","source":"s#.pam","first":0,"last":2},{"name":"i","effect":"invert","clips":{"Source":"s"}},{"name":"n","effect":"boxblur","clips":{"Source":"i"},"params":{"rx":1,"ry":1}}"#,
+};
+
+// The frame two before and the current one.
+const DIFFERENCE: Filmed = Filmed {
+    project: (192, 192),
+    frames: (192, 192),
+    nodes: r#"{"name":"s","source":"s#.pam","first":0,"last":2},{"name":"n","effect":"framediff","clips":{"Source":"s"},"params":{"gap":2}}"#,
+};
+
+// A frame, a region of the output, and where it is found.
+const ENDS: &[(Filmed, u32, [i64; 4], &str)] = &[
+    // A tile on one side of the edge is its clip there, and one across it is rendered.
+    (
+        WIPE,
+        1,
+        [0, 0, 64, 64],
+        "frame 1 of 1 (0,0,64,64) byte byte",
+    ),
+    (WIPE, 1, [64, 0, 128, 64], "node 2 at 1 (64,0,128,64)"),
+    (
+        WIPE,
+        1,
+        [128, 0, 192, 64],
+        "frame 1 of 0 (128,0,192,64) byte byte",
+    ),
+    // Up to the edge, and a pixel across it.
+    (
+        WIPE,
+        2,
+        [32, 64, 96, 128],
+        "frame 2 of 1 (32,64,96,128) byte byte",
+    ),
+    (WIPE, 2, [33, 64, 97, 128], "node 2 at 2 (33,64,97,128)"),
+    (
+        WIPE,
+        2,
+        [96, 64, 160, 128],
+        "frame 2 of 0 (96,64,160,128) byte byte",
+    ),
+    (WIPE, 2, [95, 64, 159, 128], "node 2 at 2 (95,64,159,128)"),
+    // Through both effects.
+    (
+        WIPE_BACK,
+        1,
+        [0, 128, 64, 192],
+        "frame 0 of 0 (0,128,64,192) byte byte byte",
+    ),
+    (WIPE_BACK, 0, [0, 128, 64, 192], "nowhere"),
+];
+
+// A frame, a region of the output, and what it needs by tiles of side 64.
+const NEEDS: &[(Filmed, u32, [i64; 4], &str)] = &[
+    (
+        MOVED_BLUR,
+        0,
+        [0, 0, 5, 1],
+        "0@0: node 1 at 0 (-1,0,0,1)\n\
+         0@0: node 1 at 0 (0,0,4,1)\n",
+    ),
+    // The middle tile needs nine renders, an edge tile six, and a corner tile four.
+    (
+        BLUR,
+        0,
+        [64, 64, 128, 128],
+        "0@0: node 1 at 0 (0,0,64,64)\n\
+         0@0: node 1 at 0 (64,0,128,64)\n\
+         0@0: node 1 at 0 (128,0,192,64)\n\
+         0@0: node 1 at 0 (0,64,64,128)\n\
+         0@0: node 1 at 0 (64,64,128,128)\n\
+         0@0: node 1 at 0 (128,64,192,128)\n\
+         0@0: node 1 at 0 (0,128,64,192)\n\
+         0@0: node 1 at 0 (64,128,128,192)\n\
+         0@0: node 1 at 0 (128,128,192,192)\n",
+    ),
+    (
+        BLUR,
+        0,
+        [128, 64, 192, 128],
+        "0@0: node 1 at 0 (64,0,128,64)\n\
+         0@0: node 1 at 0 (128,0,192,64)\n\
+         0@0: node 1 at 0 (64,64,128,128)\n\
+         0@0: node 1 at 0 (128,64,192,128)\n\
+         0@0: node 1 at 0 (64,128,128,192)\n\
+         0@0: node 1 at 0 (128,128,192,192)\n",
+    ),
+    (
+        BLUR,
+        0,
+        [0, 128, 64, 192],
+        "0@0: node 1 at 0 (0,64,64,128)\n\
+         0@0: node 1 at 0 (64,64,128,128)\n\
+         0@0: node 1 at 0 (0,128,64,192)\n\
+         0@0: node 1 at 0 (64,128,128,192)\n",
+    ),
+    // The clips in the order in which they are described.
+    (
+        WIPE,
+        1,
+        [64, 0, 128, 64],
+        "0@1: frame 1 of 0 (64,0,128,64) byte\n\
+         1@1: frame 1 of 1 (64,0,128,64) byte\n",
+    ),
+    // Of a clip under an identity the frame that is needed is the effect's, and that which is found another.
+    (
+        WIPE_BACK,
+        1,
+        [64, 0, 128, 64],
+        "0@1: frame 1 of 0 (64,0,128,64) byte\n\
+         1@1: frame 0 of 0 (64,0,128,64) byte byte\n",
+    ),
+    // Frames rise, and the one between isn't needed.
+    (
+        DIFFERENCE,
+        2,
+        [128, 128, 192, 192],
+        "0@0: frame 0 of 0 (128,128,192,192) byte\n\
+         0@2: frame 2 of 0 (128,128,192,192) byte\n",
+    ),
+];
+
+fn graph_of(alloc: Global, filmed: Filmed) -> Result<Graph<Shipped>, GraphFault> {
+    let Filmed {
+        project: (width, height),
+        nodes,
+        ..
+    } = filmed;
+    let project = format!(in alloc;
+        r#""width":{width},"height":{height},"depth":"byte","components":"RGBA""#
+    )?;
+    let whole = Whole {
+        project: project.as_str(),
+        format: "RGB_ALPHA",
+        last: 9,
+        nodes,
+    };
+    let text = whole.text(alloc)?;
+    let raw = read_graph(alloc, text.as_bytes(), 64, 8192)?;
+    accept(alloc, raw)
+}
+
+// The file of a frame of so many columns and rows of zeros.
+fn file(alloc: Global, name: &str, sides: (u32, u32)) -> Result<(Name, Vec<u8>), AllocError> {
+    let (width, height) = sides;
+    let header = format!(in alloc;
+        "P7\nWIDTH {width}\nHEIGHT {height}\nDEPTH 1\nMAXVAL 255\nENDHDR\n"
+    )?;
+    let mut bytes = header.as_bytes().to_vec(alloc)?;
+    for _ in 0..width {
+        for _ in 0..height {
+            bytes.push(0)?;
+        }
+    }
+    Ok((Name::of(String::from_str(alloc, name)?), bytes))
+}
+
+fn files(alloc: Global, sides: (u32, u32)) -> Result<Vec<(Name, Vec<u8>)>, AllocError> {
+    let mut files = Vec::new(alloc);
+    for name in ["s0.pam", "s1.pam", "s2.pam"] {
+        files.push(file(alloc, name, sides)?)?;
+    }
+    Ok(files)
+}
+
+// The scene of a graph with the frames that it wants at a frame.
+fn scene_of(alloc: Global, filmed: Filmed, at: u32) -> Result<Scene<Shipped>, Fail>
+    requires { at ≤ 999999 }
+{
+    let graph = graph_of(alloc, filmed).ok().ok_or("refused")?;
+    let wanted = wants(alloc, &graph, at, at)?;
+    let mut library = SureLibrary::new(alloc, files(alloc, filmed.frames)?);
+    let store = Store::fill(alloc, &mut library, &wanted, 1_000_000, 8192)
+        .ok()
+        .ok_or("no frames")?;
+    let (scene, _permit) = Scene::new(graph, store, 7);
+    Ok(scene)
+}
+
+fn told_rect(alloc: Global, r: Rect) -> Result<String, AllocError> {
+    format!(in alloc; "({},{},{},{})", r.x1, r.y1, r.x2, r.y2)
+}
+
+fn told_depth(step: &Step) -> &'static str {
+    match step.depth {
+        Depth::Byte => " byte",
+        Depth::Short => " short",
+    }
+}
+
+fn told_steps(alloc: Global, through: &Steps) -> Result<String, AllocError> {
+    let mut text = String::new(alloc);
+    for step in through.items() {
+        text.push_str(told_depth(step))?;
+    }
+    Ok(text)
+}
+
+fn told_end(alloc: Global, end: &End) -> Result<String, AllocError> {
+    match end {
+        End::Void => String::from_str(alloc, "nowhere"),
+        End::Frame {
+            node,
+            frame,
+            region,
+            through,
+        } => {
+            let r = told_rect(alloc, *region)?;
+            let steps = told_steps(alloc, through)?;
+            format!(in alloc; "frame {frame} of {node} {r}{steps}")
+        }
+        End::Render {
+            node,
+            frame,
+            region,
+            through,
+        } => {
+            let r = told_rect(alloc, *region)?;
+            let steps = told_steps(alloc, through)?;
+            format!(in alloc; "node {node} at {frame} {r}{steps}")
+        }
+    }
+}
+
+fn told_need(alloc: Global, need: &Need) -> Result<String, AllocError> {
+    let (clip, frame) = (need.clip, need.frame);
+    let end = told_end(alloc, &need.end)?;
+    format!(in alloc; "{clip}@{frame}: {end}\n")
+}
+
+fn told_needs(alloc: Global, needs: &[Need]) -> Result<String, AllocError> {
+    let mut text = String::new(alloc);
+    for need in needs {
+        let one = told_need(alloc, need)?;
+        text.push_str(one.as_str())?;
+    }
+    Ok(text)
+}
+
+fn rect_of(bounds: [i64; 4]) -> Rect {
+    let [x1, y1, x2, y2] = bounds;
+    Rect::of(x1, y1, x2, y2)
+}
+
+// Where a region of the output is found at a frame.
+fn found(alloc: Global, scene: &Scene<Shipped>, at: u32, region: Rect) -> Result<String, Memory>
+    requires { at ≤ 999999 }
+{
+    let frame = i64::from(at);
+    let regions = Regions::of(alloc, scene, frame)?;
+    let end = follow(alloc, scene, &regions, scene.graph().output, frame, region)?;
+    Ok(told_end(alloc, &end)?)
+}
+
+// What a region of the output needs at a frame, by tiles of side 64.
+fn needed(alloc: Global, scene: &Scene<Shipped>, at: u32, region: Rect) -> Result<String, Memory>
+    requires { at ≤ 999999 }
+{
+    let (node, frame) = (scene.graph().output, i64::from(at));
+    let regions = Regions::of(alloc, scene, frame)?;
+    let within = region.meet(regions.rod(node, frame));
+    let grid = Grid { side: 64 };
+    let needs = demand(alloc, scene, &regions, node, frame, within, grid)?;
+    Ok(told_needs(alloc, needs.as_slice())?)
+}
+
+#[test]
+fn regions_are_found_where_identities_lead(rt: HostRuntime) -> Result<(), Fail> {
+    let alloc = rt.alloc();
+    for (filmed, at, region, expected) in ENDS {
+        let at = (*at).min(9);
+        let scene = scene_of(alloc, *filmed, at)?;
+        assert_eq!(rt;
+            found(alloc, &scene, at, rect_of(*region))?.as_str(),
+            *expected,
+            "at {at} in {}",
+            filmed.nodes
+        );
+    }
+    Ok(())
+}
+
+#[test]
+fn regions_need_the_tiles_of_their_interest(rt: HostRuntime) -> Result<(), Fail> {
+    let alloc = rt.alloc();
+    for (filmed, at, region, expected) in NEEDS {
+        let at = (*at).min(9);
+        let scene = scene_of(alloc, *filmed, at)?;
+        assert_eq!(rt;
+            needed(alloc, &scene, at, rect_of(*region))?.as_str(),
+            *expected,
+            "at {at} in {}",
+            filmed.nodes
+        );
+    }
+    Ok(())
+}
