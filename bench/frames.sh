@@ -1,8 +1,8 @@
 #!/usr/bin/env bash
-# frames.sh: what a render of HD frames costs on one core: 24 frames of 1,920 by 1,080 pixels, r, g, b and a in bytes.
-# It renders one invert and five, and a graph of seven effects up to each of its nodes, and prints milliseconds a frame
-# (what one node adds is its share) and the peak of memory. The frames are read from and written to files in memory.
-# It works in a folder of its own there.
+# frames.sh: what a render of HD frames costs: 24 frames of 1,920 by 1,080 pixels, r, g, b and a in bytes. By one worker
+# it renders one invert and five, a graph of seven effects up to each of its nodes (what one node adds is its share), and
+# the whole graph in tiles of four sides; and the whole graph by one, two and four workers. It prints microseconds a frame
+# and the peak of memory. The frames are read from and written to files in memory. It works in a folder of its own there.
 set -eu
 here=$(cd "$(dirname "${BASH_SOURCE[0]}")/.." && pwd)
 program=$here/crates/ofxr/out/ofxr
@@ -40,18 +40,19 @@ node() {
   echo ",{\"name\":\"$1\",\"effect\":\"$2\",\"clips\":{$3},\"params\":{$4}}"
 }
 
-# measure WHAT: the best of some renders of g.json, and the memory of one.
+# measure WHAT OPTION..: the best of some renders of g.json with these options, and the memory of one.
 measure() {
-  local least=0 from to run
+  local least=0 from to run what=$1
+  shift
   for ((run = 0; run < runs; run++)); do
     from=$(date +%s%N)
-    "$program" render g.json >/dev/null
+    "$program" render g.json "$@" >/dev/null
     to=$(date +%s%N)
     if [ $least -eq 0 ] || [ $((to - from)) -lt $least ]; then least=$((to - from)); fi
   done
-  printf '%-24s %8d microseconds a frame' "$1" $((least / frames / 1000))
+  printf '%-28s %8d microseconds a frame' "$what" $((least / frames / 1000))
   if [ -x /usr/bin/time ]; then
-    printf ', %d MB at most' $(($(/usr/bin/time -f %M "$program" render g.json 2>&1 >/dev/null) / 1000))
+    printf ', %d MB at most' $(($(/usr/bin/time -f %M "$program" render g.json "$@" 2>&1 >/dev/null) / 1000))
   fi
   echo
 }
@@ -65,10 +66,10 @@ inverts() {
 }
 
 graph plate '' >g.json
-measure 'the frames alone'
+measure 'the frames alone' --workers 1
 for count in 1 5; do
   graph i$count "$(inverts $count)" >g.json
-  measure "$count inverts"
+  measure "$count inverts" --workers 1
 done
 
 nodes=$(
@@ -82,5 +83,11 @@ nodes=$(
 )
 for output in blur gain colour blend fade moved over; do
   graph $output "$nodes" >g.json
-  measure "up to $output"
+  measure "up to $output" --workers 1
+done
+for side in 16 64 256 1024; do
+  measure "all, tiles of $side" --workers 1 --tile $side
+done
+for workers in 1 2 4; do
+  measure "all, by $workers workers" --workers $workers
 done

@@ -1,8 +1,9 @@
 #!/usr/bin/env bash
 # speed.sh: the cost of one ask of a core for a kept key, of one ask of a directory, which is a turn too, and the same
-# among four threads; of one taking and giving of a turn, and the same in eight threads on one slot; and of one draw of
-# a number, in nanoseconds; and how much faster two and four workers do work that shares nothing. It times `fx_speed`
-# with a large count and with 0.
+# among four threads; of one taking and giving of a turn, and the same in eight threads on one slot; of one draw of
+# a number; and of the regions of an HD frame through twelve nodes with what each tile of each needs, in nanoseconds;
+# and how much faster two and four workers do work that shares nothing. It times `fx_speed` with a large count and with
+# 0.
 set -eu
 here=$(cd "$(dirname "${BASH_SOURCE[0]}")/.." && pwd)
 program=$here/crates/fx_speed/out/fx_speed
@@ -43,5 +44,6 @@ measure sharing 1000000 4 'an ask of a directory for one of 4,096 kept keys, amo
 measure turn 10000000 1 'a turn taken and given, alone'
 measure turns 1000000 8 'a turn taken and given, among eight threads on one slot'
 measure draw 10000000 1 'a number drawn, alone'
+measure regions 100 1 'the regions of an HD frame of twelve nodes, and what each tile of each needs'
 speed_up two 50000
 speed_up four 50000
