@@ -11,3 +11,4 @@ pub mod PaintLemmas
 pub mod SumLemmas
 pub mod PictureLemmas
 pub mod MomentLemmas
+mod CountingLemmas

@@ -7,3 +7,5 @@ pub mod Inputs
 pub mod Windows
 pub mod Moments
 pub mod Toy
+pub mod Counting
+pub mod Crews

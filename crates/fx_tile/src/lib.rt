@@ -3,6 +3,10 @@
 #![tactic(auto)]
 
 mod count;
+#[cfg(test)]
+mod counting;
+#[cfg(test)]
+mod crew;
 mod inputs;
 mod job;
 pub mod laws;

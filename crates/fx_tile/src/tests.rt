@@ -1,17 +1,13 @@
 //! Tiles of pictures that are worked by hand.
-ghost use Rattle.std.specs.Prelude.{◌≡◌, ◌<◌, ◌≤◌, ◌+◌, ◌≤ℤ◌, pos, [], ◌∷◌, None, All, IfOk, length, vec_len};
+ghost use Rattle.std.specs.Prelude.{◌≡◌, ◌≤◌, ◌+◌, ◌≤ℤ◌, pos, [], ◌∷◌, None, IfOk, length};
 ghost use Rattle.fx_scene.specs.Scenes.{graph_shown};
 ghost use Rattle.fx_life.specs.Seats.{HasLife};
-ghost use Rattle.fx_turn.specs.Seats.{all_parts};
-ghost use Rattle.fx_tile.specs.Moments.{IsFree};
 ghost use Rattle.fx_tile.specs.Toy.{IsSmall};
 
+use crate::crew::{shared_by, split_off};
 use crate::toy::Toy;
 use crate::{SceneName, Shared, TileCount, TileSeat, render_moment, window_tile};
 use fx_base::{Grid, Memory, Name, Rect};
-use fx_core::Permit;
-use fx_directory::Directory;
-use fx_gate::Gates;
 use fx_graph::{Graph, accept};
 use fx_image::Image;
 use fx_life::Life;
@@ -174,39 +170,6 @@ fn toys(alloc: Global) -> Result<Vec<Toy>, Memory>
     Ok(vec![in alloc; Toy]?)
 }
 
-// A directory of a scene that keeps so many tiles, gates for its nodes, and a seat of both.
-fn shared_by(
-    alloc: Global,
-    name: SceneName<Toy>,
-    permit: Permit,
-    capacity: u32,
-) -> Result<(Shared<Toy>, TileSeat<Toy>), Memory>
-    ensures name { IfOk result (λ r. r.0.directory.name ≡ name) }
-    ensures row { IfOk result (λ r. r.1.directory.row ≡ r.0.directory) }
-    ensures free { IfOk result (λ r. r.1.directory.aloft ≡ []) }
-    ensures gates { IfOk result (λ r. r.0.gates.gates ≡ 80) }
-    ensures gate_seat { IfOk result (λ r. (r.1.gates.row ≡ r.0.gates) × (r.1.gates.turn ≡ None)) }
-    ensures parts { IfOk result (λ r. (r.1.directory.parts ≡ all_parts) × (r.1.gates.parts ≡ all_parts)) }
-{
-    let (gates, gate_seat) = Gates::new(alloc, 80)?;
-    match Directory::new(alloc, name, permit, capacity) {
-        Ok((directory, seat)) => {
-            let grid = Grid { side: 64 };
-            let shared = Shared {
-                directory,
-                gates,
-                grid,
-            };
-            let seat = TileSeat {
-                directory: seat,
-                gates: gate_seat,
-            };
-            Ok((shared, seat))
-        }
-        Err((_, memory)) => Err(memory),
-    }
-}
-
 // An image of two columns and one row, where the picture of the graph is one of these.
 fn blank(alloc: Global, graph: &Graph<Toy>) -> Result<Image, Memory>
     ensures { IfOk result (IsSmall (graph_shown graph.now)) }
@@ -268,7 +231,8 @@ fn drawn<R: Wait>(
     let store = store_of(alloc, &graph, at)?;
     let mut image = blank(alloc, &graph)?;
     let (scene, permit) = Scene::new(graph, store, 7);
-    let (shared, mut seat) = shared_by(alloc, SceneName::of(&scene), permit, capacity)?;
+    let grid = Grid { side: 64 };
+    let (shared, mut seat) = shared_by(alloc, SceneName::of(&scene), permit, capacity, grid)?;
     let life = Life::start(alloc, scene.graph(), toys(alloc)?, 0, 9)?;
     let frame = i64::from(at);
     let counts = drawn_twice(
@@ -310,28 +274,6 @@ fn tiles_show_the_output(rt: HostRuntime) -> Result<(), Fail> {
     Ok(())
 }
 
-// So many seats, each with a part of the first.
-fn split_off(
-    alloc: Global,
-    shared: &Shared<Toy>,
-    first: &mut TileSeat<Toy>,
-    count: u32,
-) -> Result<Vec<TileSeat<Toy>>, Memory>
-    requires directory { (first.old.directory.row ≡ shared.now.directory) × (count < first.old.directory.parts) }
-    requires gates { (first.old.gates.row ≡ shared.now.gates) × (count < first.old.gates.parts) }
-    requires free { first.old.gates.turn ≡ None }
-    ensures count { IfOk result (λ seats. vec_len seats ≡ count) }
-    ensures free { IfOk result (λ seats. All (IsFree shared.now) seats.items) }
-{
-    let mut seats = Vec::new(alloc);
-    for _ in 0..count {
-        let directory = shared.directory.split(alloc, &mut first.directory)?;
-        let gates = shared.gates.split(alloc, &mut first.gates)?;
-        seats.push(TileSeat { directory, gates })?;
-    }
-    Ok(seats)
-}
-
 // The picture of a frame by so many workers, and what becomes of its tiles.
 fn rendered<R: Threads + Wait + Sync>(
     rt: &R,
@@ -349,8 +291,7 @@ fn rendered<R: Threads + Wait + Sync>(
     }
     let store = store_of(alloc, &graph, at)?;
     let (scene, permit) = Scene::new(graph, store, 7);
-    let (shared, mut first) = shared_by(alloc, SceneName::of(&scene), permit, 9)?;
-    let shared = Shared { grid, ..shared };
+    let (shared, mut first) = shared_by(alloc, SceneName::of(&scene), permit, 9, grid)?;
     let seats = split_off(alloc, &shared, &mut first, workers)?;
     let life = Life::start(alloc, scene.graph(), toys(alloc)?, 0, 9)?;
     let frame = i64::from(at);
