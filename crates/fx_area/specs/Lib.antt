@@ -14,4 +14,3 @@ pub mod Gathered
 pub mod Convolve3
 pub mod Convolve3Laws
 pub mod ConvolveRows
-pub mod Here

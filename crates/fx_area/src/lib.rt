@@ -8,8 +8,6 @@ mod dilate;
 mod erode;
 mod extreme;
 mod lines;
-#[cfg(test)]
-mod tests;
 
 pub use boxblur::Boxblur;
 pub use convolve3::Convolve3;

@@ -10,8 +10,6 @@ mod name;
 mod pattern;
 mod rect;
 mod status;
-#[cfg(test)]
-mod tests;
 
 pub use fix::Fix;
 pub use grid::Grid;

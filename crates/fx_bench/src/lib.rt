@@ -6,7 +6,5 @@ mod draws;
 mod frames;
 mod graph;
 mod making;
-#[cfg(test)]
-mod tests;
 
 pub use making::{Bench, make};

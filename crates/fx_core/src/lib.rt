@@ -7,8 +7,6 @@ mod flying;
 mod kept;
 mod laws;
 mod single_flight;
-#[cfg(test)]
-mod tests;
 mod totals;
 
 pub use flight::{Answer, Flight, Permit, Ticket};

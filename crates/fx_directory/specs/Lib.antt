@@ -2,4 +2,3 @@ pub mod Rows
 pub mod Keeps
 pub mod Seats
 pub mod Sitting
-pub mod Askers

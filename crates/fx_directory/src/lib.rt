@@ -7,8 +7,6 @@ mod guarded;
 mod home;
 mod seat;
 mod suits;
-#[cfg(test)]
-mod tests;
 mod turn;
 
 pub use directory::Directory;

@@ -17,8 +17,6 @@ mod points;
 mod rows;
 mod runs;
 mod steps;
-#[cfg(test)]
-mod tests;
 mod values;
 
 pub use action::{Context, Identity, Reply, Safety};

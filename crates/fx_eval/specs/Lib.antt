@@ -6,4 +6,3 @@ pub mod Inputs
 pub mod Filled
 pub mod Flights
 pub mod Renders
-pub mod Toy

@@ -11,10 +11,6 @@ mod inputs;
 mod picture;
 mod readers;
 mod site;
-#[cfg(test)]
-mod tests;
-#[cfg(test)]
-mod toy;
 mod whole;
 mod window;
 

@@ -5,8 +5,6 @@
 
 mod gates;
 mod hold;
-#[cfg(test)]
-mod tests;
 mod workspace;
 
 pub use gates::{GateSeat, Gates};

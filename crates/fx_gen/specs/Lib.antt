@@ -4,7 +4,6 @@ pub mod Factor
 pub mod Grain
 pub mod GrainLaws
 pub mod Grey
-pub mod Here
 pub mod Ramp
 pub mod RampLaws
 pub mod Solid

@@ -6,8 +6,6 @@ mod generator;
 mod grain;
 mod ramp;
 mod solid;
-#[cfg(test)]
-mod tests;
 
 pub use checker::Checker;
 pub use grain::Grain;

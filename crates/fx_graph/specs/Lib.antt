@@ -7,4 +7,3 @@ pub mod Params
 pub mod Nodes
 pub mod Graphs
 pub mod Described
-pub mod Toy

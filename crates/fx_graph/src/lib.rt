@@ -13,10 +13,6 @@ mod node;
 mod params;
 mod places;
 mod refuse;
-#[cfg(test)]
-mod tests;
-#[cfg(test)]
-mod toy;
 
 pub use accepting::accept;
 pub use graph::{Graph, lawful_values, rendered_forms};

@@ -10,8 +10,6 @@ mod layout;
 mod part;
 mod rows;
 pub mod samples;
-#[cfg(test)]
-mod tests;
 mod view;
 
 pub use image::Image;

@@ -7,8 +7,6 @@ mod blend;
 mod cells;
 mod mean;
 mod products;
-#[cfg(test)]
-mod tests;
 mod windows;
 
 pub use blend::{blend_row, in_units};

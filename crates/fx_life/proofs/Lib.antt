@@ -6,4 +6,3 @@ mod Places
 mod SeatLemmas
 pub mod LifeLemmas
 mod Filling
-mod ToyLemmas

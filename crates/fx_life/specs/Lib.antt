@@ -4,4 +4,3 @@ pub mod Life
 pub mod Running
 pub mod Seats
 pub mod Filled
-pub mod Toys

@@ -13,8 +13,6 @@ mod life;
 mod loaded;
 mod running;
 mod seats;
-#[cfg(test)]
-mod tests;
 mod uses;
 
 pub use described::Described;

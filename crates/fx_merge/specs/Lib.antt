@@ -4,4 +4,3 @@ pub mod Merge
 pub mod MergeLaws
 pub mod Keymix
 pub mod KeymixLaws
-pub mod Here

@@ -5,8 +5,6 @@
 mod keymix;
 mod merge;
 mod operation;
-#[cfg(test)]
-mod tests;
 
 pub use keymix::Keymix;
 pub use merge::Merge;

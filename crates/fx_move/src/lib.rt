@@ -9,6 +9,3 @@ mod translate;
 pub use crop::Crop;
 pub use mirror::Mirror;
 pub use translate::Translate;
-
-#[cfg(test)]
-mod tests;

@@ -7,8 +7,6 @@ pub mod laws;
 pub mod numbers;
 mod raster;
 mod reader;
-#[cfg(test)]
-mod tests;
 mod writer;
 
 pub use fault::{PamFault, PamField};

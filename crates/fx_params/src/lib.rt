@@ -10,6 +10,3 @@ mod param;
 
 pub use def::{ParamDef, ParamFault, ParamKind, ParamValue};
 pub use param::Param;
-
-#[cfg(test)]
-mod tests;

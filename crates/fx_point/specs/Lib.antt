@@ -2,7 +2,6 @@ pub mod Colours
 pub mod Factors
 pub mod Gain
 pub mod GainLaws
-pub mod Here
 pub mod Invert
 pub mod InvertLaws
 pub mod Levels

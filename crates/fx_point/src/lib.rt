@@ -8,8 +8,6 @@ mod posterise;
 mod premult;
 mod saturation;
 mod shuffle;
-#[cfg(test)]
-mod tests;
 mod unpremult;
 
 pub use gain::Gain;

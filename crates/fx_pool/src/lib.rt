@@ -7,8 +7,6 @@ mod items;
 mod job;
 mod numbers;
 mod rule;
-#[cfg(test)]
-mod tests;
 mod worker;
 
 pub use draw::{Draw, DrawSeat};

@@ -8,9 +8,6 @@ ghost use Rattle.fx_prefs.specs.Prefs.{has_short, has_rgba, are_masks};
 
 use fx_pixel::{Components, Depth};
 
-#[cfg(test)]
-mod tests;
-
 /// The depth and the components of a node. The inputs are the connected ones, each with its depth, its
 /// components and whether it is a mask. `byte`, `short` and `alpha` say what the effect supports beside
 /// RGBA. The depth is the deepest of the inputs, or the only one that is supported. The components are

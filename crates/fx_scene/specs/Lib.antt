@@ -7,4 +7,3 @@ pub mod Reach
 pub mod Wants
 pub mod Depends
 pub mod Scenes
-pub mod Toy

@@ -8,10 +8,6 @@ pub mod laws;
 mod reaching;
 mod reads;
 mod scene;
-#[cfg(test)]
-mod tests;
-#[cfg(test)]
-mod toy;
 mod values;
 mod wanting;
 

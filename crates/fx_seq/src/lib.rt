@@ -5,8 +5,6 @@ mod fault;
 mod frame;
 pub mod laws;
 mod store;
-#[cfg(test)]
-mod tests;
 mod wanted;
 
 pub use fault::SeqFault;

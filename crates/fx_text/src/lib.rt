@@ -10,8 +10,6 @@ mod object;
 mod params;
 mod path;
 mod raw;
-#[cfg(test)]
-mod tests;
 mod value;
 
 pub use fault::{GraphCode, GraphFault};

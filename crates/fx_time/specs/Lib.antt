@@ -9,4 +9,3 @@ pub mod EchoLaws
 pub mod Frameblend
 pub mod FrameblendLaws
 pub mod BlendRows
-pub mod Here

@@ -6,8 +6,6 @@ mod echo;
 mod frameblend;
 mod framediff;
 mod parts;
-#[cfg(test)]
-mod tests;
 mod three;
 mod timeoffset;
 mod weight;

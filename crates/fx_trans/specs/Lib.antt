@@ -4,4 +4,3 @@ pub mod Dissolve
 pub mod DissolveLaws
 pub mod Wipe
 pub mod WipeLaws
-pub mod Here

@@ -4,8 +4,6 @@
 
 mod dissolve;
 mod parts;
-#[cfg(test)]
-mod tests;
 mod wipe;
 
 pub use dissolve::Dissolve;

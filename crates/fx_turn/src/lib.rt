@@ -10,8 +10,6 @@ mod kept;
 mod memory;
 mod rule;
 mod seat;
-#[cfg(test)]
-mod tests;
 mod turns;
 
 pub use fits::Fits;

@@ -7,8 +7,6 @@ mod fault;
 mod law;
 mod order;
 mod report;
-#[cfg(test)]
-mod tests;
 mod words;
 
 pub use fault::{FrameFault, RunFault, fault_text};

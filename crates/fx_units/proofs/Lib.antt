@@ -1,0 +1,4 @@
+pub mod ActionsToyLemmas
+pub mod LifeToyLemmas
+pub mod RegionToyLemmas
+pub mod TileCountingLemmas

@@ -1,0 +1,6 @@
+use Rattle.std.proofs.Common.{[]}
+use Rattle.fx_directory.proofs.CallerLemmas.{last_leaves}
+use Rattle.fx_units.proofs.directory.doubles.land.Goals as goal
+
+pub returns-clause-aloft : goal.returns-clause-aloft
+returns-clause-aloft g c = last_leaves c.args.seat.now.aloft c.land.new.seat.aloft [] c.args.flight c.in-Ok.ensures.aloft c.requires.own

@@ -1,0 +1,168 @@
+ghost use Rattle.fx_image.specs.Stored.{SameFrame};
+
+use fx_base::Rect;
+use fx_image::laws::a_row_is_written;
+use fx_image::samples::{copy_pixels, pixel, pixel_size, sample, set_pixel, set_sample};
+use fx_image::{Image, Layout};
+use fx_pixel::{Components, Depth, Pixel};
+use std::test::Fail;
+
+const GREY: Pixel = Pixel::Rgba {
+    r: 258,
+    g: 258,
+    b: 258,
+    a: 258,
+};
+
+const CLEAR: Pixel = Pixel::Rgba {
+    r: 0,
+    g: 0,
+    b: 0,
+    a: 0,
+};
+
+#[test]
+fn pixels_are_put_and_read(rt: HostRuntime) -> Result<(), Fail> {
+    let rect = Rect::of(-1, 2, 2, 4);
+    let mut image = Image::new(rt.alloc(), rect, Depth::Short, Components::Rgba, 25)?;
+    assert_eq!(rt; (image.rect(), image.row_bytes()), (rect, 25));
+    assert_eq!(rt;
+        (image.depth(), image.components()),
+        (Depth::Short, Components::Rgba)
+    );
+    image.put(1, 3, GREY);
+    assert_eq!(rt; image.at(1, 3), GREY);
+    for (x, y) in [(0, 3), (1, 2), (-1, 2), (2, 3), (1, 4), (-2, 3), (1, 1)] {
+        assert_eq!(rt; image.at(x, y), CLEAR, "at {x} {y}");
+    }
+    Ok(())
+}
+
+#[test]
+fn views_are_read_by_rows(rt: HostRuntime) -> Result<(), Fail> {
+    let rect = Rect::of(0, 0, 2, 1);
+    let mut image = Image::new(rt.alloc(), rect, Depth::Short, Components::Rgba, 16)?;
+    image.put(1, 0, GREY);
+    let view = image.view(Rect::of(1, 0, 2, 1));
+    assert_eq!(rt; view.rect(), Rect::of(1, 0, 2, 1));
+    assert_eq!(rt;
+        (view.depth(), view.components()),
+        (Depth::Short, Components::Rgba)
+    );
+    assert_eq!(rt; (view.at(0, 0), view.at(1, 0)), (CLEAR, GREY));
+    assert_eq!(rt; view.row(0), [1, 2, 1, 2, 1, 2, 1, 2].as_slice());
+    Ok(())
+}
+
+#[test]
+fn pixels_of_a_row_are_read_and_set(rt: HostRuntime) {
+    let mut row = [0u8; 16];
+    set_pixel(Depth::Short, &mut row, 1, GREY);
+    assert_eq!(rt; row, [0, 0, 0, 0, 0, 0, 0, 0, 1, 2, 1, 2, 1, 2, 1, 2]);
+    assert_eq!(rt; sample(Depth::Short, &row, 4), 258);
+    assert_eq!(rt; pixel(Depth::Short, Components::Rgba, &row, 1), GREY);
+    assert_eq!(rt; pixel_size(Depth::Short, Components::Rgba), 8);
+    set_sample(Depth::Short, &mut row, 1, 772);
+    assert_eq!(rt; row, [0, 0, 3, 4, 0, 0, 0, 0, 1, 2, 1, 2, 1, 2, 1, 2]);
+}
+
+#[test]
+fn pixels_are_copied_between_rows(rt: HostRuntime) {
+    let source = [1, 2, 3, 4];
+    let mut row = [9u8; 8];
+    copy_pixels(Depth::Short, Components::Alpha, &source, &mut row, 1, 2);
+    assert_eq!(rt; row, [9, 9, 1, 2, 3, 4, 9, 9]);
+}
+
+#[test]
+fn parts_are_written_by_rows(rt: HostRuntime) -> Result<(), Fail> {
+    let mut image = Image::new(
+        rt.alloc(),
+        Rect::of(0, 0, 3, 2),
+        Depth::Short,
+        Components::Alpha,
+        8,
+    )?;
+    let mut part = image.part(Rect::of(1, 1, 3, 2));
+    assert_eq!(rt; part.rect(), Rect::of(1, 1, 3, 2));
+    assert_eq!(rt;
+        (part.depth(), part.components()),
+        (Depth::Short, Components::Alpha)
+    );
+    part.pixels_fit();
+    assert_eq!(rt; part.row_bytes(), 4);
+    a_row_is_written();
+    let row = part.row_mut(1);
+    assert_eq!(rt; row.len(), 4);
+    row[0] = 1;
+    row[1] = 2;
+    part.put(2, 1, Pixel::Alpha { a: 65535 });
+    assert_eq!(rt; part.at(1, 1), Pixel::Alpha { a: 258 });
+    assert_eq!(rt; part.at(0, 1), Pixel::Alpha { a: 0 });
+    let shown = [(0, 1, 0), (1, 1, 258), (2, 1, 65535), (1, 0, 0), (3, 1, 0)];
+    for (x, y, a) in shown {
+        assert_eq!(rt; image.at(x, y), Pixel::Alpha { a }, "at {x} {y}");
+    }
+    Ok(())
+}
+
+#[test]
+fn a_tile_is_written_into_a_wider_part(rt: HostRuntime) -> Result<(), Fail> {
+    let whole = Rect::of(0, 0, 3, 2);
+    let mut image = Image::new(rt.alloc(), whole, Depth::Byte, Components::Alpha, 3)?;
+    let mut part = image.part(whole);
+    let row = part.row_within_mut(Rect::of(1, 0, 3, 1), 0);
+    assert_eq!(rt; row.len(), 2);
+    row[0] = 5;
+    row[1] = 6;
+    for (x, y, a) in [
+        (0, 0, 0),
+        (1, 0, 5),
+        (2, 0, 6),
+        (0, 1, 0),
+        (1, 1, 0),
+        (2, 1, 0),
+    ] {
+        assert_eq!(rt; image.at(x, y), Pixel::Alpha { a }, "at {x} {y}");
+    }
+    Ok(())
+}
+
+// Writes a pixel of a band that has the place.
+fn mark(band: &mut Image, x: i64, y: i64)
+    ensures { SameFrame band.old band.new }
+{
+    if band.rect().holds(x, y) && band.components() == Components::Alpha {
+        band.put(x, y, Pixel::Alpha { a: 7 });
+    }
+}
+
+#[test]
+fn an_image_is_cut_into_bands(rt: HostRuntime) -> Result<(), Fail> {
+    let layout = Layout {
+        rect: Rect::of(0, 0, 3, 5),
+        depth: Depth::Byte,
+        components: Components::Alpha,
+        row_bytes: 3,
+        band_rows: 2,
+    };
+    let image = Image::in_bands(rt.alloc(), &layout)?;
+    let mut bands = image.into_bands(rt.alloc())?;
+    assert_eq!(rt; bands.len(), 3);
+    assert_eq!(rt; bands[0].rect(), Rect::of(0, 0, 3, 2));
+    assert_eq!(rt; bands[1].rect(), Rect::of(0, 2, 3, 4));
+    assert_eq!(rt; bands[2].rect(), Rect::of(0, 4, 3, 5));
+    mark(&mut bands[1], 2, 3);
+    let image = Image::of_bands(rt.alloc(), &layout, bands)?;
+    for (x, y, a) in [
+        (2, 3, 7),
+        (1, 3, 0),
+        (2, 2, 0),
+        (2, 1, 0),
+        (2, 4, 0),
+        (0, 0, 0),
+    ] {
+        assert_eq!(rt; image.at(x, y), Pixel::Alpha { a }, "at {x} {y}");
+    }
+    Ok(())
+}

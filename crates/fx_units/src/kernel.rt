@@ -1,0 +1,104 @@
+//! Values worked by hand.
+use fx_kernel::{
+    Mean, Windows, add_row, blend_row, clear, divided, in_units, mixed, product, take_row,
+    write_means, write_window_means,
+};
+use fx_pixel::Depth;
+
+#[test]
+fn means_are_rounded(rt: HostRuntime) {
+    let thirds = Mean::of(3);
+    for (sum, mean) in [
+        (0, 0),
+        (1, 0),
+        (2, 1),
+        (3, 1),
+        (382, 127),
+        (383, 128),
+        (765, 255),
+    ] {
+        assert!(rt; sum <= 765);
+        assert_eq!(rt; thirds.sample(Depth::Byte, sum), mean, "at {sum}");
+    }
+    let halves = Mean::of(2);
+    assert_eq!(rt;
+        (
+            halves.sample(Depth::Short, 1),
+            halves.sample(Depth::Short, 131069)
+        ),
+        (1, 65535)
+    );
+    let squares = Mean::of(16641);
+    assert_eq!(rt; squares.sample(Depth::Short, 1090567935), 65535);
+    assert_eq!(rt; squares.sample(Depth::Short, 8320), 0);
+    assert_eq!(rt; squares.sample(Depth::Short, 8321), 1);
+    let most = Mean::of(65536);
+    assert_eq!(rt; most.sample(Depth::Short, 4294901760), 65535);
+    assert_eq!(rt;
+        (
+            most.sample(Depth::Byte, 32767),
+            most.sample(Depth::Byte, 32768)
+        ),
+        (0, 1)
+    );
+}
+
+#[test]
+fn samples_are_multiplied(rt: HostRuntime) {
+    assert_eq!(rt;
+        (product(Depth::Byte, 1, 127), product(Depth::Byte, 1, 128)),
+        (0, 1)
+    );
+    assert_eq!(rt; product(Depth::Byte, 255, 200), 200);
+    assert_eq!(rt; product(Depth::Short, 32768, 65535), 32768);
+    assert_eq!(rt;
+        (mixed(Depth::Byte, 255, 7, 9), mixed(Depth::Byte, 0, 7, 9)),
+        (7, 9)
+    );
+    assert_eq!(rt; mixed(Depth::Byte, 128, 10, 20), 15);
+    assert_eq!(rt;
+        (divided(Depth::Short, 32767), divided(Depth::Short, 32768)),
+        (0, 1)
+    );
+    assert_eq!(rt;
+        (in_units(32767), in_units(32768), in_units(98303)),
+        (0, 1, 1)
+    );
+}
+
+#[test]
+fn rows_are_blended(rt: HostRuntime) {
+    let mut bytes = [0, 100, 255];
+    blend_row(Depth::Byte, 32768, &[255, 200, 255], &mut bytes, 3);
+    assert_eq!(rt; bytes.as_slice(), [128, 150, 255].as_slice());
+    let mut shorts = [1, 0, 255, 255];
+    blend_row(Depth::Short, 16384, &[0, 0, 0, 0], &mut shorts, 2);
+    assert_eq!(rt; shorts.as_slice(), [0, 192, 191, 255].as_slice());
+}
+
+#[test]
+fn rows_are_summed(rt: HostRuntime) {
+    let row = [1, 2, 0, 255];
+    let mut cells = [9, 9];
+    clear(&mut cells);
+    add_row(Depth::Short, &row, &mut cells);
+    assert_eq!(rt; cells.as_slice(), [258, 255].as_slice());
+    take_row(Depth::Short, &row, &mut cells);
+    assert_eq!(rt; cells.as_slice(), [0, 0].as_slice());
+}
+
+#[test]
+fn means_are_written(rt: HostRuntime) {
+    let cells = [3, 6, 9, 13];
+    let mut row = [0; 8];
+    write_means(Depth::Short, Mean::of(2), &cells, &mut row);
+    assert_eq!(rt; row.as_slice(), [0, 2, 0, 3, 0, 5, 0, 7].as_slice());
+    let windows = Windows {
+        step: 1,
+        count: 2,
+        more: 2,
+    };
+    let mut means = [0, 0];
+    write_window_means(Depth::Byte, Mean::of(3), &cells, windows, &mut means);
+    assert_eq!(rt; means.as_slice(), [6, 9].as_slice());
+}

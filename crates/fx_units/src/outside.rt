@@ -1,0 +1,118 @@
+use fx_base::Name;
+use fx_outside::{
+    Depot, FetchFault, FileDepot, FileLibrary, FreePace, Library, MemoryDepot, MemoryLibrary,
+    MemorySink, Pace, PutFault, Sink, StdSink, SureDepot, SureLibrary, SureSink,
+};
+use std::alloc::{AllocError, Global};
+use std::test::Fail;
+
+fn named(alloc: Global, text: &str) -> Result<Name, AllocError> {
+    Ok(Name::of(String::from_str(alloc, text)?))
+}
+
+#[test]
+fn library_fails_as_listed(rt: HostRuntime) -> Result<(), Fail> {
+    let alloc = rt.alloc();
+    let bytes = b"two".to_vec(alloc)?;
+    let other = b"".to_vec(alloc)?;
+    let files = vec![in alloc; (named(alloc, "a")?, bytes), (named(alloc, "b")?, other)]?;
+    let mut library = MemoryLibrary::new(alloc, files, vec![in alloc; 2, 4]?);
+    assert_eq!(rt; library.fetch(alloc, "a")?.as_slice(), b"two".as_slice());
+    assert_eq!(rt; library.fetch(alloc, "a").err(), Some(FetchFault::Failed));
+    assert_eq!(rt; library.fetch(alloc, "b")?.len(), 0);
+    assert_eq!(rt; library.fetch(alloc, "a").err(), Some(FetchFault::Failed));
+    assert_eq!(rt; library.fetch(alloc, "c").err(), Some(FetchFault::Failed));
+    assert_eq!(rt; library.fetch(alloc, "a")?.len(), 3);
+    Ok(())
+}
+
+#[test]
+fn depot_fails_as_listed(rt: HostRuntime) -> Result<(), Fail> {
+    let alloc = rt.alloc();
+    let mut depot = MemoryDepot::new(alloc, vec![in alloc; 3]?);
+    assert_eq!(rt; depot.get("a"), None);
+    depot.put(alloc, "a", b"one")?;
+    depot.put(alloc, "b", b"")?;
+    assert_eq!(rt; depot.put(alloc, "a", b"two").err(), Some(PutFault::Failed));
+    assert_eq!(rt; depot.get("a").ok_or("no a")?, b"one".as_slice());
+    depot.put(alloc, "a", b"three")?;
+    assert_eq!(rt; depot.get("a").ok_or("no a")?, b"three".as_slice());
+    assert_eq!(rt; depot.get("b").ok_or("no b")?.len(), 0);
+    Ok(())
+}
+
+#[test]
+fn sink_fails_as_listed(rt: HostRuntime) -> Result<(), Fail> {
+    let alloc = rt.alloc();
+    let mut sink = MemorySink::new(alloc, vec![in alloc; 2]?);
+    sink.write(alloc, b"ab")?;
+    assert_eq!(rt; sink.write(alloc, b"c").err(), Some(PutFault::Failed));
+    sink.write(alloc, b"d")?;
+    assert_eq!(rt; sink.bytes(), b"abd".as_slice());
+    FreePace.before_draw(0);
+    Ok(())
+}
+
+#[test]
+fn sure_library_has_every_name(rt: HostRuntime) -> Result<(), Fail> {
+    let alloc = rt.alloc();
+    let bytes = b"two".to_vec(alloc)?;
+    let mut library = SureLibrary::new(alloc, vec![in alloc; (named(alloc, "a")?, bytes)]?);
+    assert_eq!(rt; library.fetch(alloc, "a")?.as_slice(), b"two".as_slice());
+    assert_eq!(rt; library.fetch(alloc, "b")?.len(), 0);
+    assert_eq!(rt; library.fetch(alloc, "a")?.as_slice(), b"two".as_slice());
+    Ok(())
+}
+
+#[test]
+fn sure_depot_takes_every_put(rt: HostRuntime) -> Result<(), Fail> {
+    let alloc = rt.alloc();
+    let mut depot = SureDepot::new(alloc);
+    assert_eq!(rt; depot.get("a"), None);
+    depot.put(alloc, "a", b"one")?;
+    depot.put(alloc, "b", b"")?;
+    depot.put(alloc, "a", b"three")?;
+    assert_eq!(rt; depot.get("a").ok_or("no a")?, b"three".as_slice());
+    assert_eq!(rt; depot.get("b").ok_or("no b")?.len(), 0);
+    assert_eq!(rt; depot.get("c"), None);
+    Ok(())
+}
+
+#[test]
+fn sure_sink_takes_every_write(rt: HostRuntime) -> Result<(), Fail> {
+    let alloc = rt.alloc();
+    let mut sink = SureSink::new(alloc);
+    assert_eq!(rt; sink.bytes().len(), 0);
+    sink.write(alloc, b"ab")?;
+    sink.write(alloc, b"c")?;
+    assert_eq!(rt; sink.bytes(), b"abc".as_slice());
+    Ok(())
+}
+
+#[test]
+fn real_files_are_written_and_read(rt: HostRuntime) -> Result<(), Fail> {
+    let alloc = rt.alloc();
+    let mut depot = FileDepot::new(&rt, alloc);
+    let mut library = FileLibrary::new(&rt, alloc);
+    depot.put(alloc, "fx_outside_test.bin", b"longer than the next")?;
+    depot.put(alloc, "fx_outside_test.bin", b"\x00\xff")?;
+    assert_eq!(rt;
+        library.fetch(alloc, "fx_outside_test.bin")?.as_slice(),
+        b"\x00\xff".as_slice()
+    );
+    assert_eq!(rt;
+        library.fetch(alloc, "no_such_folder/file").err(),
+        Some(FetchFault::Failed)
+    );
+    assert_eq!(rt; library.fetch(alloc, ".").err(), Some(FetchFault::Failed));
+    assert_eq!(rt;
+        depot.put(alloc, "no_such_folder/file", b"x").err(),
+        Some(PutFault::Failed)
+    );
+    assert_eq!(rt;
+        depot.put(alloc, "/dev/full", b"x").err(),
+        Some(PutFault::Failed)
+    );
+    StdSink::new(rt.stdout()).write(alloc, b"")?;
+    Ok(())
+}

@@ -1,0 +1,162 @@
+use fx_base::Rect;
+use fx_image::Image;
+use fx_pam::laws::{one_or_the_other, reads_back};
+use fx_pam::{PamFault, PamField, read, write};
+use fx_pixel::{Components, Depth, Format, Pixel};
+use std::test::Fail;
+
+// A file of two pixels in one row, and their samples. What follows the raster is left unread.
+const ROWS: [(&[u8], [u16; 4], [u16; 4]); 5] = [
+    (
+        b"P7\n# note\nMAXVAL 100\n\nDEPTH 1\nHEIGHT 1\nWIDTH 2\nTUPLTYPE GRAYSCALE\nENDHDR\n\x32\x64P7\nWIDTH 1\n",
+        [128, 128, 128, 255],
+        [255, 255, 255, 255],
+    ),
+    (
+        b"P7\nWIDTH\t 2\t\r\nHEIGHT 1\n TUPLTYPE\nTUPLTYPE x y\nDEPTH 2\nMAXVAL 256\n\rENDHDR \n\0\x01\x01\0\0\0\0\0",
+        [256, 256, 256, 65535],
+        [0, 0, 0, 0],
+    ),
+    (
+        b"P7\nWIDTH 2\nHEIGHT 1\nDEPTH 3\nMAXVAL 255\nENDHDR\n\x01\x02\x03\xfd\xfe\xff",
+        [1, 2, 3, 255],
+        [253, 254, 255, 255],
+    ),
+    (
+        b"P7\nWIDTH 2\nHEIGHT 1\nDEPTH 4\nMAXVAL 255\nENDHDR\n\x01\x02\x03\x04\xfc\xfd\xfe\xff\x09",
+        [1, 2, 3, 4],
+        [252, 253, 254, 255],
+    ),
+    (
+        b"P7\nWIDTH 2\nHEIGHT 1\nDEPTH 4\nMAXVAL 65535\nENDHDR\n\x01\x02\x03\x04\x05\x06\x07\x08\0\0\0\x01\x01\0\xff\xff",
+        [258, 772, 1286, 1800],
+        [0, 1, 256, 65535],
+    ),
+];
+
+#[test]
+fn pixels_are_read(rt: HostRuntime) -> Result<(), Fail> {
+    for (bytes, left, right) in ROWS {
+        let image = read(rt.alloc(), bytes, 2)?;
+        let [r, g, b, a] = left;
+        assert_eq!(rt; image.at(0, 0), Pixel::Rgba { r, g, b, a });
+        let [r, g, b, a] = right;
+        assert_eq!(rt; image.at(1, 0), Pixel::Rgba { r, g, b, a });
+    }
+    Ok(())
+}
+
+#[test]
+fn the_first_row_is_the_top(rt: HostRuntime) -> Result<(), Fail> {
+    let bytes = b"P7\nWIDTH 1\nHEIGHT 2\nDEPTH 1\nMAXVAL 255\nENDHDR\n\x01\x02";
+    let image = read(rt.alloc(), bytes, 2)?;
+    let (top, bottom) = (image.at(0, 1), image.at(0, 0));
+    assert_eq!(rt;
+        top,
+        Pixel::Rgba {
+            r: 1,
+            g: 1,
+            b: 1,
+            a: 255
+        }
+    );
+    assert_eq!(rt;
+        bottom,
+        Pixel::Rgba {
+            r: 2,
+            g: 2,
+            b: 2,
+            a: 255
+        }
+    );
+    Ok(())
+}
+
+const FAULTS: [(&[u8], PamFault); 17] = [
+    (b"", PamFault::NotPam),
+    (b"P7", PamFault::NotPam),
+    (b"P6\nWIDTH 1\n", PamFault::NotPam),
+    (b"P7\n", PamFault::HeaderWrong(2)),
+    (b"P7\n# note\nMAXVAL 10", PamFault::HeaderWrong(3)),
+    (
+        b"P7\nWIDTH 1\nHEIGHT 1\nWIDTH 1\n",
+        PamFault::HeaderWrong(4),
+    ),
+    (b"P7\nWIDTH1\n", PamFault::HeaderWrong(2)),
+    (b"P7\nWIDTH 1x\n", PamFault::HeaderWrong(2)),
+    (b"P7\nTUPLTYPEX\n", PamFault::HeaderWrong(2)),
+    (
+        b"P7\nWIDTH 1\nHEIGHT 1\nDEPTH 1\nENDHDR\n\0",
+        PamFault::HeaderWrong(5),
+    ),
+    (
+        b"P7\nWIDTH 99999999999\nHEIGHT 0\nDEPTH 1\nMAXVAL 100\nENDHDR\n",
+        PamFault::SizeOutOfRange(PamField::Width),
+    ),
+    (
+        b"P7\nWIDTH 8192\nHEIGHT 8193\nDEPTH 5\nMAXVAL 100\nENDHDR\n",
+        PamFault::SizeOutOfRange(PamField::Height),
+    ),
+    (
+        b"P7\nWIDTH 2\nHEIGHT 1\nDEPTH 5\nMAXVAL 0\nENDHDR\n",
+        PamFault::SizeOutOfRange(PamField::Depth),
+    ),
+    (
+        b"P7\nWIDTH 2\nHEIGHT 1\nDEPTH 4\nMAXVAL 65536\nENDHDR\n",
+        PamFault::SizeOutOfRange(PamField::Maxval),
+    ),
+    (
+        b"P7\nWIDTH 2\nHEIGHT 1\nDEPTH 1\nMAXVAL 100\nENDHDR\n",
+        PamFault::Truncated(2, 0),
+    ),
+    (
+        b"P7\nWIDTH 2\nHEIGHT 1\nDEPTH 1\nMAXVAL 100\nENDHDR\n\x65",
+        PamFault::Truncated(2, 1),
+    ),
+    (
+        b"P7\nWIDTH 2\nHEIGHT 1\nDEPTH 1\nMAXVAL 100\nENDHDR\n\x32\x65",
+        PamFault::SampleAboveMaxval(1, 101),
+    ),
+];
+
+#[test]
+fn the_first_fault_is_told(rt: HostRuntime) {
+    for (bytes, fault) in FAULTS {
+        assert_eq!(rt; read(rt.alloc(), bytes, 8192).err(), Some(fault));
+    }
+}
+
+// One column of two rows, read from a file of RGBA.
+const COLUMN: &[u8] =
+    b"P7\nWIDTH 1\nHEIGHT 2\nDEPTH 4\nMAXVAL 65535\nENDHDR\n\0\x01\0\x02\0\x03\0\x04\x05\0\x06\0\x07\0\x08\0";
+
+#[test]
+fn rgba_is_written(rt: HostRuntime) -> Result<(), Fail> {
+    let image = read(rt.alloc(), COLUMN, 2)?;
+    let mut out = Vec::new(rt.alloc());
+    write(rt.alloc(), &image, Format::RgbAlpha, &mut out)?;
+    let all =
+        b"P7\nWIDTH 1\nHEIGHT 2\nDEPTH 4\nMAXVAL 65535\nTUPLTYPE RGB_ALPHA\nENDHDR\n\0\x01\0\x02\0\x03\0\x04\x05\0\x06\0\x07\0\x08\0";
+    assert_eq!(rt; out.as_slice(), all.as_slice());
+    let before = out.len();
+    write(rt.alloc(), &image, Format::Rgb, &mut out)?;
+    let colours =
+        b"P7\nWIDTH 1\nHEIGHT 2\nDEPTH 3\nMAXVAL 65535\nTUPLTYPE RGB\nENDHDR\n\0\x01\0\x02\0\x03\x05\0\x06\0\x07\0";
+    assert_eq!(rt; &out[before..], colours.as_slice());
+    reads_back();
+    one_or_the_other();
+    Ok(())
+}
+
+#[test]
+fn alpha_is_written(rt: HostRuntime) -> Result<(), Fail> {
+    let rect = Rect::of(-1, 0, 1, 1);
+    let mut image = Image::new(rt.alloc(), rect, Depth::Byte, Components::Alpha, 5)?;
+    image.put(-1, 0, Pixel::Alpha { a: 7 });
+    image.put(0, 0, Pixel::Alpha { a: 255 });
+    let mut out = Vec::new(rt.alloc());
+    write(rt.alloc(), &image, Format::Grayscale, &mut out)?;
+    let text = b"P7\nWIDTH 2\nHEIGHT 1\nDEPTH 1\nMAXVAL 255\nTUPLTYPE GRAYSCALE\nENDHDR\n\x07\xff";
+    assert_eq!(rt; out.as_slice(), text.as_slice());
+    Ok(())
+}

@@ -1,0 +1,177 @@
+//! Rows worked by hand: values between keys, refusals, and each call once with ample memory.
+ghost use Rattle.std.specs.Prelude.{◌≤ℤ◌, IfOk};
+
+use fx_base::{Fix, Name, Names};
+use fx_params::{Param, ParamDef, ParamFault, ParamKind, ParamValue};
+use std::alloc::{AllocError, Global};
+use std::test::Fail;
+
+// A definition from -20 to 20 that starts with 7.
+fn small(alloc: Global, kind: ParamKind) -> Result<ParamDef, AllocError>
+    ensures low { IfOk result (λ def. def.least ≤ℤ def.start) }
+    ensures high { IfOk result (λ def. def.start ≤ℤ def.greatest) }
+{
+    Ok(ParamDef {
+        name: Name::of(String::from_str(alloc, "amount")?),
+        kind,
+        least: -20,
+        greatest: 20,
+        choices: Names::of(Vec::new(alloc)),
+        start: 7,
+    })
+}
+
+#[test]
+fn falls_between_two_keys(rt: HostRuntime) -> Result<(), Fail> {
+    let mut param = Param::new(rt.alloc(), small(rt.alloc(), ParamKind::Int)?)?;
+    param.set_key(rt.alloc(), 13, ParamValue::Int(-10))?;
+    param.set_key(rt.alloc(), 10, ParamValue::Int(0))?;
+    for (frame, linear, stepped) in [
+        (9, 0, 0),
+        (10, 0, 0),
+        (11, -4, 0),
+        (12, -7, 0),
+        (13, -10, -10),
+        (14, -10, -10),
+    ] {
+        param.set_step(false);
+        assert_eq!(rt; param.value_at(frame), linear, "linear at {frame}");
+        param.set_step(true);
+        assert_eq!(rt; param.value_at(frame), stepped, "stepped at {frame}");
+    }
+
+    assert_eq!(rt; param.key_index(11), Err(ParamFault::NoSuchKey));
+    assert_eq!(rt; param.key_time(2), Err(ParamFault::BadIndex));
+    let refused = param.set_key(rt.alloc(), 11, ParamValue::Flag(true));
+    assert_eq!(rt; refused, Err(ParamFault::WrongKind));
+    assert_eq!(rt; param.key_count(), 2);
+    assert_eq!(rt; param.key_time(0), Ok(10));
+    assert_eq!(rt; param.key_time(1), Ok(13));
+    assert_eq!(rt; param.value_at(11), 0);
+    Ok(())
+}
+
+#[test]
+fn follows_keys_of_every_kind(rt: HostRuntime) -> Result<(), Fail> {
+    let unit = ParamValue::Fix(Fix { raw: 1 });
+    let below = ParamValue::Fix(Fix { raw: -1 });
+    for (kind, first, second, values) in [
+        (
+            ParamKind::Int,
+            ParamValue::Int(5),
+            ParamValue::Int(0),
+            [5, 5, 3, 2, 1, 0, 0],
+        ),
+        (ParamKind::Fix, below, unit, [-1, -1, -1, 0, 0, 1, 1]),
+        (
+            ParamKind::Bool,
+            ParamValue::Flag(true),
+            ParamValue::Flag(false),
+            [1, 1, 1, 1, 1, 0, 0],
+        ),
+        (
+            ParamKind::Choice,
+            ParamValue::Choice(4),
+            ParamValue::Choice(9),
+            [4, 4, 4, 4, 4, 9, 9],
+        ),
+    ] {
+        let mut param = Param::new(rt.alloc(), small(rt.alloc(), kind)?)?;
+        param.set_key(rt.alloc(), -3, first)?;
+        param.set_key(rt.alloc(), 1, second)?;
+        for (frame, value) in (-4..3).zip(values) {
+            assert_eq!(rt; param.value_at(frame), value, "{kind:?} at {frame}");
+        }
+    }
+    Ok(())
+}
+
+#[test]
+fn goes_all_the_way(rt: HostRuntime) -> Result<(), Fail> {
+    let mut def = small(rt.alloc(), ParamKind::Int)?;
+    def.least = i64::MIN;
+    def.greatest = i64::MAX;
+    let mut param = Param::new(rt.alloc(), def)?;
+    param.set_key(rt.alloc(), -1073741824, ParamValue::Int(i64::MIN))?;
+    param.set_key(rt.alloc(), 1073741824, ParamValue::Int(i64::MAX))?;
+    for (frame, value) in [
+        (-1073741824, i64::MIN),
+        (-1073741823, -9223372028264841217),
+        (0, -1),
+        (1073741823, 9223372028264841215),
+        (1073741824, i64::MAX),
+    ] {
+        assert_eq!(rt; param.value_at(frame), value, "at {frame}");
+    }
+    Ok(())
+}
+
+#[test]
+fn sets_and_deletes(rt: HostRuntime) -> Result<(), Fail> {
+    let mut param = Param::new(rt.alloc(), small(rt.alloc(), ParamKind::Choice)?)?;
+    assert_eq!(rt; param.def().name.text(), "amount");
+    assert_eq!(rt;
+        (param.plain(), param.is_step(), param.key_count()),
+        (7, false, 0)
+    );
+    assert_eq!(rt; param.value_at(5), 7);
+    assert_eq!(rt; param.set_value(ParamValue::Choice(20)), Ok(()));
+    assert_eq!(rt;
+        param.set_value(ParamValue::Choice(21)),
+        Err(ParamFault::OutOfRange)
+    );
+    assert_eq!(rt;
+        param.set_value(ParamValue::Int(21)),
+        Err(ParamFault::WrongKind)
+    );
+    assert_eq!(rt; param.plain(), 20);
+    param.set_step(true);
+    assert!(rt; param.is_step());
+
+    for (frame, place, count) in [(4, 3, 1), (2, 5, 2), (4, 6, 2), (9, 1, 3)] {
+        param.set_key(rt.alloc(), frame, ParamValue::Choice(place))?;
+        assert_eq!(rt; param.key_count(), count, "with {frame}");
+        assert_eq!(rt; param.value_at(frame), i64::from(place), "at {frame}");
+    }
+    assert_eq!(rt; param.key_index(9), Ok(2));
+    assert_eq!(rt; param.delete_key(4), Ok(()));
+    assert_eq!(rt; param.delete_key(4), Err(ParamFault::NoSuchKey));
+    assert_eq!(rt; param.key_index(9), Ok(1));
+    assert_eq!(rt; param.value_at(8), 5);
+    param.delete_all();
+    assert_eq!(rt; param.key_count(), 0);
+    assert_eq!(rt; param.value_at(8), 20);
+    Ok(())
+}
+
+#[test]
+fn defines_each_kind(rt: HostRuntime) -> Result<(), Fail> {
+    let alloc = rt.alloc();
+    let (low, high) = (Fix { raw: -1 }, Fix { raw: 65536 });
+    let whole = ParamDef::int(alloc, "radius", 0, 64, 4)?;
+    let number = ParamDef::fix(alloc, "amount", low, high, Fix { raw: 7 })?;
+    let flag = ParamDef::flag(alloc, "invert", true)?;
+    let choice = ParamDef::choice(alloc, "mode", &["over", "plus"], 1)?;
+    for (def, name, kind, range, start, texts) in [
+        (&whole, "radius", ParamKind::Int, (0, 64), 4, 0),
+        (&number, "amount", ParamKind::Fix, (-1, 65536), 7, 0),
+        (&flag, "invert", ParamKind::Bool, (0, 1), 1, 0),
+        (&choice, "mode", ParamKind::Choice, (0, 1), 1, 2),
+    ] {
+        assert_eq!(rt; def.name.text(), name);
+        assert_eq!(rt; def.kind, kind);
+        assert_eq!(rt; (def.least, def.greatest), range);
+        assert_eq!(rt; (def.start, def.choices.items().len()), (start, texts));
+    }
+    assert_eq!(rt;
+        choice.choices.items().get(1).map(|text| text.text()),
+        Some("plus")
+    );
+    assert_eq!(rt; choice.taken(ParamValue::Choice(1)), Ok(1));
+    assert_eq!(rt;
+        choice.taken(ParamValue::Choice(2)),
+        Err(ParamFault::OutOfRange)
+    );
+    assert_eq!(rt; flag.taken(ParamValue::Int(1)), Err(ParamFault::WrongKind));
+    Ok(())
+}

@@ -1,0 +1,343 @@
+ghost use Rattle.std.specs.Prelude.{◌≡◌, ◌+◌, ◌%◌, ◌^◌, [], IfOk, vec_len};
+
+use fx_base::Memory;
+use fx_outside::{FreePace, Pace};
+use fx_pool::{Draw, DrawSeat, ItemJob, Job, work, work_items};
+use std::alloc::{AllocError, Global};
+use std::sync::Wait;
+use std::sync::atomic::{AtomicBool, AtomicU64, Ordering};
+use std::test::Fail;
+use std::thread;
+
+// Notes each number in the seat, which weighs as much as it has, and answers it.
+struct Notes;
+
+impl Job for Notes {
+    type Seat = Vec<u64>;
+
+    type Out = u64;
+
+    ghost fits = { λ _ _. Unit {0} };
+
+    ghost takes = { λ _ _. Unit {0} };
+
+    ghost right = { λ _ index out. out ≡ index };
+
+    ghost weight = { λ seat. (vec_len seat, 0) };
+
+    ghost out_weight = { λ _. (1, 0) };
+
+    fn turn<R: Wait>(
+        &self,
+        _rt: &R,
+        _alloc: Global,
+        seat: &mut Vec<u64>,
+        index: u64,
+    ) -> Result<u64, Memory> {
+        seat.push(index)?;
+        Ok(index)
+    }
+}
+
+// Answers want of memory on its first call.
+#[derive(Drop)]
+struct FailsFirst {
+    called: AtomicBool,
+}
+
+impl Job for FailsFirst {
+    type Seat = Vec<u64>;
+
+    type Out = u64;
+
+    ghost fits = { λ _ _. Unit {0} };
+
+    ghost takes = { λ _ _. Unit {0} };
+
+    ghost right = { λ _ index out. out ≡ index };
+
+    ghost weight = { λ _. (0, 0) };
+
+    ghost out_weight = { λ _. (0, 0) };
+
+    fn turn<R: Wait>(
+        &self,
+        _rt: &R,
+        _alloc: Global,
+        _seat: &mut Vec<u64>,
+        index: u64,
+    ) -> Result<u64, Memory> {
+        if self.called.swap(true, Ordering::SeqCst) {
+            Ok(index)
+        } else {
+            Err(Memory)
+        }
+    }
+}
+
+// Adds its index to each item, and answers what the item was.
+struct AddsIndex;
+
+impl ItemJob<u64> for AddsIndex {
+    type Seat = Vec<u64>;
+
+    type Out = u64;
+
+    ghost fits = { λ _ _. Unit {0} };
+
+    ghost takes = { λ _ _ _. Unit {0} };
+
+    ghost right = { λ _ index before after out. (after ≡ (before + index) % 2 ^ 64) × (out ≡ before) };
+
+    ghost weight = { λ seat. (vec_len seat, 0) };
+
+    ghost out_weight = { λ _. (1, 0) };
+
+    fn turn<R: Wait>(
+        &self,
+        _rt: &R,
+        _alloc: Global,
+        seat: &mut Vec<u64>,
+        index: u64,
+        item: &mut u64,
+    ) -> Result<u64, Memory> {
+        seat.push(index)?;
+        let before = *item;
+        *item = before.wrapping_add(index);
+        Ok(before)
+    }
+}
+
+// It lets neither worker 0 nor worker 1 out of its first call before the other has entered its own.
+#[derive(Drop)]
+struct HoldPace {
+    first: AtomicBool,
+    second: AtomicBool,
+    gave_up: AtomicBool,
+}
+
+// How often a held worker looks for the other one before it gives up.
+const TURNS: u32 = 100_000_000;
+
+impl HoldPace {
+    fn new() -> HoldPace {
+        HoldPace {
+            first: AtomicBool::new(false),
+            second: AtomicBool::new(false),
+            gave_up: AtomicBool::new(false),
+        }
+    }
+
+    // Whether both workers came, and neither gave up.
+    fn held_both(&self) -> bool {
+        self.first.load(Ordering::SeqCst)
+            && self.second.load(Ordering::SeqCst)
+            && !self.gave_up.load(Ordering::SeqCst)
+    }
+
+    fn hold(&self, mine: &AtomicBool, other: &AtomicBool) {
+        if mine.swap(true, Ordering::SeqCst) {
+            return;
+        }
+        for _ in 0..TURNS {
+            if other.load(Ordering::SeqCst) {
+                return;
+            }
+            thread::yield_now();
+        }
+        self.gave_up.store(true, Ordering::SeqCst);
+    }
+}
+
+impl Pace for HoldPace {
+    fn before_draw(&self, worker: u32) {
+        match worker {
+            0 => self.hold(&self.first, &self.second),
+            1 => self.hold(&self.second, &self.first),
+            _ => {}
+        }
+    }
+}
+
+// Counts its calls for each worker.
+#[derive(Drop)]
+struct CountPace {
+    calls: Vec<AtomicU64>,
+}
+
+impl CountPace {
+    fn of(alloc: Global, workers: usize) -> Result<CountPace, AllocError> {
+        let mut calls = Vec::new(alloc);
+        for _ in 0..workers {
+            calls.push(AtomicU64::new(0))?;
+        }
+        Ok(CountPace { calls })
+    }
+
+    // Whether each worker called it once more than it drew a number: its seat has what it drew. The
+    // last seat is the first worker's.
+    fn was_asked(&self, seats: &[Vec<u64>]) -> bool {
+        self.calls.len() == seats.len()
+            && self.calls.iter().zip(seats.iter().rev()).all(|(calls, seat)| calls.load(
+                Ordering::SeqCst,
+            ) == seat.len() as u64 + 1)
+    }
+}
+
+impl Pace for CountPace {
+    fn before_draw(&self, worker: u32) {
+        if let Some(calls) = self.calls.get(worker as usize) {
+            calls.fetch_add(1, Ordering::SeqCst);
+        }
+    }
+}
+
+// So many empty seats.
+fn empty_seats(alloc: Global, count: usize) -> Result<Vec<Vec<u64>>, AllocError>
+    ensures { IfOk result (λ seats. vec_len seats ≡ count) }
+{
+    let mut seats = Vec::new(alloc);
+    for _ in 0..count {
+        seats.push(Vec::new(alloc))?;
+    }
+    Ok(seats)
+}
+
+#[test]
+fn each_number_is_drawn_once(rt: HostRuntime) -> Result<(), Fail> {
+    let alloc = rt.alloc();
+    let (draw, mut first) = Draw::new(alloc, 3)?;
+    let mut second = draw.split(alloc, &mut first)?;
+    assert_eq!(rt; draw.next(&mut first), Some(0));
+    assert_eq!(rt; draw.next(&mut second), Some(1));
+    draw.join(&mut first, second);
+    Ok(())
+}
+
+// Draws all that is left.
+fn draw_out(alloc: Global, draw: &Draw, seat: &mut DrawSeat) -> Result<Vec<u64>, AllocError>
+    requires { (seat.old.draw ≡ draw.now) × (seat.old.past ≡ []) }
+{
+    let mut numbers = Vec::new(alloc);
+    for _ in 0..9u8 {
+        match draw.next(seat) {
+            Some(number) => numbers.push(number)?,
+            None => return Ok(numbers),
+        }
+    }
+    Ok(numbers)
+}
+
+#[test]
+fn none_comes_past_the_count(rt: HostRuntime) -> Result<(), Fail> {
+    let alloc = rt.alloc();
+    let (draw, mut seat) = Draw::new(alloc, 3)?;
+    let numbers = draw_out(alloc, &draw, &mut seat)?;
+    assert_eq!(rt; numbers.as_slice(), [0, 1, 2].as_slice());
+    let (draw, mut seat) = Draw::new(alloc, 0)?;
+    assert_eq!(rt; draw.next(&mut seat), None);
+    Ok(())
+}
+
+#[test]
+fn three_numbers_have_their_outs(rt: HostRuntime) -> Result<(), Fail> {
+    let alloc = rt.alloc();
+    let seats = empty_seats(alloc, 8)?;
+    let worked = work(&rt, alloc, &FreePace, 3, seats, &Notes).map_err(|refused| refused.1)?;
+    assert_eq!(rt; worked.outs.as_slice(), [(0, 0), (1, 1), (2, 2)].as_slice());
+    assert_eq!(rt; worked.seats.len(), 8);
+    Ok(())
+}
+
+#[test]
+fn no_number_has_no_out(rt: HostRuntime) -> Result<(), Fail> {
+    let alloc = rt.alloc();
+    let seats = empty_seats(alloc, 8)?;
+    let worked = work(&rt, alloc, &FreePace, 0, seats, &Notes).map_err(|refused| refused.1)?;
+    assert_eq!(rt; worked.outs.len(), 0);
+    assert_eq!(rt; worked.seats.len(), 8);
+    Ok(())
+}
+
+#[test]
+fn want_of_memory_hands_the_seats_back(rt: HostRuntime) -> Result<(), Fail> {
+    let alloc = rt.alloc();
+    let seats = empty_seats(alloc, 4)?;
+    let job = FailsFirst {
+        called: AtomicBool::new(false),
+    };
+    match work(&rt, alloc, &FreePace, 3, seats, &job) {
+        Ok(_worked) => assert!(rt; false, "memory was wanting"),
+        Err((seats, _memory)) => assert_eq!(rt; seats.len(), 4),
+    }
+    Ok(())
+}
+
+#[test]
+fn each_item_has_one_turn(rt: HostRuntime) -> Result<(), Fail> {
+    let alloc = rt.alloc();
+    let items = vec![in alloc; 10u64, 20, 30]?;
+    let seats = empty_seats(alloc, 8)?;
+    let worked = work_items(&rt, alloc, &FreePace, items, seats, &AddsIndex).map_err(
+        |refused| refused.1,
+    )?;
+    assert_eq!(rt; worked.items.as_slice(), [10, 21, 32].as_slice());
+    assert_eq!(rt; worked.outs.as_slice(), [10, 20, 30].as_slice());
+    assert_eq!(rt; worked.seats.len(), 8);
+    Ok(())
+}
+
+#[test]
+fn no_item_has_no_turn(rt: HostRuntime) -> Result<(), Fail> {
+    let alloc = rt.alloc();
+    let seats = empty_seats(alloc, 8)?;
+    let worked = work_items(&rt, alloc, &FreePace, Vec::new(alloc), seats, &AddsIndex).map_err(
+        |refused| refused.1,
+    )?;
+    assert_eq!(rt; worked.items.len(), 0);
+    assert_eq!(rt; worked.outs.len(), 0);
+    Ok(())
+}
+
+#[test]
+fn workers_run_beside_each_other(rt: HostRuntime) -> Result<(), Fail> {
+    let alloc = rt.alloc();
+    let pace = HoldPace::new();
+    let seats = empty_seats(alloc, 2)?;
+    let worked = work(&rt, alloc, &pace, 3, seats, &Notes).map_err(|refused| refused.1)?;
+    assert_eq!(rt; worked.outs.as_slice(), [(0, 0), (1, 1), (2, 2)].as_slice());
+    assert!(rt; pace.held_both());
+    Ok(())
+}
+
+#[test]
+fn workers_on_items_run_beside_each_other(rt: HostRuntime) -> Result<(), Fail> {
+    let alloc = rt.alloc();
+    let pace = HoldPace::new();
+    let items = vec![in alloc; 10u64, 20, 30]?;
+    let seats = empty_seats(alloc, 2)?;
+    let worked = work_items(&rt, alloc, &pace, items, seats, &AddsIndex).map_err(
+        |refused| refused.1,
+    )?;
+    assert_eq!(rt; worked.items.as_slice(), [10, 21, 32].as_slice());
+    assert!(rt; pace.held_both());
+    Ok(())
+}
+
+// Three workers draw twenty numbers, and then twenty items.
+#[test]
+fn pace_is_asked_before_each_draw(rt: HostRuntime) -> Result<(), Fail> {
+    let alloc = rt.alloc();
+    let pace = CountPace::of(alloc, 3)?;
+    let seats = empty_seats(alloc, 3)?;
+    let worked = work(&rt, alloc, &pace, 20, seats, &Notes).map_err(|refused| refused.1)?;
+    assert!(rt; pace.was_asked(worked.seats.as_slice()));
+    let pace = CountPace::of(alloc, 3)?;
+    let seats = empty_seats(alloc, 3)?;
+    let items = vec![in alloc; 5u64; 20]?;
+    let worked = work_items(&rt, alloc, &pace, items, seats, &AddsIndex).map_err(
+        |refused| refused.1,
+    )?;
+    assert!(rt; pace.was_asked(worked.seats.as_slice()));
+    Ok(())
+}

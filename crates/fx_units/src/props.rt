@@ -1,0 +1,279 @@
+//! Rows worked by hand: refusals that leave the set as it was, and each call once with ample memory.
+ghost use Rattle.std.specs.Prelude.{◌≡◌, [], ◌∷◌, codes, IfOk};
+ghost use Rattle.fx_props.specs.declared.value.PropKind.TheVariants as kind;
+ghost use Rattle.fx_props.specs.Property.{IsLawfulDef};
+ghost use Rattle.fx_props.specs.Entries.{AreBlank, ShowsFlag, ShowsFrames, ShowsRegion, ShowsText, ShowsTexts, ShowsWindow};
+
+use fx_base::{Fix, Memory, Name, Names, Rect};
+use fx_props::names::{CLIP_FRAMES, CLIP_REGION, CONTEXTS, NAME, REGION, SEQUENCE, TILES, WINDOW};
+use fx_props::{
+    PropDef, PropEntry, PropFault, PropKind, PropList, PropSet, PropValue, blank,
+    clip_set_of_blanks, flag_at, frames_at, region_at, set_of, text_at, texts_at, window_at,
+    write_frames, write_interest, write_region,
+};
+use std::alloc::{AllocError, Global};
+use std::test::Fail;
+
+fn name(alloc: Global, text: &str) -> Result<Name, AllocError>
+    ensures { IfOk result (λ name. name ≡ text.now) }
+{
+    Ok(Name::of(String::from_str(alloc, text)?))
+}
+
+// The time: one fixed-point number, 5 at the start.
+fn time(alloc: Global) -> Result<PropDef, AllocError>
+    ensures name { IfOk result (λ def. def.name ≡ codes "OfxPropTime") }
+    ensures lawful { IfOk result (λ def. IsLawfulDef def) }
+{
+    Ok(PropDef {
+        name: name(alloc, "OfxPropTime")?,
+        kind: PropKind::Fix,
+        most: 1,
+        allowed: Names::of(Vec::new(alloc)),
+        start: PropList::of(vec![in alloc; PropValue::Fix(Fix { raw: 327680 })]?),
+    })
+}
+
+// The context: at most one of four texts.
+fn context(alloc: Global) -> Result<PropDef, AllocError>
+    ensures name { IfOk result (λ def. def.name ≡ codes "OfxImageEffectPropContext") }
+    ensures lawful { IfOk result (λ def. IsLawfulDef def) }
+{
+    let allowed = vec![in alloc;
+        name(alloc, "OfxImageEffectContextGenerator")?,
+        name(alloc, "OfxImageEffectContextFilter")?,
+        name(alloc, "OfxImageEffectContextTransition")?,
+        name(alloc, "OfxImageEffectContextGeneral")?,
+    ]?;
+    Ok(PropDef {
+        name: name(alloc, "OfxImageEffectPropContext")?,
+        kind: PropKind::Text,
+        most: 1,
+        allowed: Names::of(allowed),
+        start: PropList::of(Vec::new(alloc)),
+    })
+}
+
+// The window: four ints, none at the start.
+fn window(alloc: Global) -> Result<PropDef, AllocError>
+    ensures name { IfOk result (λ def. def.name ≡ codes "OfxImageEffectPropRenderWindow") }
+    ensures lawful { IfOk result (λ def. IsLawfulDef def) }
+{
+    Ok(PropDef {
+        name: name(alloc, "OfxImageEffectPropRenderWindow")?,
+        kind: PropKind::Int,
+        most: 4,
+        allowed: Names::of(Vec::new(alloc)),
+        start: PropList::of(Vec::new(alloc)),
+    })
+}
+
+fn set(alloc: Global) -> Result<PropSet, Fail> {
+    let mut defs = Vec::new(alloc);
+    defs.push(time(alloc)?)?;
+    defs.push(context(alloc)?)?;
+    defs.push(window(alloc)?)?;
+    Ok(PropSet::new(alloc, defs)?)
+}
+
+#[test]
+fn refuses_and_stays(rt: HostRuntime) -> Result<(), Fail> {
+    let mut set = set(rt.alloc())?;
+    let five = Fix::of_whole(5);
+    assert_eq!(rt; set.get_fix("OfxPropTime", 1), Err(PropFault::ErrBadIndex));
+    assert_eq!(rt; set.get_int("OfxPropTime", 0), Err(PropFault::ErrUnknown));
+    let refused = set.set_text(
+        rt.alloc(),
+        "OfxImageEffectPropContext",
+        0,
+        "OfxImageEffectContextPaint",
+    );
+    assert_eq!(rt; refused, Err(PropFault::ErrValue));
+    assert_eq!(rt; set.get_fix("OfxPropTime", 0), Ok(five));
+    assert_eq!(rt; set.dimension("OfxPropTime"), Ok(1));
+    assert_eq!(rt; set.dimension("OfxImageEffectPropContext"), Ok(0));
+
+    assert_eq!(rt;
+        set.set_fix(rt.alloc(), "OfxPropTime", 0, Fix::of_whole(-2)),
+        Ok(())
+    );
+    assert_eq!(rt; set.get_fix("OfxPropTime", 0), Ok(Fix::of_whole(-2)));
+    assert_eq!(rt;
+        set.set_fix(rt.alloc(), "OfxPropTime", 1, five),
+        Err(PropFault::ErrBadIndex)
+    );
+    assert_eq!(rt; set.reset(rt.alloc(), "OfxPropTime"), Ok(()));
+    assert_eq!(rt; set.get_fix("OfxPropTime", 0), Ok(five));
+    assert_eq!(rt;
+        set.reset(rt.alloc(), "OfxPropLabel"),
+        Err(PropFault::ErrUnknown)
+    );
+    assert_eq!(rt; set.dimension("OfxPropLabel"), Err(PropFault::ErrUnknown));
+    Ok(())
+}
+
+#[test]
+fn keeps_texts_and_ints(rt: HostRuntime) -> Result<(), Fail> {
+    let mut set = set(rt.alloc())?;
+    let context = "OfxImageEffectPropContext";
+    assert_eq!(rt; set.get_text(context, 0), Err(PropFault::ErrBadIndex));
+    for text in [
+        "OfxImageEffectContextFilter",
+        "OfxImageEffectContextGeneral",
+    ] {
+        set.set_text(rt.alloc(), context, 0, text)?;
+        assert_eq!(rt; set.get_text(context, 0).ok().unwrap_or(""), text);
+        assert_eq!(rt; set.dimension(context), Ok(1));
+    }
+    assert_eq!(rt;
+        set.set_text(rt.alloc(), context, 1, "OfxImageEffectContextFilter"),
+        Err(PropFault::ErrBadIndex)
+    );
+    set.reset(rt.alloc(), context)?;
+    assert_eq!(rt; set.dimension(context), Ok(0));
+
+    let window = "OfxImageEffectPropRenderWindow";
+    for (index, value, answer) in [
+        (1, 9, Err(PropFault::ErrBadIndex)),
+        (0, 10, Ok(())),
+        (1, 20, Ok(())),
+        (2, 30, Ok(())),
+        (0, -1, Ok(())),
+        (3, 40, Ok(())),
+        (4, 50, Err(PropFault::ErrBadIndex)),
+        (5, 50, Err(PropFault::ErrBadIndex)),
+    ] {
+        assert_eq!(rt;
+            set.set_int(rt.alloc(), window, index, value),
+            answer,
+            "at {index}"
+        );
+    }
+    for (index, value) in [(0, -1), (1, 20), (2, 30), (3, 40)] {
+        assert_eq!(rt; set.get_int(window, index), Ok(value), "at {index}");
+    }
+    assert_eq!(rt;
+        set.set_fix(rt.alloc(), window, 0, Fix::of_whole(1)),
+        Err(PropFault::ErrUnknown)
+    );
+    Ok(())
+}
+
+#[test]
+fn gives_its_values_away(rt: HostRuntime) -> Result<(), Fail> {
+    let list = PropList::of(vec![in rt.alloc(); PropValue::Int(3), PropValue::Int(4)]?);
+    assert_eq!(rt; list.items().len(), 2);
+    assert_eq!(rt; list.into_items().len(), 2);
+    Ok(())
+}
+
+// Blank properties of this prefix for the clips A and B.
+fn two_clips(alloc: Global, prefix: &str) -> Result<PropSet, Memory>
+    ensures { IfOk result (λ set. AreBlank set prefix.now kind.Fix (codes "A" ∷ codes "B" ∷ [])) }
+{
+    let clips = Names::of(vec![in alloc;
+        Name::of(String::from_str(alloc, "A")?),
+        Name::of(String::from_str(alloc, "B")?),
+    ]?);
+    clip_set_of_blanks(alloc, prefix, PropKind::Fix, &clips)
+}
+
+#[test]
+fn regions_and_frames_are_written(rt: HostRuntime) -> Result<(), Fail> {
+    let alloc = rt.alloc();
+    let mut interest = two_clips(alloc, CLIP_REGION)?;
+    let regions = [Rect::of(-1, 0, 10, 20), Rect::of(0, 0, 0, 0)];
+    write_interest(alloc, &mut interest, &["A", "B"], &regions)?;
+    let mut frames = two_clips(alloc, CLIP_FRAMES)?;
+    let spans: [&[(i64, i64)]; 2] = [&[(-2, 5), (7, 7)], &[(0, 1)]];
+    write_frames(alloc, &mut frames, &["A", "B"], &spans)?;
+    let def = blank(alloc, "OfxImageEffectPropRegionOfDefinition", PropKind::Fix)?;
+    let mut region = PropSet::new(alloc, vec![in alloc; def]?)?;
+    write_region(alloc, &mut region, REGION, Rect::of(1, 2, 640, 360))?;
+    for (set, name, raws) in [
+        (
+            &interest,
+            "OfxImageClipPropRoI_A",
+            [-65536, 0, 655360, 1310720],
+        ),
+        (&interest, "OfxImageClipPropRoI_B", [0, 0, 0, 0]),
+        (
+            &frames,
+            "OfxImageClipPropFrameRange_A",
+            [-131072, 327680, 458752, 458752],
+        ),
+        (
+            &region,
+            "OfxImageEffectPropRegionOfDefinition",
+            [65536, 131072, 41943040, 23592960],
+        ),
+    ] {
+        for (index, raw) in [(0, raws[0]), (1, raws[1]), (2, raws[2]), (3, raws[3])] {
+            assert_eq!(rt;
+                set.get_fix(name, index),
+                Ok(Fix { raw }),
+                "{name} at {index}"
+            );
+        }
+    }
+    assert_eq!(rt; frames.dimension("OfxImageClipPropFrameRange_B"), Ok(2));
+    Ok(())
+}
+
+// One property of each sort: the name Mask, yes, two contexts, the window (-1, 2, 30, 40), the region
+// (-2, 0, 3, 1), and the frames -4 to 5.
+fn each_sort(alloc: Global) -> Result<PropSet, Memory>
+    ensures text { IfOk result (λ set. ShowsText set NAME.now) }
+    ensures flag { IfOk result (λ set. ShowsFlag set TILES.now) }
+    ensures texts { IfOk result (λ set. ShowsTexts set CONTEXTS.now) }
+    ensures window { IfOk result (λ set. ShowsWindow set WINDOW.now) }
+    ensures region { IfOk result (λ set. ShowsRegion set REGION.now) }
+    ensures frames { IfOk result (λ set. ShowsFrames set SEQUENCE.now) }
+{
+    let contexts = vec![in alloc;
+        PropValue::Text(name(alloc, "OfxImageEffectContextFilter")?),
+        PropValue::Text(name(alloc, "OfxImageEffectContextGeneral")?),
+    ]?;
+    let window = vec![in alloc;
+        PropValue::Int(-1),
+        PropValue::Int(2),
+        PropValue::Int(30),
+        PropValue::Int(40),
+    ]?;
+    let region = vec![in alloc;
+        PropValue::Fix(Fix { raw: -131072 }),
+        PropValue::Fix(Fix { raw: 0 }),
+        PropValue::Fix(Fix { raw: 196608 }),
+        PropValue::Fix(Fix { raw: 65536 }),
+    ]?;
+    let frames = vec![in alloc;
+        PropValue::Fix(Fix { raw: -262144 }),
+        PropValue::Fix(Fix { raw: 327680 }),
+    ]?;
+    let entries = vec![in alloc;
+        PropEntry::text(alloc, NAME, "Mask")?,
+        PropEntry::flag(alloc, TILES, true)?,
+        PropEntry::new(name(alloc, CONTEXTS)?, PropKind::Text, contexts)?,
+        PropEntry::new(name(alloc, WINDOW)?, PropKind::Int, window)?,
+        PropEntry::new(name(alloc, REGION)?, PropKind::Fix, region)?,
+        PropEntry::new(name(alloc, SEQUENCE)?, PropKind::Fix, frames)?,
+    ]?;
+    set_of(alloc, entries)
+}
+
+#[test]
+fn what_stands_in_a_set_is_read(rt: HostRuntime) -> Result<(), Fail> {
+    let alloc = rt.alloc();
+    let set = each_sort(alloc)?;
+    assert_eq!(rt; text_at(&set, NAME), "Mask");
+    assert!(rt; flag_at(&set, TILES));
+    let contexts = texts_at(alloc, &set, CONTEXTS)?.into_items();
+    assert_eq!(rt; contexts.len(), 2);
+    assert_eq!(rt; contexts[0].text(), "OfxImageEffectContextFilter");
+    assert_eq!(rt; contexts[1].text(), "OfxImageEffectContextGeneral");
+    assert_eq!(rt; window_at(&set, WINDOW), Rect::of(-1, 2, 30, 40));
+    assert_eq!(rt; region_at(&set, REGION), Rect::of(-2, 0, 3, 1));
+    let frames = frames_at(alloc, &set, SEQUENCE)?;
+    assert_eq!(rt; frames.as_slice(), [(-4, 5)].as_slice());
+    Ok(())
+}

@@ -1,0 +1,203 @@
+ghost use Rattle.std.specs.Prelude.{◌≡◌, ◌+◌, ◌<◌, ◌≤◌, [], ◌∷◌, All, IfOk, None, vec_len};
+ghost use Rattle.std.proofs.Common.{arith, refl};
+ghost use Rattle.fx_turn.specs.Tallies.{zeros};
+ghost use Rattle.fx_turn.specs.Seats.{all_parts};
+
+use fx_turn::{Fits, Memory, Seat, Turns};
+use std::alloc::Global;
+use std::sync::Wait;
+use std::test::Fail;
+use std::thread;
+
+// A plain number, which any name fits.
+#[derive(Debug, Drop, PartialEq)]
+struct Number {
+    value: u64,
+}
+
+impl Fits<u32> for Number {
+    type Mark = ();
+
+    ghost fits = { λ _ _. Unit {0} };
+
+    ghost tally = { λ _. zeros };
+
+    ghost claims = { λ _. [] };
+
+    ghost grown = { λ _ _. Unit {0} };
+
+    ghost six_numbers = { λ _. refl };
+
+    ghost numbers_differ = { λ _ _ _ _. Prim.omega arith };
+
+    ghost still_fits = { λ _ _ _ _ _. tt };
+}
+
+// How often it was added to.
+#[derive(Drop)]
+struct Count {
+    times: u64,
+}
+
+impl Fits<u32> for Count {
+    type Mark = ();
+
+    ghost fits = { λ _ _. Unit {0} };
+
+    ghost tally = { λ c. c.times ∷ 0 ∷ 0 ∷ 0 ∷ 0 ∷ 0 ∷ [] };
+
+    ghost claims = { λ _. [] };
+
+    ghost grown = { λ _ _. Unit {0} };
+
+    ghost six_numbers = { λ _. refl };
+
+    ghost numbers_differ = { λ _ _ _ _. Prim.omega arith };
+
+    ghost still_fits = { λ _ _ _ _ _. tt };
+}
+
+#[test]
+fn one_value_is_taken_and_given(rt: HostRuntime) -> Result<(), Fail> {
+    let alloc = rt.alloc();
+    let values = vec![in alloc; Number { value: 7 }]?;
+    let (turns, mut seat) = Turns::new(alloc, 5u32, values).map_err(|e| e.1)?;
+    let mut held = turns.take(&rt, &mut seat, 0);
+    assert_eq!(rt; held.value().value, 7);
+    *held.value_mut() = Number { value: 8 };
+    turns.give(&mut seat, held);
+    let values = turns.close(alloc, seat).map_err(|e| e.2)?;
+    assert_eq!(rt; values.as_slice(), [Number { value: 8 }].as_slice());
+    Ok(())
+}
+
+// Takes the value of a slot, adds one to it, and answers what it was.
+fn add_one<R: Wait>(
+    rt: &R,
+    turns: &Turns<u32, Number>,
+    seat: &mut Seat<u32, Number>,
+    slot: u32,
+) -> u64
+    requires { (seat.old.row ≡ turns.now) × (seat.old.turn ≡ None) × (slot < turns.now.slots) }
+    ensures { (seat.new.row ≡ turns.now) × (seat.new.turn ≡ None) × (seat.new.parts ≡ seat.old.parts) }
+{
+    let mut held = turns.take(rt, seat, slot);
+    let value = held.value().value;
+    *held.value_mut() = Number {
+        value: value.wrapping_add(1),
+    };
+    turns.give(seat, held);
+    value
+}
+
+// No clause says which value stands in which slot: `new`, `renew` and `close` keep them in their order.
+#[test]
+fn values_keep_their_slots(rt: HostRuntime) -> Result<(), Fail> {
+    let alloc = rt.alloc();
+    let values = vec![in alloc;
+        Number { value: 10 },
+        Number { value: 20 },
+        Number { value: 30 },
+    ]?;
+    let (turns, mut seat) = Turns::new(alloc, 5u32, values).map_err(|e| e.1)?;
+    assert_eq!(rt; add_one(&rt, &turns, &mut seat, 0), 10);
+    assert_eq!(rt; add_one(&rt, &turns, &mut seat, 1), 20);
+    let (turns, mut seat) = turns.renew(alloc, seat, 6).map_err(|e| e.3)?;
+    assert_eq!(rt; add_one(&rt, &turns, &mut seat, 0), 11);
+    assert_eq!(rt; add_one(&rt, &turns, &mut seat, 2), 30);
+    let values = turns.close(alloc, seat).map_err(|e| e.2)?;
+    let want = [
+        Number { value: 12 },
+        Number { value: 21 },
+        Number { value: 31 },
+    ];
+    assert_eq!(rt; values.as_slice(), want.as_slice());
+    Ok(())
+}
+
+// Adds one to the first value, so many times.
+fn add<R: Wait>(
+    rt: &R,
+    turns: &Turns<u32, Count>,
+    mut seat: Seat<u32, Count>,
+    times: u32,
+) -> Seat<u32, Count>
+    requires { (seat.row ≡ turns.now) × (seat.turn ≡ None) × (turns.now.slots ≡ 1) }
+    ensures { (result.row ≡ turns.now) × (result.turn ≡ None) × (result.parts ≡ seat.parts) }
+{
+    for _ in 0..times {
+        let mut held = turns.take(rt, &mut seat, 0);
+        let count = held.value_mut();
+        count.times = count.times.saturating_add(1);
+        turns.give(&mut seat, held);
+    }
+    seat
+}
+
+#[test]
+fn two_threads_take_turns(rt: HostRuntime) -> Result<(), Fail> {
+    let alloc = rt.alloc();
+    let values = vec![in alloc; Count { times: 0 }]?;
+    let (turns, mut first) = Turns::new(alloc, 5u32, values).map_err(|e| e.1)?;
+    let second = turns.split(alloc, &mut first)?;
+    let (mut first, second) = thread::join(
+        &rt,
+        || add(&rt, &turns, first, 1000),
+        || add(&rt, &turns, second, 1000),
+    );
+    turns.join(&mut first, second);
+    let values = turns.close(alloc, first).map_err(|e| e.2)?;
+    assert_eq!(rt; values.len(), 1);
+    assert_eq!(rt; values[0].times, 2000);
+    Ok(())
+}
+
+// So many seats, each split from the first.
+fn split_off(
+    alloc: Global,
+    turns: &Turns<u32, Count>,
+    first: &mut Seat<u32, Count>,
+    count: u32,
+) -> Result<Vec<Seat<u32, Count>>, Memory>
+    requires { (first.old.row ≡ turns.now) × (first.old.turn ≡ None) × (count < first.old.parts) }
+    ensures ok { IfOk result (λ seats. (vec_len seats ≡ count)
+        × All (λ s. (s.row ≡ turns.now) × (s.turn ≡ None) × (s.parts ≡ 1)) seats.items) }
+    ensures first { IfOk result (λ _. (first.new.row ≡ turns.now) × (first.new.turn ≡ None)
+        × (first.new.parts + count ≡ first.old.parts)) }
+{
+    let mut seats = Vec::new(alloc);
+    for _ in 0..count {
+        seats.push(turns.split(alloc, first)?)?;
+    }
+    Ok(seats)
+}
+
+// Puts the seats back into the first.
+fn join_all(
+    turns: &Turns<u32, Count>,
+    first: &mut Seat<u32, Count>,
+    mut seats: Vec<Seat<u32, Count>>,
+)
+    requires first { (first.old.row ≡ turns.now) × (first.old.turn ≡ None) }
+    requires seats { All (λ s. (s.row ≡ turns.now) × (s.turn ≡ None) × (s.parts ≡ 1)) seats.items }
+    ensures { (first.new.row ≡ turns.now) × (first.new.turn ≡ None)
+        × (first.new.parts ≡ first.old.parts + vec_len seats) }
+{
+    while let Some(seat) = seats.pop() {
+        turns.join(first, seat);
+    }
+}
+
+#[test]
+fn eight_threads_take_turns(rt: HostRuntime) -> Result<(), Fail> {
+    let alloc = rt.alloc();
+    let values = vec![in alloc; Count { times: 0 }]?;
+    let (turns, mut first) = Turns::new(alloc, 5u32, values).map_err(|e| e.1)?;
+    let seats = split_off(alloc, &turns, &mut first, 8)?;
+    let seats = thread::map_vec(&rt, seats, &|seat| add(&rt, &turns, seat, 1000))?;
+    join_all(&turns, &mut first, seats);
+    let values = turns.close(alloc, first).map_err(|e| e.2)?;
+    assert_eq!(rt; values.len(), 1);
+    assert_eq!(rt; values[0].times, 8000);
+    Ok(())
+}

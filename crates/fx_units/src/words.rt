@@ -1,0 +1,292 @@
+use fx_base::{Memory, Name};
+use fx_pam::PamField;
+use fx_text::{GraphCode, GraphPath};
+use fx_words::{
+    FrameFault, Mode, Report, RunFault, WordFault, fault_text, options_in_any_order, read_words,
+    report_text,
+};
+use std::alloc::{AllocError, Global};
+
+// What a line's words order: the mode and the numbers, or that they are no use of the command.
+fn ordered(alloc: Global, line: &str) -> Result<String, AllocError> {
+    let mut words = Vec::new(alloc);
+    for word in line.split(' ') {
+        words.push(word.to_string(alloc)?)?;
+    }
+    match read_words(alloc, words.as_slice()) {
+        Ok(order) => {
+            let mode = match order.mode {
+                Mode::Render => "render",
+                Mode::Check => "check",
+                Mode::Bench => "bench",
+            };
+            let (graph, first, last) = (order.graph.text(), order.first, order.last);
+            let (tile, cache, workers) = (order.tile, order.cache, order.workers);
+            format!(in alloc; "{mode} {graph} {first} {last} {tile} {cache} {workers}")
+        }
+        Err(WordFault::Usage) => format!(in alloc; "usage"),
+        Err(WordFault::Memory) => format!(in alloc; "memory"),
+    }
+}
+
+// Words with a blank between two of them, so that two blanks have an empty word between them.
+const LINES: &[(&str, &str)] = &[
+    ("render g.json", "render g.json 0 999999 64 4096 4"),
+    ("check g.json", "check g.json 0 999999 64 4096 4"),
+    ("bench 0", "bench 0 0 999999 64 4096 4"),
+    ("bench 123456", "bench 123456 0 999999 64 4096 4"),
+    ("bench 1234567", "usage"),
+    ("bench 12a", "usage"),
+    ("bench", "usage"),
+    ("paint g.json", "usage"),
+    ("render", "usage"),
+    ("", "usage"),
+    (" g.json", "usage"),
+    ("render g.json more", "usage"),
+    // Both ends of each range, and one past.
+    (
+        "render g.json --first 999999 --last 0",
+        "render g.json 999999 0 64 4096 4",
+    ),
+    ("render g.json --first 1000000", "usage"),
+    (
+        "render g.json --last 999999 --first 0",
+        "render g.json 0 999999 64 4096 4",
+    ),
+    ("render g.json --last 1000000", "usage"),
+    ("render g.json --tile 1", "render g.json 0 999999 1 4096 4"),
+    (
+        "render g.json --tile 1024",
+        "render g.json 0 999999 1024 256 4",
+    ),
+    (
+        "render g.json --tile 256",
+        "render g.json 0 999999 256 4096 4",
+    ),
+    (
+        "render g.json --tile 257",
+        "render g.json 0 999999 257 4064 4",
+    ),
+    ("render g.json --tile 0", "usage"),
+    ("render g.json --tile 1025", "usage"),
+    ("render g.json --cache 0", "render g.json 0 999999 64 0 4"),
+    (
+        "render g.json --cache 65536 --tile 64",
+        "render g.json 0 999999 64 65536 4",
+    ),
+    ("render g.json --cache 65536 --tile 65", "usage"),
+    (
+        "render g.json --cache 256 --tile 1024",
+        "render g.json 0 999999 1024 256 4",
+    ),
+    ("render g.json --cache 257 --tile 1024", "usage"),
+    ("render g.json --cache 65537 --tile 1", "usage"),
+    (
+        "render g.json --workers 1",
+        "render g.json 0 999999 64 4096 1",
+    ),
+    (
+        "render g.json --workers 64",
+        "render g.json 0 999999 64 4096 64",
+    ),
+    ("render g.json --workers 0", "usage"),
+    ("render g.json --workers 65", "usage"),
+    // How clap reads words.
+    (
+        "--tile=16 render --first=5 g.json --workers 2",
+        "render g.json 5 999999 16 4096 2",
+    ),
+    (
+        "--workers 2 --first 5 --tile 16 -- render g.json",
+        "render g.json 5 999999 16 4096 2",
+    ),
+    ("render -- g.json --first 5", "usage"),
+    ("render g.json --first 5 --first 5", "usage"),
+    (
+        "render g.json --first +5",
+        "render g.json 5 999999 64 4096 4",
+    ),
+    (
+        "render g.json --first 05",
+        "render g.json 5 999999 64 4096 4",
+    ),
+    ("render g.json --first  5", "usage"),
+    ("render g.json --first -1", "usage"),
+    ("render g.json --first 5x", "usage"),
+    ("render g.json --first", "usage"),
+    ("render g.json --first=", "usage"),
+    ("render g.json --fir 5", "usage"),
+    ("render g.json --help", "usage"),
+    ("render g.json -V", "usage"),
+];
+
+#[test]
+fn words_are_an_order_or_usage(rt: HostRuntime) -> Result<(), AllocError> {
+    let alloc = rt.alloc();
+    for (line, wanted) in LINES {
+        let order = ordered(alloc, line)?;
+        assert_eq!(rt; order.as_str(), *wanted, "at {line}");
+    }
+    let none: Vec<String> = Vec::new(alloc);
+    assert!(rt; matches!(read_words(alloc, none.as_slice()), Err(WordFault::Usage)));
+    options_in_any_order();
+    Ok(())
+}
+
+// A line behind what was there.
+fn line(alloc: Global, fault: &RunFault) -> Result<Vec<u8>, Memory> {
+    let mut out = Vec::new(alloc);
+    out.push(b'>')?;
+    fault_text(alloc, fault, &mut out)?;
+    Ok(out)
+}
+
+fn name(alloc: Global, text: &str) -> Result<Name, AllocError> {
+    Ok(Name::of(String::from_str(alloc, text)?))
+}
+
+// Each code with a path, and without one.
+const CODES: &[(GraphCode, &str, &[u8])] = &[
+    (GraphCode::NotJson, "", b">ofxr: graph: G1\n"),
+    (GraphCode::WrongForm, "ofxr", b">ofxr: graph: G2 ofxr\n"),
+    (
+        GraphCode::NumberOutOfRange,
+        "project.width",
+        b">ofxr: graph: G3 project.width\n",
+    ),
+    (
+        GraphCode::NameRepeated,
+        "nodes[1].name",
+        b">ofxr: graph: G4 nodes[1].name\n",
+    ),
+    (GraphCode::UnknownEffect, "e", b">ofxr: graph: G5 e\n"),
+    (GraphCode::ContextNotSupported, "c", b">ofxr: graph: G6 c\n"),
+    (GraphCode::UnknownClip, "c", b">ofxr: graph: G7 c\n"),
+    (GraphCode::ClipMissing, "c", b">ofxr: graph: G8 c\n"),
+    (GraphCode::NoEarlierNode, "c", b">ofxr: graph: G9 c\n"),
+    (GraphCode::UnknownParam, "p", b">ofxr: graph: G10 p\n"),
+    (GraphCode::ParamRefused, "p", b">ofxr: graph: G11 p\n"),
+    (GraphCode::KeysNotRising, "p", b">ofxr: graph: G12 p\n"),
+    (
+        GraphCode::UnknownOutput,
+        "output.node",
+        b">ofxr: graph: G13 output.node\n",
+    ),
+    (
+        GraphCode::PatternWrong,
+        "output.file",
+        b">ofxr: graph: G14 output.file\n",
+    ),
+];
+
+#[test]
+fn graph_faults_are_told(rt: HostRuntime) -> Result<(), Memory> {
+    let alloc = rt.alloc();
+    for (code, path, wanted) in CODES {
+        let path = GraphPath::of(String::from_str(alloc, path)?);
+        let told = line(alloc, &RunFault::Graph(*code, path))?;
+        assert_eq!(rt; told.as_slice(), *wanted);
+    }
+    Ok(())
+}
+
+const FRAMES: &[(FrameFault, &[u8])] = &[
+    (FrameFault::NotPam, b">ofxr: frame: s -3 P1\n"),
+    (FrameFault::HeaderWrong(3), b">ofxr: frame: s -3 P2 3\n"),
+    (
+        FrameFault::SizeOutOfRange(PamField::Width),
+        b">ofxr: frame: s -3 P3 WIDTH\n",
+    ),
+    (
+        FrameFault::SizeOutOfRange(PamField::Height),
+        b">ofxr: frame: s -3 P3 HEIGHT\n",
+    ),
+    (
+        FrameFault::SizeOutOfRange(PamField::Depth),
+        b">ofxr: frame: s -3 P3 DEPTH\n",
+    ),
+    (
+        FrameFault::SizeOutOfRange(PamField::Maxval),
+        b">ofxr: frame: s -3 P3 MAXVAL\n",
+    ),
+    (FrameFault::Truncated(8, 7), b">ofxr: frame: s -3 P4 8 7\n"),
+    (
+        FrameFault::SampleAboveMaxval(5, 101),
+        b">ofxr: frame: s -3 P5 5 101\n",
+    ),
+    (
+        FrameFault::TooLarge(2147483656),
+        b">ofxr: frame: s -3 P6 2147483656\n",
+    ),
+];
+
+#[test]
+fn frame_faults_are_told(rt: HostRuntime) -> Result<(), Memory> {
+    let alloc = rt.alloc();
+    for (fault, wanted) in FRAMES {
+        let node = name(alloc, "s")?;
+        let told = line(alloc, &RunFault::Frame(node, -3, *fault))?;
+        assert_eq!(rt; told.as_slice(), *wanted);
+    }
+    Ok(())
+}
+
+#[test]
+fn other_faults_are_told(rt: HostRuntime) -> Result<(), Memory> {
+    let alloc = rt.alloc();
+    let usage = line(alloc, &RunFault::Usage)?;
+    let wanted =
+        b">usage: ofxr MODE GRAPH [--first N] [--last N] [--tile N] [--cache N] [--workers N]\n";
+    assert_eq!(rt; usage.as_slice(), wanted.as_slice());
+    let read = line(alloc, &RunFault::Read(name(alloc, "g.json")?))?;
+    assert_eq!(rt; read.as_slice(), b">ofxr: read: g.json\n".as_slice());
+    let write = line(alloc, &RunFault::Write(name(alloc, "o0.pam")?))?;
+    assert_eq!(rt; write.as_slice(), b">ofxr: write: o0.pam\n".as_slice());
+    let memory = line(alloc, &RunFault::Memory)?;
+    assert_eq!(rt; memory.as_slice(), b">ofxr: memory\n".as_slice());
+    let report = line(alloc, &RunFault::Report)?;
+    assert_eq!(rt; report.as_slice(), b">ofxr: report\n".as_slice());
+    Ok(())
+}
+
+const REPORTS: &[(Report, &[u8])] = &[
+    (
+        Report::Render {
+            frames: 2,
+            tiles: 1020,
+            void_tiles: 3,
+            passed: 4,
+            asked: 1013,
+            landed: 1018,
+            hits: 6,
+        },
+        b"frames 2\ntiles 1020 void 3 passed 4 asked 1013\nlanded 1018 hits 6\n",
+    ),
+    (
+        Report::Check {
+            nodes: 12,
+            frames: 24,
+            wanted: 23,
+        },
+        b"nodes 12\nframes 24\nwanted 23\n",
+    ),
+    (
+        Report::Bench {
+            frames: 4,
+            size: 1229076,
+            sum: 18446744073709551615,
+        },
+        b"frames 4\nbytes 1229076\nsum 18446744073709551615\n",
+    ),
+];
+
+#[test]
+fn reports_are_lines(rt: HostRuntime) -> Result<(), Memory> {
+    let alloc = rt.alloc();
+    for (report, wanted) in REPORTS {
+        let mut out = Vec::new(alloc);
+        report_text(alloc, report, &mut out)?;
+        assert_eq!(rt; out.as_slice(), *wanted);
+    }
+    Ok(())
+}
