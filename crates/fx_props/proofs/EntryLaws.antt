@@ -1,6 +1,7 @@
 -- Entries that are put into sets.
 use Rattle.std.proofs.Common.{◌≡◌, ◌≢◌, ◌≤◌, ◌<◌, ℕ, zero, suc, ℤ, pos, neg_ℤ, ◌≤ℤ◌, FitsSigned, w64, rules, append_assoc, ◌+◌, Bool, true, false, not, ltb, ◌&&◌, ◌||◌, List, [], ◌∷◌, ◌++◌, map, take, length, get_or, All, AllPairs, Some, None, Result, Ok, Err, IfOk, refl, sym, ap, subst, ◌∙◌, arith}
 use Rattle.std.specs.Borrow.{Bor}
+use Rattle.std.specs.FinMap.{from_entries}
 use Rattle.std.specs.List.{list_any}
 use Rattle.std.specs.Option.{option_map, option_and_then}
 use Rattle.std.specs.Str.{bytes_eq}
@@ -9,10 +10,12 @@ use Rattle.std.proofs.lemmas.Bool.{cond-true, cond-false, false_from_ne_true, fa
 use Rattle.std.proofs.lemmas.Bool.Decides.{nat_tests}
 use Rattle.std.proofs.Math.ListN.{get_or-append}
 use Rattle.std.proofs.Math.Seq.{get_or-append_seam}
-use Rattle.std.proofs.lemmas.List.{length-take, length-append, length-map, get_or-map, take_more, take_all, map_more, get_or-take, append_cancel_left}
+use Rattle.std.proofs.lemmas.List.{get_or_default, length-take, length-append, length-map, get_or-map, take_more, take_all, map_more, get_or-take, append_cancel_left}
 use Rattle.std.proofs.lemmas.List.Elements.{All-from_recursion, All-nil, All-cons, All-push, All-weaker, All-from_get_or}
 use Rattle.std.proofs.lemmas.List.Kept.{AllPairs-cons}
 use Rattle.std.proofs.lemmas.Slice.Eq.{bytes_eq-Decides}
+use Rattle.fx_base.specs.Bounds.{Bounds, none}
+use Rattle.fx_props.specs.declared.names.TheConstants.{CLIP_REGION}
 use Rattle.fx_props.specs.declared.value.PropKind.{PropKind}
 use Rattle.fx_props.specs.declared.value.PropKind.TheVariants as kind
 use Rattle.fx_props.specs.declared.value.PropValue.{PropValue}
@@ -20,8 +23,9 @@ use Rattle.fx_props.specs.declared.def.PropDef.{PropDef}
 use Rattle.fx_props.specs.Value.{kind_of, same_kind}
 use Rattle.fx_props.specs.Property.{Property, property_made, with_values, placed, of_kind, takes_at}
 use Rattle.fx_props.specs.Set.{Set, property, property_of, values_of, made, AreApart, refusal, Puts}
-use Rattle.fx_props.specs.Entries.{Entry, IsEntry, NamesDiffer, def_of, blank, blank_entry, whole, range_values, clip_entries, clip_entries_from, texts_of}
+use Rattle.fx_props.specs.Entries.{Entry, IsEntry, NamesDiffer, def_of, blank, blank_entry, whole, range_values, region_entry, region_of, region_values, clip_entries, clip_entries_from, interest, texts_of}
 use Rattle.fx_props.specs.Entries.{IsBlank, AreBlank, AwaitEntries, HasValues, Wrote, IsModerate}
+use Rattle.fx_props.proofs.SetLemmas.{Named, among, among_made, named_made, property_among}
 
 -- ---- a property of a kind
 
@@ -51,7 +55,7 @@ begun set k name is = record { there = is; rest = λ n other. refl }
 takes_next : (k : PropKind) (values : List PropValue) (index : ℕ) → index ≡ length values → index < 4294967295 → takes_at (with_values (blank k) values) index ≡ true
 takes_next k values index is few = grind (arith, nat_tests)
 
-pub not_refused : (set : Set) (name : List ℕ) (k : PropKind) (values : List PropValue) (index : ℕ) (v : PropValue) → property set name ≡ Some (with_values (blank k) values) → index ≡ length values → index < 4294967295 → kind_of v ≡ k → refusal set name index v ≡ None
+not_refused : (set : Set) (name : List ℕ) (k : PropKind) (values : List PropValue) (index : ℕ) (v : PropValue) → property set name ≡ Some (with_values (blank k) values) → index ≡ length values → index < 4294967295 → kind_of v ≡ k → refusal set name index v ≡ None
 not_refused set name k values index v there is few same =
     rw (property_is set (kind_of v) name (with_values (blank k) values) there (sym same), takes_next k values index is few) refl
 
@@ -66,6 +70,10 @@ begun_more name k values old mid new index v was is same puts =
       there = replaces.there ∙ ap (option_map (λ q. with_values q (placed values index v))) was.there ∙ ap (λ vs. Some (with_values (blank k) vs)) (placed_next values index v is);
       rest = λ n other. replaces.rest n other ∙ was.rest n other;
     }
+
+-- the next value finds room
+pub has_room : (name : List ℕ) (k : PropKind) (values : List PropValue) (old mid : Set) (index : ℕ) (v : PropValue) → Begun name k values old mid → index ≡ length values → index < 4294967295 → kind_of v ≡ k → refusal mid name index v ≡ None
+has_room name k values old mid index v was = not_refused mid name k values index v was.there
 
 pub wrote_one : (e : Entry) (old new : Set) → Begun e.name e.kind e.values old new → Wrote (e ∷ []) old new
 wrote_one e old new done = record {
@@ -216,6 +224,21 @@ clips_blank entries prefix k names set is blanks i d inside =
     let there : All (λ e. e.values ≡ [] → IsBlank set e.kind e.name) (map (blank_entry prefix k) names) = rw is at blanks in
     (rw (get_or-map (blank_entry prefix k) names i d no_entry inside) at (there i no_entry (simp length-map inside))) refl
 
+-- the blank property of a clip, with its name
+abbrev pub blank_named : List ℕ → PropKind → List ℕ → Named
+blank_named prefix k name = (prefix ++ name, blank k)
+
+named_blanks : (prefix : List ℕ) (k : PropKind) (names : List (List ℕ)) → map (blank_named prefix k) names ≡ map named_made (map def_of (map (blank_entry prefix k) names))
+named_blanks prefix k [] = refl
+named_blanks prefix k (n ∷ names) = ap (λ rest. blank_named prefix k n ∷ rest) (named_blanks prefix k names)
+
+pub blanks_stand : (entries : List Named) (prefix : List ℕ) (k : PropKind) (names : List (List ℕ)) → entries ≡ map (blank_named prefix k) names → AllPairs (λ a b. a ≢ b) names → AreBlank (from_entries entries) prefix k names
+blanks_stand entries prefix k names is apart =
+    let blanks = map (blank_entry prefix k) names in
+    let set = from_entries entries in
+    let is_made : IsMadeOf blanks set = λ name. property_among entries name ∙ ap (λ es. among es name) (is ∙ named_blanks prefix k names) ∙ among_made (map def_of blanks) name in
+    clips_blank blanks prefix k names set refl (are_blank blanks set (clip_names_apart blanks prefix k names refl apart) is_made)
+
 -- ---- properties of clips
 
 clip_entries_push : (prefix : List ℕ) (kd : PropKind) (values : ℕ → List PropValue) (k : ℕ) (names : List (List ℕ)) (name : List ℕ)
@@ -265,6 +288,27 @@ pub clip_entries_await : (entries : List Entry) (prefix : List ℕ) (kd : PropKi
 clip_entries_await entries prefix kd values names set is blanks i d inside =
     let low : i < length names = omega (arith, inside, ap length is, clip_entries_long prefix kd values 0 names) in
     rw (is, at_clip prefix kd values 0 names i d [] low) (blanks i [] low)
+
+-- ---- regions of interest
+
+pub interest_long : (clips : List (Bor (List ℕ))) (regions : List Bounds) → length (interest (texts_of clips) (region_of regions)) ≡ length clips
+interest_long clips regions = clip_entries_long CLIP_REGION.now kind.Fix (λ clip. region_values (region_of regions clip)) 0 (texts_of clips) ∙ simp length-map refl
+
+pub interest_apart : (clips : List (Bor (List ℕ))) (regions : List Bounds) → AllPairs (λ a b. a ≢ b) (texts_of clips) → NamesDiffer (interest (texts_of clips) (region_of regions))
+interest_apart clips regions = clip_entries_apart _ CLIP_REGION.now kind.Fix (λ clip. region_values (region_of regions clip)) (texts_of clips) refl
+
+pub interest_awaits : (clips : List (Bor (List ℕ))) (regions : List Bounds) (set : Set) → AreBlank set CLIP_REGION.now kind.Fix (texts_of clips) → AwaitEntries set (interest (texts_of clips) (region_of regions))
+interest_awaits clips regions set = clip_entries_await _ CLIP_REGION.now kind.Fix (λ clip. region_values (region_of regions clip)) (texts_of clips) set refl
+
+-- the entry of a clip is that of its name and its region
+pub interest_entry : (clips : List (Bor (List ℕ))) (regions : List Bounds) (k : ℕ) (b : Bor (List ℕ)) (name : List ℕ) (region : Bounds) → k < length clips → length regions ≡ length clips → name ≡ CLIP_REGION.now ++ (get_or clips k b).now → region ≡ get_or regions k region → region_entry name region ≡ get_or (interest (texts_of clips) (region_of regions)) k (region_entry name region)
+interest_entry clips regions k b name region inside same named is =
+    let here : region ≡ region_of regions k = is ∙ get_or_default regions k region none (omega arith) in
+    let text : get_or (texts_of clips) k b.now ≡ (get_or clips k b).now = get_or-map (λ n. n.now) clips k b b.now inside in
+    ap (λ n. region_entry n region) (named ∙ ap (λ t. CLIP_REGION.now ++ t) (sym text))
+    ∙ ap (region_entry (CLIP_REGION.now ++ get_or (texts_of clips) k b.now)) here
+    ∙ sym (at_clip CLIP_REGION.now kind.Fix (λ clip. region_values (region_of regions clip)) 0 (texts_of clips) k (region_entry name region) b.now (rw length-map inside)
+    ∙ ap (λ n. region_entry (CLIP_REGION.now ++ get_or (texts_of clips) k b.now) (region_of regions n)) (omega arith))
 
 -- ---- frames
 

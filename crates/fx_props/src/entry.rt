@@ -1,9 +1,10 @@
 //! Properties with their values, and sets made of them (OpenFX 1.4, "Image Effect Actions").
-ghost use Rattle.std.specs.Prelude.{◌≡◌, ◌≢◌, ◌++◌, [], All, AllPairs, IfOk, map};
+ghost use Rattle.std.specs.Prelude.{◌≡◌, ◌≢◌, ◌++◌, [], All, AllPairs, IfOk};
 ghost use Rattle.fx_props.specs.Property.{IsLawfulDef, property_made};
 ghost use Rattle.fx_props.specs.Value.{kind_of};
-ghost use Rattle.fx_props.specs.Entries.{blank, IsBlank, AreBlank, HasValues, NamesDiffer, def_of, blank_entry, text_entry, flag_entry};
+ghost use Rattle.fx_props.specs.Entries.{blank, IsBlank, AreBlank, HasValues, NamesDiffer, def_of, text_entry, flag_entry};
 
+use crate::property::Property;
 use crate::value::name_of;
 use crate::{PropDef, PropKind, PropList, PropSet, PropValue};
 use fx_base::{Memory, Name, Names};
@@ -69,7 +70,7 @@ impl PropEntry {
     }
 
     // The definition that starts with these values and takes any.
-    fn into_def(self, alloc: Global) -> PropDef
+    pub(crate) fn into_def(self, alloc: Global) -> PropDef
         ensures def { result ≡ def_of self }
         ensures lawful { IsLawfulDef result }
     {
@@ -109,26 +110,10 @@ pub fn blank(alloc: Global, name: &str, kind: PropKind) -> Result<PropDef, Memor
 pub fn composed(alloc: Global, prefix: &str, clip: &str) -> Result<Name, Memory>
     ensures { IfOk result (λ n. n ≡ prefix.now ++ clip.now) }
 {
-    let mut text = String::from_str(alloc, prefix)?;
+    let mut text = String::with_capacity(alloc, prefix.len() + clip.len())?;
+    text.push_str(prefix)?;
     text.push_str(clip)?;
     Ok(Name::of(text))
-}
-
-/// A blank property of this prefix for each clip, in order.
-pub fn clip_blanks(
-    alloc: Global,
-    prefix: &str,
-    kind: PropKind,
-    clips: &Names,
-) -> Result<Vec<PropEntry>, Memory>
-    ensures { IfOk result (λ entries. entries.items ≡ map (blank_entry prefix.now kind) clips.now) }
-{
-    let mut entries = Vec::new(alloc);
-    for clip in clips.items() {
-        let name = composed(alloc, prefix, clip.text())?;
-        entries.push(PropEntry::blank(alloc, name, kind))?;
-    }
-    Ok(entries)
 }
 
 /// A set with a blank property of this prefix for each clip.
@@ -141,5 +126,10 @@ pub fn clip_set_of_blanks(
     requires { AllPairs (λ a b. a ≢ b) clips.now }
     ensures { IfOk result (λ set. AreBlank set prefix.now kind clips.now) }
 {
-    set_of(alloc, clip_blanks(alloc, prefix, kind, clips)?)
+    let mut properties = Vec::with_capacity(alloc, clips.items().len())?;
+    for clip in clips.items() {
+        let name = composed(alloc, prefix, clip.text())?;
+        properties.push(Property::blank(alloc, name, kind))?;
+    }
+    Ok(PropSet::of(properties))
 }

@@ -15,12 +15,9 @@ mod value;
 mod write;
 
 pub use def::PropDef;
-pub use entry::{PropEntry, blank, clip_blanks, clip_set_of_blanks, composed, set_of};
+pub use entry::{PropEntry, blank, clip_set_of_blanks, composed, set_of};
 pub use fault::PropFault;
 pub use read::{flag_at, frames_at, region_at, text_at, texts_at, window_at};
 pub use set::PropSet;
 pub use value::{PropKind, PropList, PropValue};
 pub use write::{write_entries, write_frames, write_interest, write_region};
-
-#[cfg(test)]
-mod tests;

@@ -2,10 +2,12 @@
 ghost use Rattle.std.specs.Prelude.{◌≡◌, IfOk, OnOk, OnErr};
 ghost use Rattle.std.specs.Str.{bytes_eq};
 ghost use Rattle.fx_props.specs.Value.{kind_of, same_kind, as_value, value_given};
+ghost use Rattle.fx_props.specs.Entries.{blank};
 ghost use Rattle.fx_props.specs.Property.{property_made, IsLawfulDef, IsLawful, with_values, of_kind, value_in, placed, put_refusal, IsAnswer};
 
 use crate::value::{Given, copied};
-use crate::{PropDef, PropFault, PropKind, PropValue};
+use crate::{PropDef, PropEntry, PropFault, PropKind, PropValue};
+use fx_base::Name;
 use std::alloc::{AllocError, Global};
 use std::marker::Model;
 
@@ -34,6 +36,16 @@ impl Property {
     {
         let values = copied(alloc, def.start.items())?;
         Ok(Property { def, values })
+    }
+
+    /// One that waits to be written.
+    pub(crate) fn blank(alloc: Global, name: Name, kind: PropKind) -> Property
+        ensures { result ≡ (name, blank kind) }
+    {
+        Property {
+            def: PropEntry::blank(alloc, name, kind).into_def(alloc),
+            values: Vec::new(alloc),
+        }
     }
 
     pub(crate) fn is_named(&self, name: &str) -> bool

@@ -1,5 +1,6 @@
 //! A set of properties.
 ghost use Rattle.std.specs.Prelude.{◌≡◌, ℕ, List, All, IfOk, IfSome, OnOk, OnErr};
+ghost use Rattle.std.specs.FinMap.{from_entries};
 ghost use Rattle.std.specs.List.{find, position};
 ghost use Rattle.std.specs.Option.{option_copied, option_map};
 ghost use Rattle.std.specs.Str.{bytes_eq};
@@ -47,6 +48,13 @@ impl PropSet {
             properties.push(Property::new(alloc, def)?)?;
         }
         Ok(PropSet { properties })
+    }
+
+    /// The set of these.
+    pub(crate) fn of(properties: Vec<Property>) -> PropSet
+        ensures { result ≡ from_entries properties.items }
+    {
+        PropSet { properties }
     }
 
     /// The int at a place: `ErrUnknown` where no int property has the name, and `ErrBadIndex` where

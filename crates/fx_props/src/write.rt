@@ -6,11 +6,10 @@ ghost use Rattle.fx_props.specs.Property.{IsAnswer};
 ghost use Rattle.fx_props.specs.Set.{refusal, Puts};
 ghost use Rattle.fx_props.specs.Value.{kind_of};
 ghost use Rattle.fx_props.specs.Entries.{IsBlank, AreBlank, AwaitEntries, Wrote, NamesDiffer, IsModerate, AreModerate};
-ghost use Rattle.fx_props.specs.Entries.{whole, region_values, range_values, texts_of, spans_of, region_of, region_entry, interest, frame_ranges};
+ghost use Rattle.fx_props.specs.Entries.{whole, range_values, texts_of, spans_of, region_of, region_entry, interest, frame_ranges};
 
 use crate::entry::composed;
 use crate::names::{CLIP_FRAMES, CLIP_REGION};
-use crate::value::name_of;
 use crate::{PropEntry, PropFault, PropKind, PropSet, PropValue};
 use fx_base::{Fix, Memory, Rect};
 use std::alloc::Global;
@@ -90,9 +89,21 @@ pub fn write_region(
     requires near { IsUpTo 2147483648 region }
     ensures { OnOk result (Wrote (region_entry name.now region ∷ []) out_args.old out_args.new) }
 {
-    let values = region_list(alloc, region)?;
-    let entry = PropEntry::new(name_of(alloc, name)?, PropKind::Fix, values)?;
-    write_entry(alloc, out_args, &entry)
+    put_whole(alloc, out_args, name, 0, region.x1)?;
+    put_whole(alloc, out_args, name, 1, region.y1)?;
+    put_whole(alloc, out_args, name, 2, region.x2)?;
+    put_whole(alloc, out_args, name, 3, region.y2)?;
+    Ok(())
+}
+
+// Puts a whole number as a fixed-point one behind those that are there.
+fn put_whole(alloc: Global, set: &mut PropSet, name: &str, index: u32, n: i64) -> Result<(), Memory>
+    requires moderate { IsModerate n }
+    requires room { refusal set.old name.now index (whole n) ≡ None }
+    ensures { OnOk result (Puts set.old set.new name.now index (whole n)) }
+{
+    let value = whole(n);
+    append(alloc, set, name, index, &value)
 }
 
 /// Writes each clip's region of interest under its composed name.
@@ -108,7 +119,11 @@ pub fn write_interest(
     requires near { All (IsUpTo 2147483648) regions.now }
     ensures { OnOk result (Wrote (interest (texts_of clips.now) (region_of regions.now)) out_args.old out_args.new) }
 {
-    write_entries(alloc, out_args, &interest_entries(alloc, clips, regions)?)
+    for (k, clip) in clips.iter().enumerate() {
+        let name = composed(alloc, CLIP_REGION, clip)?;
+        write_region(alloc, out_args, name.text(), regions[k])?;
+    }
+    Ok(())
 }
 
 /// Writes each clip's frames under its composed name: pairs of a first and a last frame.
@@ -127,24 +142,6 @@ pub fn write_frames(
     write_entries(alloc, out_args, &frame_entries(alloc, clips, spans)?)
 }
 
-fn interest_entries(
-    alloc: Global,
-    clips: &[&str],
-    regions: &[Rect],
-) -> Result<Vec<PropEntry>, Memory>
-    requires same_number { length regions.now ≡ length clips.now }
-    requires near { All (IsUpTo 2147483648) regions.now }
-    ensures { IfOk result (λ entries. entries.items ≡ interest (texts_of clips.now) (region_of regions.now)) }
-{
-    let mut entries = Vec::new(alloc);
-    for (k, clip) in clips.iter().enumerate() {
-        let values = region_list(alloc, regions[k])?;
-        let name = composed(alloc, CLIP_REGION, clip)?;
-        entries.push(PropEntry::new(name, PropKind::Fix, values)?)?;
-    }
-    Ok(entries)
-}
-
 fn frame_entries(
     alloc: Global,
     clips: &[&str],
@@ -161,20 +158,6 @@ fn frame_entries(
         entries.push(PropEntry::new(name, PropKind::Fix, values)?)?;
     }
     Ok(entries)
-}
-
-fn region_list(alloc: Global, region: Rect) -> Result<Vec<PropValue>, Memory>
-    requires { IsUpTo 2147483648 region }
-    ensures values { IfOk result (λ values. values.items ≡ region_values region) }
-    ensures of_kind { IfOk result (λ values. All (λ v. kind_of v ≡ kind.Fix) values.items) }
-{
-    let values = vec![in alloc;
-        whole(region.x1),
-        whole(region.y1),
-        whole(region.x2),
-        whole(region.y2),
-    ]?;
-    Ok(values)
 }
 
 fn range_list(alloc: Global, spans: &[(i64, i64)]) -> Result<Vec<PropValue>, Memory>

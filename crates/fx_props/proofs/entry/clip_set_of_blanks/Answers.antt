@@ -1,11 +1,10 @@
-use Rattle.fx_props.proofs.EntryLaws.{if_ok, clip_names_apart, clips_blank}
+use Rattle.std.proofs.Common.{◌≤◌, length}
+use Rattle.std.proofs.lemmas.List.{take_all}
+use Rattle.fx_props.proofs.EntryLaws.{blanks_stand}
 use Rattle.fx_props.proofs.entry.clip_set_of_blanks.Goals as goal
-
-pub set_of-requires : goal.set_of-requires
-set_of-requires c = clip_names_apart c.in_ok-clip_blanks.field-0.items c.args.prefix.now c.args.kind c.args.clips.now c.in_ok-clip_blanks.ensures c.requires
 
 pub returns : goal.returns
 returns c =
-    if_ok c.set_of.result _ _
-    (λ set blanks. clips_blank c.in_ok-clip_blanks.field-0.items c.args.prefix.now c.args.kind c.args.clips.now set c.in_ok-clip_blanks.ensures blanks)
-    c.set_of.ensures.blank
+    let past : length c.args.clips.now ≤ c.loop-clip.clip-index = rw c.items-clip-items.ensures at c.loop-clip-test.false in
+    rw c.of.ensures (blanks_stand c.loop-clip.properties.items c.args.prefix.now c.args.kind c.args.clips.now
+    (rw (c.items-clip-items.ensures, take_all c.loop-clip.clip-index c.args.clips.now past) at c.loop-clip.invariant) c.requires)
