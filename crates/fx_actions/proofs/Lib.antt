@@ -1,3 +1,3 @@
 pub mod AnswerLemmas
+pub mod AskingLemmas
 pub mod HullLemmas
-pub mod ToyLemmas

@@ -1,3 +1,3 @@
 pub mod Read
 pub mod Clips
-pub mod Toys
+pub mod Asking

@@ -2,7 +2,7 @@
 ghost use Rattle.std.specs.Prelude.{◌≡◌, ℕ, ◌++◌, IfOk};
 ghost use Rattle.fx_base.specs.Bounds.{Bounds, IsRect};
 ghost use Rattle.fx_props.specs.Entries.{HasValues, ShowsRegion, region_entry};
-ghost use Rattle.fx_effect.specs.Asked.{IsWindow};
+ghost use Rattle.fx_effect.specs.Asked.{HasRegion, HasTime, IsWindow};
 ghost use Rattle.fx_base.specs.Rect.{IsFrame};
 ghost use Rattle.fx_props.specs.declared.names.TheConstants.{CLIP_REGION};
 ghost use Rattle.fx_actions.specs.Clips.{NamesClips, each_clip};
@@ -31,8 +31,28 @@ pub fn regions_of_interest<E: ImageEffect>(
         (λ regions. regions.items ≡ each_clip names.now ((E.meaning effect.now).roi values.now window)) }
 {
     let in_args = interest_args(alloc, values.frame, window)?;
+    interest_by(alloc, effect, names, values, window, &in_args)
+}
+
+/// The same where the arguments are at hand.
+pub(crate) fn interest_by<E: ImageEffect>(
+    alloc: Global,
+    effect: &E,
+    names: &Names,
+    values: &Values,
+    window: Rect,
+    in_args: &PropSet,
+) -> Result<Vec<Rect>, Memory>
+    requires names { NamesClips (E.meaning effect.now).shape values.now names.now }
+    requires frame { IsFrame values.now.frame }
+    requires window { IsWindow window }
+    requires time { HasTime in_args.now values.now.frame }
+    requires region { HasRegion in_args.now window }
+    ensures { IfOk result
+        (λ regions. regions.items ≡ each_clip names.now ((E.meaning effect.now).roi values.now window)) }
+{
     let mut out_args = clip_set_of_blanks(alloc, CLIP_REGION, PropKind::Fix, names)?;
-    match effect.get_regions_of_interest(alloc, values, &in_args, &mut out_args)? {
+    match effect.get_regions_of_interest(alloc, values, in_args, &mut out_args)? {
         Reply::Ok => regions_in(alloc, &out_args, names),
         Reply::Default => Ok(vec![in alloc; window; names.items().len()]?),
     }

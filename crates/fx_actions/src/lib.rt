@@ -2,15 +2,13 @@
 //! what the effect answered or takes the default (OpenFX 1.4, "Image Effect Actions").
 #![tactic(auto)]
 
+mod asking;
 mod frames;
 mod interest;
 mod is_identity;
 mod region;
-#[cfg(test)]
-mod tests;
-#[cfg(test)]
-mod toys;
 
+pub use asking::Asking;
 pub use frames::frames_needed;
 pub use interest::regions_of_interest;
 pub use is_identity::identity;

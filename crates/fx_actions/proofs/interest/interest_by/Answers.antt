@@ -3,7 +3,7 @@ use Rattle.fx_props.specs.declared.value.PropKind.TheVariants as kind
 use Rattle.fx_props.specs.Entries.{AreBlank}
 use Rattle.fx_props.specs.declared.names.TheConstants.{CLIP_REGION}
 use Rattle.fx_actions.proofs.AnswerLemmas.{names_differ, interest_written, interest_left, each_clip-same}
-use Rattle.fx_actions.proofs.interest.regions_of_interest.Goals as goal
+use Rattle.fx_actions.proofs.interest.interest_by.Goals as goal
 
 pub clip_set_of_blanks-requires : goal.clip_set_of_blanks-requires
 clip_set_of_blanks-requires g c =
@@ -25,7 +25,7 @@ regions_in-requires g c =
     let v = c.args.values.now in
     let names = c.requires.names in
     let bound = g.met.E.ImageEffect in
-    let asked = c.in_ok-get_regions_of_interest.ensures names.context c.args.window names.lawful c.requires.window c.in_ok-in_args.ensures.region in
+    let asked = c.in_ok-get_regions_of_interest.ensures names.context c.args.window names.lawful c.requires.window c.requires.region in
     record {
       regions = m.roi v c.args.window;
       are = interest_written m v c.args.window c.args.names.now names _ _ _ (bound.laws c.args.effect.now) c.requires.window.bounds c.in-Ok.is asked;
@@ -37,14 +37,14 @@ returns-in-Ok g c =
     let v = c.args.values.now in
     let names = c.requires.names in
     let bound = g.met.E.ImageEffect in
-    let asked = c.in_ok-get_regions_of_interest.ensures names.context c.args.window names.lawful c.requires.window c.in_ok-in_args.ensures.region in
+    let asked = c.in_ok-get_regions_of_interest.ensures names.context c.args.window names.lawful c.requires.window c.requires.region in
     c.regions_in.ensures (m.roi v c.args.window) (interest_written m v c.args.window c.args.names.now names _ _ _ (bound.laws c.args.effect.now) c.requires.window.bounds c.in-Ok.is asked)
 
 pub returns : goal.returns
 returns g c =
     let m = g.E.ImageEffect.meaning c.args.effect.now in
     let names = c.requires.names in
-    let asked = c.in_ok-get_regions_of_interest.ensures names.context c.args.window names.lawful c.requires.window c.in_ok-in_args.ensures.region in
+    let asked = c.in_ok-get_regions_of_interest.ensures names.context c.args.window names.lawful c.requires.window c.requires.region in
     let same = interest_left m c.args.values.now c.args.window names.context _ _ _ c.in-Default.is asked in
     c.in_ok-vec-in-Default.ensures.items_if_clones_equal (λ y e. e)
     ∙ ap (λ ns. replicate (length ns) c.args.window) c.items.ensures
