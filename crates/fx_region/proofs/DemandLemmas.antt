@@ -1,11 +1,16 @@
 -- What is needed is gathered clip by clip, frame by frame and tile by tile.
-use Rattle.std.proofs.Common.{◌≡◌, ℕ, ◌<◌, ◌≤◌, ◌+◌, ℤ, List, [], ◌∷◌, ◌++◌, map, length, get_or, take, Option, refl, sym, ap, ◌∙◌, subst, arith}
+use Rattle.std.proofs.Common.{◌≡◌, ℕ, ◌<◌, ◌+◌, ℤ, pos, ◌<ℤ◌, ◌≤ℤ◌, ◌+ℤ◌, append_assoc, append-nil, List, [], ◌∷◌, ◌++◌, map, length, get_or, take, Option, refl, sym, ap, ◌∙◌, arith}
 use Rattle.std.specs.List.{flat_map, range_with_len}
-use Rattle.std.proofs.lemmas.List.{flat_map_more, take_all, take_more}
+use Rattle.std.proofs.lemmas.Grind.{flat_map-append}
+use Rattle.std.proofs.lemmas.List.{flat_map_more, take_more}
+use Rattle.std.proofs.lemmas.List.Concat.{flat_map-cons}
 use Rattle.std.proofs.lemmas.List.FromFn.{get_or-map-range_with_len, length-map-range_with_len, map-range_with_len_more}
-use Rattle.fx_base.specs.Bounds.{Bounds}
-use Rattle.fx_base.specs.Grid.{tiles_of}
+use Rattle.fx_base.specs.Bounds.{Bounds, none}
+use Rattle.fx_base.specs.Grid.{tile_after, tile_at, tile_of, tiles_between, tiles_in_rows, tiles_of}
 use Rattle.fx_base.specs.Rect.{meet}
+use Rattle.fx_base.proofs.GridLaws.{row_step, rows_end, rows_step, tiles_of-empty}
+use Rattle.fx_base.proofs.RectLemmas.{is_empty-none}
+use Rattle.fx_base.proofs.RunLaws.{int_range-end}
 use Rattle.fx_actions.specs.Clips.{each_clip}
 use Rattle.fx_effect.specs.declared.values.Values.{Values}
 use Rattle.fx_scene.specs.Areas.{area}
@@ -42,25 +47,61 @@ pub tile_done : (nodes : Nodes) (c m : ℕ) (f : ℤ) (tile a cut : Bounds) (e :
 tile_done nodes c m f tile a cut e old new is at found pushed =
     pushed ∙ ap (λ z. old ++ needed c f z) (found ∙ ap (end_of nodes m f) (at ∙ ap (meet tile) is))
 
--- so one tile more is done
-pub tile_step : (nodes : Nodes) (c m : ℕ) (f : ℤ) (tiles : List Bounds) (i : ℕ) (tile a cut : Bounds) (e : EndShown)
-    (old mid new : List NeedShown) → i < length tiles → tile ≡ get_or tiles i tile → a ≡ area nodes m f
-    → cut ≡ meet tile a → e ≡ end_of nodes m f cut
-    → mid ≡ old ++ flat_map (tile_needs (end_of nodes) (area nodes) c m f) (take i tiles) → new ≡ mid ++ needed c f e
-    → new ≡ old ++ flat_map (tile_needs (end_of nodes) (area nodes) c m f) (take (i + 1) tiles)
-tile_step nodes c m f tiles i tile a cut e old mid new low there is at found so pushed =
-    let F : Bounds → List NeedShown = tile_needs (end_of nodes) (area nodes) c m f in
-    more_taken F old mid new tiles i tile low so
-    (subst (λ (z : Bounds). new ≡ mid ++ F z) there (tile_done nodes c m f tile a cut e mid new is at found pushed))
+-- one tile more of a row
+pub row_more : (F : Bounds → List NeedShown) (side : ℕ) (j i next end i' j' : ℤ) (tile : Bounds)
+    (mid new all : List NeedShown) → i <ℤ end → next ≡ i +ℤ pos 1 → i' ≡ i → j' ≡ j → tile ≡ tile_at side i' j'
+    → new ≡ mid ++ F tile → mid ++ flat_map F (tiles_between side j i end) ≡ all
+    → new ++ flat_map F (tiles_between side j next end) ≡ all
+row_more F side j i next end i' j' tile mid new all low is column row at pushed so =
+    let rest = tiles_between side j next end in
+    let step : tile ∷ rest ≡ tiles_between side j i end = row_step side i j next end i' j' tile [] (tile ∷ []) low is column row at refl in
+    ap (λ xs. xs ++ flat_map F rest) pushed ∙ append_assoc mid (F tile) (flat_map F rest)
+    ∙ ap (λ xs. mid ++ xs) (sym (flat_map-cons F tile rest)) ∙ ap (λ tiles. mid ++ flat_map F tiles) step ∙ so
 
--- in the end all tiles are done
-pub tiles_done : (nodes : Nodes) (side : ℕ) (interest a : Bounds) (c m : ℕ) (f : ℤ) (tiles items : List Bounds) (i : ℕ)
-    (old new : List NeedShown) → a ≡ area nodes m f → tiles ≡ tiles_of side (meet interest a) → items ≡ tiles
-    → length items ≤ i → new ≡ old ++ flat_map (tile_needs (end_of nodes) (area nodes) c m f) (take i items)
+-- in the end the row is done
+pub row_done : (F : Bounds → List NeedShown) (side : ℕ) (j i end : ℤ) (new all : List NeedShown) → end ≤ℤ i
+    → new ++ flat_map F (tiles_between side j i end) ≡ all → new ≡ all
+row_done F side j i end new all past so =
+    sym (append-nil new)
+    ∙ sym (ap (λ columns. new ++ flat_map F (map (λ k. tile_at side k j) columns)) (int_range-end i end past)) ∙ so
+
+-- one row more
+pub rows_more : (F : Bounds → List NeedShown) (side : ℕ) (r : Bounds) (j next end j' left right : ℤ)
+    (mid new all : List NeedShown) → j <ℤ end → next ≡ j +ℤ pos 1 → j' ≡ j → left ≡ tile_of side r.x1
+    → right ≡ tile_after side r.x2 → new ≡ mid ++ flat_map F (tiles_between side j' left right)
+    → mid ++ flat_map F (tiles_in_rows side r j end) ≡ all → new ++ flat_map F (tiles_in_rows side r next end) ≡ all
+rows_more F side r j next end j' left right mid new all low is row from to pushed so =
+    let tiles = tiles_between side j' left right in
+    let rest = tiles_in_rows side r next end in
+    let step : tiles ++ rest ≡ tiles_in_rows side r j end = rows_step side r j next end j' left right [] tiles low is row from to refl in
+    ap (λ xs. xs ++ flat_map F rest) pushed ∙ append_assoc mid (flat_map F tiles) (flat_map F rest)
+    ∙ ap (λ xs. mid ++ xs) (sym (flat_map-append F tiles rest)) ∙ ap (λ ts. mid ++ flat_map F ts) step ∙ so
+
+-- in the end all rows are done
+pub rows_done : (F : Bounds → List NeedShown) (side : ℕ) (r : Bounds) (j end : ℤ) (new all : List NeedShown)
+    → end ≤ℤ j → new ++ flat_map F (tiles_in_rows side r j end) ≡ all → new ≡ all
+rows_done F side r j end new all past so =
+    sym (append-nil new) ∙ sym (ap (λ tiles. new ++ flat_map F tiles) (rows_end side r j end [] past)) ∙ so
+
+-- a region that has no place needs none
+pub no_tiles : (nodes : Nodes) (side : ℕ) (interest a cut : Bounds) (c m : ℕ) (f : ℤ) (old : List NeedShown)
+    → a ≡ area nodes m f → cut ≡ meet interest a → cut ≡ none
+    → old ≡ old ++ frame_needs (end_of nodes) (area nodes) side interest c m f
+no_tiles nodes side interest a cut c m f old is at e =
+    let r = meet interest (area nodes m f) in
+    let same : cut ≡ r = at ∙ ap (meet interest) is in
+    sym (append-nil old)
+    ∙ ap (λ tiles. old ++ flat_map (tile_needs (end_of nodes) (area nodes) c m f) tiles)
+    (sym (tiles_of-empty side r (is_empty-none r (sym same ∙ e))))
+
+-- and every other those of its tiles
+pub some_tiles : (nodes : Nodes) (side : ℕ) (interest a cut : Bounds) (c m : ℕ) (f : ℤ) (old new : List NeedShown)
+    → a ≡ area nodes m f → cut ≡ meet interest a
+    → new ≡ old ++ flat_map (tile_needs (end_of nodes) (area nodes) c m f) (tiles_of side cut)
     → new ≡ old ++ frame_needs (end_of nodes) (area nodes) side interest c m f
-tiles_done nodes side interest a c m f tiles items i old new is all same past so =
-    so ∙ ap (λ zs. old ++ flat_map (tile_needs (end_of nodes) (area nodes) c m f) zs)
-    (take_all i items past ∙ same ∙ all ∙ ap (λ z. tiles_of side (meet interest z)) is)
+some_tiles nodes side interest a cut c m f old new is at now =
+    now ∙ ap (λ z. old ++ flat_map (tile_needs (end_of nodes) (area nodes) c m f) (tiles_of side z))
+    (at ∙ ap (meet interest) is)
 
 -- the interest in a clip
 pub interest_at : (o : EffectNode) (t : ℤ) (region : Bounds) (interest : List Bounds) (c : ℕ) (r : Bounds)

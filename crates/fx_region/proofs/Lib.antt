@@ -6,4 +6,3 @@ pub mod TableLemmas
 pub mod FollowLemmas
 pub mod DemandLemmas
 pub mod StandLemmas
-pub mod ToyLemmas

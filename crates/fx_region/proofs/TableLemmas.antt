@@ -10,6 +10,7 @@ use Rattle.std.specs.BTreeSet.{BTreeSet}
 use Rattle.std.specs.List.{AllByRecursion, range_with_len}
 use Rattle.std.specs.List.Sorted.{IsStrictlySortedBy}
 use Rattle.std.specs.Map.{lookup}
+use Rattle.std.specs.Option.{option_map}
 use Rattle.std.specs.Ordering.{int_eq}
 use Rattle.std.specs.declared.alloc.Global.{Global}
 use Rattle.std.specs.declared.cmp.Ordering.TheVariants.{Less}
@@ -31,7 +32,9 @@ use Rattle.fx_scene.proofs.OpenLemmas.{own_frame}
 use Rattle.fx_scene.proofs.RankLemmas.{has_key, is_lower, key_of}
 use Rattle.fx_scene.proofs.ReachLemmas.{is_same}
 use Rattle.fx_region.specs.Sites.{scene_nodes}
-use Rattle.fx_region.specs.Tables.{AreAreas, AreAreasOf, AreReads, AreRegions, Has, HasClip, HasReads, IsMadeOf, IsOrder, IsTable, look}
+use Rattle.fx_region.specs.Tables.{AreAreas, AreAreasOf, AreAskedSo, AreReads, AreRegions, Has, HasClip, HasReads, IsAskedSo, IsMadeOf, IsOrder, IsTable, known}
+use Rattle.fx_region.specs.declared.regions.Asked.{Asked}
+use Rattle.fx_region.specs.declared.regions.Reached.{Reached}
 use Rattle.fx_region.specs.declared.regions.Regions.{Regions}
 
 -- ---- the order of what is reached
@@ -61,24 +64,24 @@ reached_same a b output first last n t same h s closed =
 pub record IsFilling (moments : BTreeSet Moment) (rest : List Moment) (regions : Regions) : Type 0 where
   pub sorted : IsStrictlySortedBy moment_cmp rest
   pub listed : (k : Moment) → In rest k → In moments.keys k
-  pub left : (k : Moment) → In moments.keys k → In rest k ⊎ IsSome (get moment_cmp regions.areas k)
-  pub only : (k : Moment) → IsSome (get moment_cmp regions.areas k) → In moments.keys k
+  pub left : (k : Moment) → In moments.keys k → In rest k ⊎ IsSome (get moment_cmp regions.reached k)
+  pub only : (k : Moment) → IsSome (get moment_cmp regions.reached k) → In moments.keys k
 
 -- an empty map has nothing
-pub none_in : (m : BTreeMap Moment Bounds) → m.entries ≡ [] → (k : Moment) → get moment_cmp m k ≡ None
+pub none_in : (m : BTreeMap Moment Reached) → m.entries ≡ [] → (k : Moment) → get moment_cmp m k ≡ None
 none_in m e k = ap (lookup (is_at (moment_cmp k))) e
 
-not_some : (o : Option Bounds) → o ≡ None → IsSome o → ⊥
-not_some o e h = let f = ap (λ (p : Option Bounds). is_some p) e in cc
+not_some : (o : Option Reached) → o ≡ None → IsSome o → ⊥
+not_some o e h = let f = ap (λ (p : Option Reached). is_some p) e in cc
 
 pub filling_start : (moments : BTreeSet Moment) (regions : Regions) → IsStrictlySortedBy moment_cmp moments.keys
-    → regions.areas.entries ≡ [] → IsFilling moments moments.keys regions
+    → regions.reached.entries ≡ [] → IsFilling moments moments.keys regions
 filling_start moments regions sorted none =
     record {
       sorted = sorted;
       listed = λ k i. i;
       left = λ k i. inl i;
-      only = λ k some. absurd (not_some _ (none_in regions.areas none k) some);
+      only = λ k some. absurd (not_some _ (none_in regions.reached none k) some);
     }
 
 -- the first that is left is one of the moments
@@ -118,18 +121,18 @@ filling_reads nodes count moments m rest regions are few order f k g r =
     ]
 
 -- a map with one more entry
-still_some : (m : Moment) (a : Bounds) (old new : BTreeMap Moment Bounds) (k : Moment)
+still_some : (m : Moment) (a : Reached) (old new : BTreeMap Moment Reached) (k : Moment)
     → Updates moment_cmp old new m (Some a) → IsSome (get moment_cmp old k) → IsSome (get moment_cmp new k)
 still_some m a old new k u some =
-    ap (λ (o : Option Bounds). is_some o) (u.0 k) ∙ by_test (is_at (moment_cmp m) k) (get moment_cmp old k) some
+    ap (λ (o : Option Reached). is_some o) (u.0 k) ∙ by_test (is_at (moment_cmp m) k) (get moment_cmp old k) some
   where
-    by_test : (b : Bool) (o : Option Bounds) → IsSome o → IsSome (cond b (Some a) o)
+    by_test : (b : Bool) (o : Option Reached) → IsSome o → IsSome (cond b (Some a) o)
     by_test true o h = refl
     by_test false o h = h
 
 -- it has its region
-pub filling_step : (moments : BTreeSet Moment) (m : Moment) (rest : List Moment) (a : Bounds) (old new : Regions)
-    → IsFilling moments (m ∷ rest) old → Updates moment_cmp old.areas new.areas m (Some a)
+pub filling_step : (moments : BTreeSet Moment) (m : Moment) (rest : List Moment) (a : Reached) (old new : Regions)
+    → IsFilling moments (m ∷ rest) old → Updates moment_cmp old.reached new.reached m (Some a)
     → IsFilling moments rest new
 filling_step moments m rest a old new f u =
     record {
@@ -137,15 +140,15 @@ filling_step moments m rest a old new f u =
       listed = λ k i. f.listed k (inr i);
       left = λ k i. elim (f.left k i) [
         | inl j ↦ elim j [
-          | inl e ↦ inr (subst (λ (x : Moment). IsSome (get moment_cmp new.areas x)) e (ap (λ (o : Option Bounds). is_some o) u.1))
+          | inl e ↦ inr (subst (λ (x : Moment). IsSome (get moment_cmp new.reached x)) e (ap (λ (o : Option Reached). is_some o) u.1))
           | inr l ↦ inl l
         ]
-        | inr some ↦ inr (still_some m a old.areas new.areas k u some)
+        | inr some ↦ inr (still_some m a old.reached new.reached k u some)
       ];
-      only = λ k some. by_test k (is_at (moment_cmp m) k) refl (sym (ap (λ (o : Option Bounds). is_some o) (u.0 k)) ∙ some);
+      only = λ k some. by_test k (is_at (moment_cmp m) k) refl (sym (ap (λ (o : Option Reached). is_some o) (u.0 k)) ∙ some);
     }
   where
-    by_test : (k : Moment) (b : Bool) → is_at (moment_cmp m) k ≡ b → IsSome (cond b (Some a) (get moment_cmp old.areas k))
+    by_test : (k : Moment) (b : Bool) → is_at (moment_cmp m) k ≡ b → IsSome (cond b (Some a) (get moment_cmp old.reached k))
         → In moments.keys k
     by_test k true is some =
         let at = is_same m k.node k.frame is in
@@ -154,24 +157,56 @@ filling_step moments m rest a old new f u =
     by_test k false is some = f.only k some
 
 -- and each region is the node's area
-pub right_step : (nodes : Nodes) (m : Moment) (a : Bounds) (old new : Regions) → AreAreas nodes old
-    → a ≡ area nodes m.node m.frame → Updates moment_cmp old.areas new.areas m (Some a) → AreAreas nodes new
+pub right_step : (nodes : Nodes) (m : Moment) (a : Reached) (old new : Regions) → AreAreas nodes old
+    → a.area ≡ area nodes m.node m.frame → Updates moment_cmp old.reached new.reached m (Some a) → AreAreas nodes new
 right_step nodes m a old new are is u n t r e =
-    by_test (is_at (moment_cmp m) (moment n t)) refl (sym (u.0 (moment n t)) ∙ e)
+    by_test (is_at (moment_cmp m) (moment n t)) refl (sym (ap (option_map (λ (k : Reached). k.area)) (u.0 (moment n t))) ∙ e)
   where
-    by_test : (b : Bool) → is_at (moment_cmp m) (moment n t) ≡ b → cond b (Some a) (look old n t) ≡ Some r
-        → r ≡ area nodes n t
+    by_test : (b : Bool) → is_at (moment_cmp m) (moment n t) ≡ b
+        → option_map (λ (k : Reached). k.area) (cond b (Some a) (known old n t)) ≡ Some r → r ≡ area nodes n t
     by_test true at h =
         let same = is_same m n t at in
-        sym (same_Some a r h) ∙ is ∙ ap (λ (k : ℕ). area nodes k m.frame) (sym same.0) ∙ ap (area nodes n) (sym same.1)
+        sym (same_Some a.area r h) ∙ is ∙ ap (λ (k : ℕ). area nodes k m.frame) (sym same.0) ∙ ap (area nodes n) (sym same.1)
     by_test false at h = are n t r h
+
+-- and each node is asked so
+pub asked_step : (nodes : Nodes) (m : Moment) (a : Reached) (old new : Regions) → AreAskedSo nodes old
+    → IsAskedSo (nodes m.node) m.frame a.asked → Updates moment_cmp old.reached new.reached m (Some a)
+    → AreAskedSo nodes new
+asked_step nodes m a old new are is u n t r e =
+    by_test (is_at (moment_cmp m) (moment n t)) refl (sym (u.0 (moment n t)) ∙ e)
+  where
+    by_test : (b : Bool) → is_at (moment_cmp m) (moment n t) ≡ b → cond b (Some a) (known old n t) ≡ Some r
+        → IsAskedSo (nodes n) t r.asked
+    by_test true at h =
+        let same = is_same m n t at in
+        subst (λ (k : Reached). IsAskedSo (nodes n) t k.asked) (same_Some a r h)
+        (subst (λ (k : ℕ). IsAskedSo (nodes k) t a.asked) (sym same.0)
+        (subst (λ (f : ℤ). IsAskedSo (nodes m.node) f a.asked) (sym same.1) is))
+    by_test false at h = are n t r h
+
+-- an effect is asked somehow
+pub asked_some : (node : Node) (o : EffectNode) (t : ℤ) (asked : Option Asked) → node ≡ Effect o
+    → IsAskedSo node t asked → IsSome asked
+asked_some node o t asked stands is = by_asked asked (subst (λ (n : Node). IsAskedSo n t asked) stands is)
+  where
+    by_asked : (a : Option Asked) → IsAskedSo (Effect o) t a → IsSome a
+    by_asked None h = absurd h
+    by_asked (Some a) h = refl
+
+-- with the effect's values, and what it reads
+pub asked_so : (node : Node) (o : EffectNode) (t : ℤ) (asked : Option Asked) (a : Asked) → node ≡ Effect o
+    → IsAskedSo node t asked → asked ≡ Some a → (a.values ≡ o.values t) × AreReads o t a.reads.items
+asked_so node o t asked a stands is some =
+    subst (IsAskedSo (Effect o) t) some (subst (λ (n : Node). IsAskedSo n t asked) stands is)
 
 -- in the end each of them has its region
 pub filling_end : (nodes : Nodes) (moments : BTreeSet Moment) (regions : Regions) → AreAreas nodes regions
-    → IsFilling moments [] regions → AreAreasOf nodes moments regions
-filling_end nodes moments regions right f =
+    → AreAskedSo nodes regions → IsFilling moments [] regions → AreAreasOf nodes moments regions
+filling_end nodes moments regions right asked f =
     record {
       right = right;
+      asked = asked;
       all = λ n t h. elim (f.left (moment n t) (key_of moments n t h)) [ inl i ↦ absurd i | inr some ↦ some ];
       only = λ n t some. has_key moments (moment n t) (f.only (moment n t) some);
     }
@@ -186,6 +221,7 @@ pub regions_made : (a b : Nodes) (count output : ℕ) (at : ℤ) (moments : BTre
 regions_made a b count output at moments regions there back reach places are =
     record {
       right = are.right;
+      asked = are.asked;
       all = λ n t h. are.all n t (reach.all n t (reached_same b a output at at n t back h));
       only = λ n t some. reached_same a b output at at n t there (reach.only n t (are.only n t some));
       places = λ n t some. places n t (are.only n t some);
@@ -197,6 +233,7 @@ pub is_table : (nodes : Nodes) (count output : ℕ) (at : ℤ) (regions : Region
 is_table nodes count output at regions are =
     record {
       right = are.right;
+      asked = are.asked;
       reads = λ n t some m f r. are.all m f (λ s closed. closed.reads n t (are.only n t some s closed) m f r);
       places = are.places;
     }

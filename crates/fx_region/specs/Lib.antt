@@ -6,4 +6,3 @@ pub mod Sites
 pub mod Tables
 pub mod Follow
 pub mod Stands
-pub mod Toy

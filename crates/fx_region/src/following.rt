@@ -11,15 +11,15 @@ ghost use Rattle.fx_region.specs.Follow.{GoesToRead, clip_stand, stand_end};
 ghost use Rattle.fx_region.specs.Sites.{effect_at, scene_nodes, site_nodes};
 ghost use Rattle.fx_region.specs.Stands.{StandsBelow};
 ghost use Rattle.fx_region.specs.Suffice.{ShowsEnd};
-ghost use Rattle.fx_region.specs.Tables.{Has, IsMadeOf, IsTable};
+ghost use Rattle.fx_region.specs.Tables.{Has, IsAskedSo, IsMadeOf, IsTable};
 
 use crate::ends::End;
-use crate::regions::Regions;
+use crate::regions::{Reached, Regions};
 use crate::site::{EffectNode, NodeAt, Site, node_at, site_of};
-use fx_actions::identity;
+use fx_actions::Asking;
 use fx_base::{Memory, Rect};
-use fx_effect::{Catalogue, Identity, Step, Steps, window_args};
-use fx_scene::{Scene, shown_frame, use_values};
+use fx_effect::{Catalogue, Identity, Step, Steps, Values};
+use fx_scene::{Scene, shown_frame};
 use std::alloc::Global;
 
 /// What a region of a node comes to at the node.
@@ -58,12 +58,14 @@ pub fn follow<E: Catalogue>(
         IfOk result (λ end. StandsBelow nodes regions.now (node + 1) (end_shown end)) }
 {
     let site = site_of(scene);
-    find(alloc, &site, regions, node, frame, region)
+    let mut asking = Asking::new(alloc)?;
+    find(alloc, &mut asking, &site, regions, node, frame, region)
 }
 
 /// The same in the graph of a scene.
 pub(crate) fn find<E: Catalogue>(
     alloc: Global,
+    asking: &mut Asking,
     site: &Site<'_, E>,
     regions: &Regions,
     node: u32,
@@ -76,19 +78,19 @@ pub(crate) fn find<E: Catalogue>(
     ensures { let nodes = site_nodes E.meaning site.now in
         IfOk result (λ end. end_shown end ≡ end_of nodes node frame region) }
 {
-    let area = regions.rod(node, frame);
-    let cut = region.meet(area);
+    let reached = regions.known(node, frame);
+    let cut = region.meet(reached.area);
     if cut.is_empty() {
         return Ok(End::Void);
     }
-    match stand_of(alloc, site, node, frame, cut)? {
+    match stand_of(alloc, asking, site, reached, node, frame, cut)? {
         Stand::Here(end) => Ok(end),
         Stand::Onward {
             node: m,
             frame: f,
             step,
         } => {
-            let end = find(alloc, site, regions, m, f, cut)?;
+            let end = find(alloc, asking, site, regions, m, f, cut)?;
             with_step(end, step)
         }
     }
@@ -97,13 +99,16 @@ pub(crate) fn find<E: Catalogue>(
 // What a region of a node's area comes to at the node.
 fn stand_of<E: Catalogue>(
     alloc: Global,
+    asking: &mut Asking,
     site: &Site<'_, E>,
+    reached: &Reached,
     node: u32,
     frame: i64,
     cut: Rect,
 ) -> Result<Stand, Memory>
     requires nodes { AreNodes (site_nodes E.meaning site.now) }
     requires place { IsPlace (length site.now.graph.now.nodes.items) node frame }
+    requires asked { IsAskedSo (site_nodes E.meaning site.now node) frame reached.now.asked }
     requires window { IsWindow cut }
     requires some { cut ≢ none }
     ensures end { let nodes = site_nodes E.meaning site.now in (ends : Ends)
@@ -119,7 +124,11 @@ fn stand_of<E: Catalogue>(
             let shown = shown_frame(source.first, source.last, source.hold, frame);
             Ok(Stand::Here(source_end(alloc, node, step, shown, cut)?))
         }
-        NodeAt::Effect(used) => effect_stand(alloc, site.graph.project, &used, frame, cut),
+        NodeAt::Effect(used) => {
+            let values = &reached.of_effect().values;
+            let project = site.graph.project;
+            effect_stand(alloc, asking, values, project, &used, frame, cut)
+        }
     }
 }
 
@@ -148,23 +157,25 @@ fn source_end(
 // What a region of an effect's area comes to at its node.
 fn effect_stand<E: Catalogue>(
     alloc: Global,
-    project: Rect,
+    asking: &mut Asking,
+    values: &Values,
+    _project: Rect,
     node: &EffectNode<'_, E>,
     frame: i64,
     cut: Rect,
 ) -> Result<Stand, Memory>
-    requires effect { IsEffectNode node.now.place (effect_at E.meaning project node.now) }
+    requires effect { IsEffectNode node.now.place (effect_at E.meaning _project node.now) }
+    requires values { values.now ≡ (effect_at E.meaning _project node.now).values frame }
     requires frame { IsFrame frame }
     requires window { IsWindow cut }
     requires some { cut ≢ none }
-    ensures end { let o = effect_at E.meaning project node.now in (ends : Ends)
+    ensures end { let o = effect_at E.meaning _project node.now in (ends : Ends)
         → IfOk result (λ stand. stand_end ends cut stand
         ≡ effect_end cut_alone ends node.now.place o frame cut (o.meaning.same (o.values frame) cut)) }
-    ensures read { let o = effect_at E.meaning project node.now in IfOk result (GoesToRead (Effect o) frame) }
+    ensures read { let o = effect_at E.meaning _project node.now in IfOk result (GoesToRead (Effect o) frame) }
 {
-    let values = use_values(alloc, project, node.clips, node.params, frame)?;
-    let args = window_args(alloc, frame, cut)?;
-    match identity(node.effect, &values, &args) {
+    let answer = asking.identity(alloc, node.effect, values, cut)?;
+    match answer {
         Identity::No => Ok(Stand::Here(End::Render {
             node: node.place,
             frame,

@@ -8,12 +8,9 @@ mod following;
 pub mod laws;
 mod regions;
 pub mod site;
-#[cfg(test)]
-mod tests;
-#[cfg(test)]
-mod toy;
+mod tiles;
 
-pub use demanding::demand;
+pub use demanding::{demand, demand_by};
 pub use ends::{End, Need};
 pub use following::follow;
 pub use regions::Regions;

@@ -1,5 +1,5 @@
 //! The regions of definition of the nodes that are reached.
-ghost use Rattle.std.specs.Prelude.{◌≡◌, ◌≤◌, ◌≤ℤ◌, ◌∷◌, ℕ, ℤ, List, pos, neg_ℤ, Some, length, map, All, IfOk, OnOk};
+ghost use Rattle.std.specs.Prelude.{◌≡◌, ◌≤◌, ◌≤ℤ◌, ◌∷◌, ℕ, ℤ, List, pos, neg_ℤ, Some, length, map, All, IfOk, IsSome, OnOk};
 ghost use Rattle.std.specs.BTreeMap.{Updates};
 ghost use Rattle.std.specs.Option.{option_copied};
 ghost use Rattle.fx_base.specs.Bounds.{none};
@@ -15,12 +15,12 @@ ghost use Rattle.fx_scene.specs.Reach.{IsNearFrame, IsPlace, moment_cmp};
 ghost use Rattle.fx_scene.specs.Scenes.{graph_shown, shown_frame};
 ghost use Rattle.fx_scene.specs.Value.{value};
 ghost use Rattle.fx_region.specs.Sites.{StandsIn, area_shown, effect_at, image_shown, scene_nodes, site_nodes};
-ghost use Rattle.fx_region.specs.Tables.{AreAreas, AreAreasOf, AreReads, AreRegions, Has, HasClip, HasReads, IsOrder, look};
+ghost use Rattle.fx_region.specs.Tables.{AreAreas, AreAreasOf, AreAskedSo, AreReads, AreRegions, Has, HasClip, HasReads, IsAskedSo, IsOrder, known, look};
 
 use crate::site::{EffectNode, NodeAt, Site, SourceNode, node_at, site_of};
 use fx_actions::region_of_definition;
 use fx_base::{Memory, Rect};
-use fx_effect::{Catalogue, ImageEffect};
+use fx_effect::{Catalogue, ImageEffect, Values};
 use fx_image::Image;
 use fx_scene::{Moment, Scene, frames_read, reach, shown_frame, use_values};
 use fx_seq::Store;
@@ -28,10 +28,37 @@ use std::alloc::Global;
 use std::collections::{BTreeMap, BTreeSet};
 
 /// For each node and each frame at which the output reads it, the region outside of which the node is zero, in
-/// pixels. Contracts see what the table has of a node at a frame.
+/// pixels, and how an effect is asked there. Contracts see what the table has of a node at a frame.
 #[derive(Drop)]
 pub struct Regions {
-    areas: BTreeMap<Moment, Rect>,
+    reached: BTreeMap<Moment, Reached>,
+}
+
+/// What is known of a node at a frame: its region of definition, and of an effect how it is asked there.
+#[derive(Drop)]
+pub(crate) struct Reached {
+    pub(crate) area: Rect,
+    pub(crate) asked: Option<Asked>,
+}
+
+/// The values that an effect is asked with at a frame, and for each clip the frames that it reads.
+#[derive(Drop)]
+pub(crate) struct Asked {
+    pub(crate) values: Values,
+    pub(crate) reads: Vec<Vec<i64>>,
+}
+
+impl Reached {
+    /// How an effect is asked.
+    pub(crate) fn of_effect(&self) -> &Asked
+        requires { IsSome self.now.asked }
+        ensures { self.now.asked ≡ Some result.now }
+    {
+        match &self.asked {
+            Some(asked) => asked,
+            None => unreachable!(),
+        }
+    }
 }
 
 impl Regions {
@@ -59,8 +86,18 @@ impl Regions {
         ensures zero { (nodes : Nodes) → AreNodes nodes → AreAreas nodes self.now → (x y : ℤ)
             → (Holds result x y → ⊥) → value nodes node frame x y ≡ zero (components_at nodes node) }
     {
-        match self.areas.get(&Moment { node, frame }) {
-            Some(area) => *area,
+        self.known(node, frame).area
+    }
+
+    /// What is known of a node at a frame at which it is reached.
+    pub(crate) fn known(&self, node: u32, frame: i64) -> &Reached
+        requires { Has self.now node frame }
+        ensures there { known self.now node frame ≡ Some result.now }
+        ensures area { (nodes : Nodes) → AreAreas nodes self.now → result.now.area ≡ area nodes node frame }
+        ensures asked { (nodes : Nodes) → AreAskedSo nodes self.now → IsAskedSo (nodes node) frame result.now.asked }
+    {
+        match self.reached.get(&Moment { node, frame }) {
+            Some(reached) => reached,
             None => unreachable!(),
         }
     }
@@ -77,38 +114,42 @@ fn fill<E: Catalogue>(
     ensures { IfOk result (AreAreasOf (site_nodes E.meaning site.now) moments.now) }
 {
     let mut regions = Regions {
-        areas: BTreeMap::new(alloc),
+        reached: BTreeMap::new(alloc),
     };
     for moment in moments {
-        let area = area_of(alloc, site, &regions, *moment)?;
-        put(&mut regions, *moment, area)?;
+        let reached = reached_at(alloc, site, &regions, *moment)?;
+        put(&mut regions, *moment, reached)?;
     }
     Ok(regions)
 }
 
-fn put(regions: &mut Regions, moment: Moment, area: Rect) -> Result<(), Memory>
-    ensures { OnOk result (Updates moment_cmp regions.old.areas regions.new.areas moment (Some area)) }
+fn put(regions: &mut Regions, moment: Moment, reached: Reached) -> Result<(), Memory>
+    ensures { OnOk result (Updates moment_cmp regions.old.reached regions.new.reached moment (Some reached)) }
 {
-    regions.areas.insert(moment, area)?;
+    regions.reached.insert(moment, reached)?;
     Ok(())
 }
 
-// The region of a node at a frame, by those of what it reads.
-fn area_of<E: Catalogue>(
+// What is known of a node at a frame, by the regions of what it reads.
+fn reached_at<E: Catalogue>(
     alloc: Global,
     site: &Site<'_, E>,
     regions: &Regions,
     moment: Moment,
-) -> Result<Rect, Memory>
+) -> Result<Reached, Memory>
     requires nodes { AreNodes (site_nodes E.meaning site.now) }
     requires place { IsPlace (length site.now.graph.now.nodes.items) moment.node moment.frame }
     requires right { AreAreas (site_nodes E.meaning site.now) regions.now }
     requires reads { HasReads regions.now (site_nodes E.meaning site.now moment.node) moment.frame }
-    ensures { IfOk result (λ r. r ≡ area (site_nodes E.meaning site.now) moment.node moment.frame) }
+    ensures area { IfOk result (λ r. r.area ≡ area (site_nodes E.meaning site.now) moment.node moment.frame) }
+    ensures asked { IfOk result (λ r. IsAskedSo (site_nodes E.meaning site.now moment.node) moment.frame r.asked) }
 {
     match node_at(site.graph, moment.node) {
-        NodeAt::Source(source) => Ok(source_area(site.store, moment, source)),
-        NodeAt::Effect(node) => effect_area(alloc, site, regions, &node, moment.frame),
+        NodeAt::Source(source) => Ok(Reached {
+            area: source_area(site.store, moment, source),
+            asked: None,
+        }),
+        NodeAt::Effect(node) => effect_reached(alloc, site, regions, &node, moment.frame),
     }
 }
 
@@ -136,33 +177,39 @@ fn image_shown<'s>(store: &'s Store, moment: Moment, source: SourceNode) -> Opti
     }
 }
 
-// What an effect answers for the regions of its clips.
-fn effect_area<E: Catalogue>(
+// What an effect answers for the regions of its clips, with how it is asked.
+fn effect_reached<E: Catalogue>(
     alloc: Global,
     site: &Site<'_, E>,
     regions: &Regions,
     node: &EffectNode<'_, E>,
     frame: i64,
-) -> Result<Rect, Memory>
+) -> Result<Reached, Memory>
     requires nodes { AreNodes (site_nodes E.meaning site.now) }
     requires there { StandsIn (graph_shown site.now.graph.now) node.now }
     requires near { IsNearFrame node.now.place frame }
     requires right { AreAreas (site_nodes E.meaning site.now) regions.now }
     requires reads { HasReads regions.now (Effect (effect_at E.meaning site.now.graph.now.project node.now)) frame }
-    ensures { IfOk result (λ r. r ≡ area (site_nodes E.meaning site.now) node.now.place frame) }
+    ensures area { IfOk result (λ r. r.area ≡ area (site_nodes E.meaning site.now) node.now.place frame) }
+    ensures asked { let o = effect_at E.meaning site.now.graph.now.project node.now in
+        IfOk result (λ r. IsAskedSo (Effect o) frame r.asked) }
 {
     let project = site.graph.project;
     let values = use_values(alloc, project, node.clips, node.params, frame)?;
     let reads = frames_read(alloc, node.effect, node.names, &values)?;
     let areas = clip_areas(alloc, regions, node, project, frame, reads.as_slice())?;
-    region_of_definition(
+    let area = region_of_definition(
         alloc,
         node.effect,
         node.context,
         node.optional,
         &values,
         areas.as_slice(),
-    )
+    )?;
+    Ok(Reached {
+        area,
+        asked: Some(Asked { values, reads }),
+    })
 }
 
 // For each clip the hull of its node's regions at the frames that are read.

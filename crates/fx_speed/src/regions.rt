@@ -7,11 +7,12 @@ ghost use Rattle.fx_region.specs.Sites.{scene_nodes};
 ghost use Rattle.fx_region.specs.Tables.{Has, IsMadeOf};
 ghost use Rattle.fx_speed.specs.Reached.{IsReachedAt};
 
+use fx_actions::Asking;
 use fx_base::{Grid, Memory, Name, Rect};
 use fx_effect::Catalogue;
 use fx_graph::{Graph, accept};
 use fx_outside::SureLibrary;
-use fx_region::{Regions, demand};
+use fx_region::{Regions, demand_by};
 use fx_scene::{Moment, Scene, reach, wants};
 use fx_seq::{Store, Wanted};
 use fx_shipped::Shipped;
@@ -103,9 +104,10 @@ fn needs_of_frame<E: Catalogue>(
 {
     let regions = Regions::of(alloc, scene, i64::from(FRAME))?;
     let tiles = Grid { side: 64 }.tiles_of(alloc, ROUND)?;
+    let mut asking = Asking::new(alloc)?;
     let mut needs = 0u64;
     for moment in moments {
-        let more = needs_of_node(alloc, scene, &regions, *moment, &tiles)?;
+        let more = needs_of_node(alloc, &mut asking, scene, &regions, *moment, &tiles)?;
         needs = needs.wrapping_add(more);
     }
     Ok(needs)
@@ -114,6 +116,7 @@ fn needs_of_frame<E: Catalogue>(
 // How many parts each of these tiles of a node needs.
 fn needs_of_node<E: Catalogue>(
     alloc: Global,
+    asking: &mut Asking,
     scene: &Scene<E>,
     regions: &Regions,
     moment: Moment,
@@ -125,7 +128,7 @@ fn needs_of_node<E: Catalogue>(
     let area = regions.rod(moment.node, moment.frame);
     let mut needs = 0u64;
     for tile in tiles {
-        let more = needs_of_tile(alloc, scene, regions, moment, tile.meet(area))?;
+        let more = needs_of_tile(alloc, asking, scene, regions, moment, tile.meet(area))?;
         needs = needs.wrapping_add(more);
     }
     Ok(needs)
@@ -134,6 +137,7 @@ fn needs_of_node<E: Catalogue>(
 // How many parts a tile needs.
 fn needs_of_tile<E: Catalogue>(
     alloc: Global,
+    asking: &mut Asking,
     scene: &Scene<E>,
     regions: &Regions,
     moment: Moment,
@@ -147,6 +151,15 @@ fn needs_of_tile<E: Catalogue>(
         return Ok(0);
     }
     let Moment { node, frame } = moment;
-    let needs = demand(alloc, scene, regions, node, frame, tile, Grid { side: 64 })?;
+    let needs = demand_by(
+        alloc,
+        asking,
+        scene,
+        regions,
+        node,
+        frame,
+        tile,
+        Grid { side: 64 },
+    )?;
     Ok(needs.len() as u64)
 }

@@ -16,7 +16,7 @@ loop-c-init g c =
     let o = effect_at g.E.ImageEffect.meaning c.args.site.now.graph.now.project c.args.node.now in
     record {
       count = reads_long o c.args.frame c.args.reads.now c.requires.reads;
-      needs = ap (map need_shown) c.new-needs.ensures.items;
+      needs = ap (map need_shown) c.in_ok-needs.ensures.items;
     }
 
 pub overflow_cast-c : goal.overflow_cast-c

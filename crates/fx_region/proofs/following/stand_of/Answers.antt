@@ -1,4 +1,4 @@
-use Rattle.std.proofs.Common.{◌∙◌, ap, refl, w64, ℕ, ℤ, Option}
+use Rattle.std.proofs.Common.{◌∙◌, ap, refl, sym, w64, ℕ, ℤ, Option}
 use Rattle.std.proofs.lemmas.Int.{to_z-of_z}
 use Rattle.std.proofs.lemmas.Result.{IfOk-weaker}
 use mir.Val.{SFits}
@@ -9,12 +9,32 @@ use Rattle.fx_region.specs.Sites.{effect_at, site_nodes, source_of}
 use Rattle.fx_region.specs.declared.following.Stand.{Stand}
 use Rattle.fx_region.proofs.FollowLemmas.{cut_by, read_by}
 use Rattle.fx_region.proofs.SiteLemmas.{effect_in, is_effect, source_is}
+use Rattle.fx_region.proofs.TableLemmas.{asked_so, asked_some}
 use Rattle.fx_region.proofs.following.stand_of.Goals as goal
 
 pub effect_stand-requires-clause-effect : goal.effect_stand-requires-clause-effect
 effect_stand-requires-clause-effect g c =
     let site = c.args.site.now in
     is_effect g.E.ImageEffect.meaning (graph_shown site.graph.now) (images_in site.store.now) c.requires.nodes c.in-Effect.used c.in-Effect.ensures.1
+
+pub of_effect-requires : goal.of_effect-requires
+of_effect-requires g c =
+    let site = c.args.site.now in
+    let m = g.E.ImageEffect.meaning in
+    let used = c.in-Effect.used in
+    let stands = effect_in m (graph_shown site.graph.now) (images_in site.store.now) c.args.node used c.in-Effect.ensures.0 c.in-Effect.ensures.1 in
+    asked_some (site_nodes m site c.args.node) (effect_at m site.graph.now.project used) c.args.frame c.args.reached.now.asked stands c.requires.asked
+
+pub effect_stand-requires-clause-values : goal.effect_stand-requires-clause-values
+effect_stand-requires-clause-values g c =
+    let site = c.args.site.now in
+    let m = g.E.ImageEffect.meaning in
+    let used = c.in-Effect.used in
+    let o = effect_at m site.graph.now.project used in
+    let stands = effect_in m (graph_shown site.graph.now) (images_in site.store.now) c.args.node used c.in-Effect.ensures.0 c.in-Effect.ensures.1 in
+    let fits : SFits w64 c.args.frame = c.ranges.frame in
+    let so = asked_so (site_nodes m site c.args.node) o c.args.frame c.args.reached.now.asked _ stands c.requires.asked c.of_effect.ensures in
+    so.0 ∙ ap o.values (sym (to_z-of_z w64 _ fits))
 
 pub returns-in_ok-source_end-in-Source-clause-end : goal.returns-in_ok-source_end-in-Source-clause-end
 returns-in_ok-source_end-in-Source-clause-end g c ends =

@@ -1,6 +1,5 @@
 use Rattle.std.proofs.Common.{◌∙◌, ap, sym, subst, w64, ℤ, List, map}
 use Rattle.std.proofs.lemmas.Int.{to_z-of_z}
-use Rattle.std.proofs.lemmas.Result.{IfOk-weaker}
 use mir.Val.{SFits}
 use Rattle.fx_base.specs.Bounds.{Bounds}
 use Rattle.fx_effect.specs.Asked.{AreRegions}
@@ -14,7 +13,7 @@ use Rattle.fx_region.specs.Sites.{effect_at, site_nodes}
 use Rattle.fx_region.specs.Tables.{AreReads, HasReads}
 use Rattle.fx_region.proofs.SiteLemmas.{are_reads, effect_is, has_names, is_effect, is_use}
 use Rattle.fx_region.proofs.TableLemmas.{area_by}
-use Rattle.fx_region.proofs.regions.effect_area.Goals as goal
+use Rattle.fx_region.proofs.regions.effect_reached.Goals as goal
 
 pub frames_read-requires-clause-names : goal.frames_read-requires-clause-names
 frames_read-requires-clause-names g c =
@@ -69,8 +68,8 @@ region_of_definition-requires-clause-regions g c =
     subst (λ (v : Values). AreRegions v c.as_slice-2.result.now) (sym values)
     (subst (λ (rs : List Bounds). AreRegions (o.values c.args.frame) rs) (sym (c.as_slice-2.ensures.value ∙ areas)) (clip_regions nodes c.requires.nodes node.place o i c.args.frame))
 
-pub returns : goal.returns
-returns g c =
+pub returns-clause-area : goal.returns-clause-area
+returns-clause-area g c =
     let site = c.args.site.now in
     let node = c.args.node.now in
     let m = g.E.ImageEffect.meaning in
@@ -80,8 +79,16 @@ returns g c =
     let values = simp to_z-of_z at c.in_ok-values.ensures in
     let areas = simp to_z-of_z at (c.in_ok-areas.ensures nodes c.requires.right) in
     let stands = effect_is m (graph_shown site.graph.now) (images_in site.store.now) node c.requires.there in
-    IfOk-weaker c.region_of_definition.result _ _ (λ (r : Bounds) is.
-    is ∙ ap (λ (v : Values). o.meaning.rod o.context v c.as_slice-2.result.now) values
+    c.in_ok-area.ensures
+    ∙ ap (λ (v : Values). o.meaning.rod o.context v c.as_slice-2.result.now) values
     ∙ ap (o.meaning.rod o.context (o.values c.args.frame)) (c.as_slice-2.ensures.value ∙ areas)
-    ∙ area_by nodes c.requires.nodes node.place (Effect o) stands c.args.frame)
-    c.region_of_definition.ensures
+    ∙ area_by nodes c.requires.nodes node.place (Effect o) stands c.args.frame
+
+pub returns-clause-asked : goal.returns-clause-asked
+returns-clause-asked g c =
+    let graph = c.args.site.now.graph.now in
+    let fits : SFits w64 c.args.frame = c.ranges.frame in
+    let values = simp to_z-of_z at c.in_ok-values.ensures in (
+      values,
+      are_reads g.E.ImageEffect.meaning (graph_shown graph) (graph.depth, graph.components) graph.kept c.args.node.now c.requires.there c.args.frame c.in_ok-values.values c.in_ok-reads.reads.items values c.in_ok-reads.ensures,
+    )

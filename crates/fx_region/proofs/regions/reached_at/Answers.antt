@@ -1,21 +1,21 @@
-use Rattle.std.proofs.Common.{rules, ◌∙◌, ap, sym, subst, refl, w64, to_z, of_z, ℕ, ℤ}
+use Rattle.std.proofs.Common.{rules, ◌∙◌, ap, sym, subst, refl, w64, to_z, of_z, ℕ, ℤ, None}
 use Rattle.std.proofs.lemmas.Int.{to_z-of_z}
 use Rattle.std.proofs.lemmas.Result.{IfOk-weaker}
 use mir.Val.{SFits}
-use Rattle.fx_base.specs.Bounds.{Bounds}
 use Rattle.fx_seq.specs.Held.{held}
 use Rattle.fx_scene.specs.Areas.{area}
 use Rattle.fx_scene.specs.Nodes.{Node, Source}
 use Rattle.fx_scene.specs.Reach.{IsNearFrame}
 use Rattle.fx_scene.specs.Scenes.{graph_shown, images_in, shown_frame}
 use Rattle.fx_region.specs.Sites.{site_nodes, source_of}
-use Rattle.fx_region.specs.Tables.{HasReads}
+use Rattle.fx_region.specs.Tables.{HasReads, IsAskedSo}
+use Rattle.fx_region.specs.declared.regions.Reached.{Reached}
 use Rattle.fx_region.proofs.SiteLemmas.{effect_in, shown_area, source_is}
 use Rattle.fx_region.proofs.TableLemmas.{area_by}
-use Rattle.fx_region.proofs.regions.area_of.Goals as goal
+use Rattle.fx_region.proofs.regions.reached_at.Goals as goal
 
-pub returns-in-Source : goal.returns-in-Source
-returns-in-Source g c =
+pub returns-in-Source-clause-area : goal.returns-in-Source-clause-area
+returns-in-Source-clause-area g c =
     let site = c.args.site.now in
     let m = g.E.ImageEffect.meaning in
     let at = c.args.moment in
@@ -25,14 +25,21 @@ returns-in-Source g c =
     c.source_area.ensures ∙ shown_area (held site.store.now at.node) s (shown_frame e.first e.last e.hold at.frame) refl
     ∙ area_by (site_nodes m site) c.requires.nodes at.node (Source s) stands at.frame
 
-pub effect_area-requires-clause-near : goal.effect_area-requires-clause-near
-effect_area-requires-clause-near g c =
+pub returns-in-Source-clause-asked : goal.returns-in-Source-clause-asked
+returns-in-Source-clause-asked g c =
+    let site = c.args.site.now in
+    let at = c.args.moment in
+    let stands = source_is g.E.ImageEffect.meaning (graph_shown site.graph.now) (images_in site.store.now) at.node c.in-Source.source c.in-Source.ensures in
+    subst (λ (node : Node). IsAskedSo node at.frame None) (sym stands) tt
+
+pub effect_reached-requires-clause-near : goal.effect_reached-requires-clause-near
+effect_reached-requires-clause-near g c =
     let fits : SFits w64 c.args.moment.frame = search rules in
     subst (λ (t : ℤ). IsNearFrame c.in-Effect.node.place t) (sym (to_z-of_z w64 _ fits))
     (subst (λ (n : ℕ). IsNearFrame n c.args.moment.frame) (sym c.in-Effect.ensures.0) c.requires.place.near)
 
-pub effect_area-requires-clause-reads : goal.effect_area-requires-clause-reads
-effect_area-requires-clause-reads g c =
+pub effect_reached-requires-clause-reads : goal.effect_reached-requires-clause-reads
+effect_reached-requires-clause-reads g c =
     let site = c.args.site.now in
     let m = g.E.ImageEffect.meaning in
     let regions = c.args.regions.now in
@@ -41,10 +48,20 @@ effect_area-requires-clause-reads g c =
     subst (λ (node : Node). HasReads regions node (to_z w64 (of_z w64 c.args.moment.frame))) stands
     (subst (λ (t : ℤ). HasReads regions (site_nodes m site c.args.moment.node) t) (sym (to_z-of_z w64 _ fits)) c.requires.reads)
 
-pub returns-in-Effect : goal.returns-in-Effect
-returns-in-Effect g c =
+pub returns-in-Effect-clause-area : goal.returns-in-Effect-clause-area
+returns-in-Effect-clause-area g c =
     let fits : SFits w64 c.args.moment.frame = search rules in
     let nodes = site_nodes g.E.ImageEffect.meaning c.args.site.now in
-    let answered = simp to_z-of_z at c.effect_area.ensures in
-    IfOk-weaker c.effect_area.result _ _ (λ (r : Bounds) is.
+    let answered = simp to_z-of_z at c.effect_reached.ensures.area in
+    IfOk-weaker c.effect_reached.result _ _ (λ (r : Reached) is.
     is ∙ ap (λ (n : ℕ). area nodes n c.args.moment.frame) c.in-Effect.ensures.0) answered
+
+pub returns-in-Effect-clause-asked : goal.returns-in-Effect-clause-asked
+returns-in-Effect-clause-asked g c =
+    let site = c.args.site.now in
+    let m = g.E.ImageEffect.meaning in
+    let fits : SFits w64 c.args.moment.frame = search rules in
+    let stands = effect_in m (graph_shown site.graph.now) (images_in site.store.now) c.args.moment.node c.in-Effect.node c.in-Effect.ensures.0 c.in-Effect.ensures.1 in
+    let answered = simp to_z-of_z at c.effect_reached.ensures.asked in
+    IfOk-weaker c.effect_reached.result _ _ (λ (r : Reached) is.
+    subst (λ (node : Node). IsAskedSo node c.args.moment.frame r.asked) (sym stands) is) answered
