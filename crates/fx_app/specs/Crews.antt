@@ -15,7 +15,7 @@ pub record IsCrew (scene : Shot Shipped) (crew : Crew) : Type 0 where
   pub few : length crew.seats.items ≤ 64
   pub free : All (IsFree crew.shared) crew.seats.items
 
--- a seat from which fewer than so many may be split off
+-- the seat has so many parts at least of the directory and of the gates, no flight and no gate
 pub record IsSpare (shared : Shared Shipped) (count : ℕ) (seat : TileSeat Shipped) : Type 0 where
   pub row : seat.directory.row ≡ shared.directory
   pub parts : count ≤ seat.directory.parts

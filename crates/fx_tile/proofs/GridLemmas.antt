@@ -1,19 +1,18 @@
 -- The window tiles of a picture: how many, where they lie, and that each place of the picture is in one.
-use Rattle.std.proofs.Common.{◌≡◌, ◌≢◌, ℕ, suc, zero, ◌<◌, ◌≤◌, ◌+◌, ◌-◌, ◌*◌, ◌/◌, ℤ, pos, negsuc, ◌≤ℤ◌, ◌<ℤ◌, ◌+ℤ◌, ◌-ℤ◌, List, [], ◌∷◌, map, length, true, false, refl, sym, ap, ◌∙◌, subst, arith, inl, inr, All, slice_index_or}
+use Rattle.std.proofs.Common.{◌≡◌, ◌≢◌, ℕ, suc, zero, ◌<◌, ◌≤◌, ◌+◌, ◌-◌, ◌/◌, ℤ, pos, negsuc, ◌≤ℤ◌, ◌+ℤ◌, ◌-ℤ◌, length, refl, ap, ◌∙◌, subst, arith, inl, inr, All, slice_index_or}
 use Rattle.std.specs.Int.{int_gap}
-use Rattle.std.specs.List.{Contains, flat_map}
+use Rattle.std.specs.List.{flat_map}
 use Rattle.std.proofs.Math.Nat.{div-le_self}
 use Rattle.std.proofs.lemmas.Bool.{and_from, cases_Bool}
 use Rattle.std.proofs.lemmas.Int.{ints}
-use Rattle.std.proofs.lemmas.Nat.{mul-le}
 use Rattle.std.proofs.lemmas.List.{length-map}
 use Rattle.std.proofs.lemmas.List.Concat.{length-flat_map}
 use Rattle.std.proofs.lemmas.List.Elements.{All-map, All-weaker}
 use Rattle.std.proofs.lemmas.List.Sums.{sum_by-le}
 use Rattle.fx_base.specs.Bounds.{Bounds, none}
-use Rattle.fx_base.specs.Rect.{Holds, IsNear, IsWithin, columns, is_empty, meet, rows, within}
+use Rattle.fx_base.specs.Rect.{Holds, IsNear, IsWithin, is_empty, meet, within}
 use Rattle.fx_base.specs.Run.{int_range, int_run}
-use Rattle.fx_base.specs.Grid.{IsTileOf, tile_after, tile_at, tile_of, tiles_between, tiles_in_rows, tiles_of}
+use Rattle.fx_base.specs.Grid.{IsTileOf, tile_after, tile_at, tile_of, tiles_between, tiles_of}
 use Rattle.fx_base.proofs.GridLaws.{All-tiles_of, Contains-tiles_of, Holds-tile_at}
 use Rattle.fx_base.proofs.RectLaws.{IsRect-meet, IsWithin-meet_first, IsWithin-meet_second, gap_is}
 use Rattle.fx_base.proofs.RectLemmas.{Encloses-from_within, IsProper, IsProper-from_rect, is_empty-holds, within-meet}
@@ -21,7 +20,7 @@ use Rattle.fx_base.proofs.RunLaws.{Contains-map}
 use Rattle.fx_effect.specs.Shape.{IsProject}
 use Rattle.fx_region.specs.Counts.{window_tiles}
 use Rattle.fx_tile.specs.Moments.{Cover, IsWindowTile}
-use Rattle.fx_tile.proofs.NeedLemmas.{small_within}
+use Rattle.fx_tile.proofs.NeedLemmas.{small_within, tile_high, tile_wide}
 
 -- ---- how many
 
@@ -69,9 +68,6 @@ few_tiles side project is =
 
 -- ---- what they are
 
-side_gap : (a : ℤ) (s : ℕ) → int_gap a (a +ℤ pos s) ≡ s
-side_gap a s = let g = gap_is a (a +ℤ pos s) (omega (arith, ints)) in omega (arith, ints, g)
-
 not_none : (r : Bounds) (x y : ℤ) → Holds r x y → r ≢ none
 not_none r x y here is = is_empty-holds none x y refl (subst (λ (b : Bounds). Holds b x y) is here)
 
@@ -93,9 +89,8 @@ window_tile side project tile few is of =
     let some = not_none r of.x of.y (held_by_both project tile of.x of.y of.in_rect of.in_tile) in
     let proper = IsProper-from_rect r (IsRect-meet project tile) some in
     let inside = IsWithin-meet_first project tile in
-    let grid = tile_at side of.column of.row in
-    let wide = ap (λ (b : Bounds). columns b) of.is ∙ side_gap grid.x1 side in
-    let high = ap (λ (b : Bounds). rows b) of.is ∙ side_gap grid.y1 side in
+    let wide = tile_wide side project tile of in
+    let high = tile_high side project tile of in
     let small = small_within r tile proper (IsWithin-meet_second project tile) (omega (arith, wide, few), omega (arith, high, few)) in
     record {
       region = record {

@@ -11,4 +11,3 @@ pub mod PaintLemmas
 pub mod SumLemmas
 pub mod PictureLemmas
 pub mod MomentLemmas
-mod CountingLemmas

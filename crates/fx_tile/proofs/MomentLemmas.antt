@@ -1,5 +1,5 @@
 -- The picture and the count of all tiles, by what is right for each of them.
-use Rattle.std.proofs.Common.{◌≡◌, ℕ, ◌<◌, ◌≤◌, ◌+◌, List, map, length, cond, get_or, refl, sym, ap, ◌∙◌, subst, arith, inl, inr, ◌⊎◌, All, Result, Ok, Err, OnOk, IfOk}
+use Rattle.std.proofs.Common.{◌≡◌, ℕ, ◌≤◌, ◌+◌, List, map, length, cond, get_or, refl, sym, ap, ◌∙◌, subst, arith, inl, inr, ◌⊎◌, All, Result, Ok, Err, OnOk, IfOk}
 use Rattle.std.specs.List.{count_by}
 use Rattle.std.proofs.lemmas.List.{get_or-map, length-map}
 use Rattle.std.proofs.lemmas.List.Elements.{All-weaker}

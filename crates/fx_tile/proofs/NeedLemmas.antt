@@ -21,14 +21,14 @@ use Rattle.fx_tile.proofs.FoundLemmas.{ends_found, wider}
 
 -- ---- sizes
 
--- a tile of the grid has so many columns and rows
 side_gap : (a : ℤ) (s : ℕ) → int_gap a (a +ℤ pos s) ≡ s
 side_gap a s = let g = gap_is a (a +ℤ pos s) (omega (arith, ints)) in omega (arith, ints, g)
 
-tile_wide : (side : ℕ) (r tile : Bounds) → IsTileOf side r tile → columns tile ≡ side
+-- a tile of the grid has so many columns and rows
+pub tile_wide : (side : ℕ) (r tile : Bounds) → IsTileOf side r tile → columns tile ≡ side
 tile_wide side r tile is = ap (λ (b : Bounds). columns b) is.is ∙ side_gap (tile_at side is.column is.row).x1 side
 
-tile_high : (side : ℕ) (r tile : Bounds) → IsTileOf side r tile → rows tile ≡ side
+pub tile_high : (side : ℕ) (r tile : Bounds) → IsTileOf side r tile → rows tile ≡ side
 tile_high side r tile is = ap (λ (b : Bounds). rows b) is.is ∙ side_gap (tile_at side is.column is.row).y1 side
 
 -- a number of a range is below its end

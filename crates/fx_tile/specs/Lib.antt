@@ -6,6 +6,3 @@ pub mod Sites
 pub mod Inputs
 pub mod Windows
 pub mod Moments
-pub mod Toy
-pub mod Counting
-pub mod Crews

@@ -3,10 +3,6 @@
 #![tactic(auto)]
 
 mod count;
-#[cfg(test)]
-mod counting;
-#[cfg(test)]
-mod crew;
 mod inputs;
 mod job;
 pub mod laws;
@@ -15,11 +11,7 @@ mod name;
 mod render;
 mod share;
 mod site;
-#[cfg(test)]
-mod tests;
 mod tile;
-#[cfg(test)]
-mod toy;
 mod window;
 
 pub use count::TileCount;

@@ -13,11 +13,12 @@ use crate::count::Tally;
 use crate::render::rendered;
 use crate::share::TileSeat;
 use crate::site::Site;
+use fx_actions::Asking;
 use fx_base::{Grid, Memory, Rect};
 use fx_core::{Answer, Flight, Ticket};
 use fx_effect::Catalogue;
 use fx_image::Image;
-use fx_region::{End, Need, demand};
+use fx_region::{End, Need, demand_by};
 use fx_scene::Key;
 use std::alloc::Global;
 use std::sync::{Arc, Wait};
@@ -29,6 +30,7 @@ use std::thread;
 pub(crate) fn fetch<R: Wait, E: Catalogue + Drop>(
     rt: &R,
     alloc: Global,
+    asking: &mut Asking,
     site: &Site<'_, E>,
     seat: &mut TileSeat<E>,
     tally: &mut Tally,
@@ -61,7 +63,9 @@ pub(crate) fn fetch<R: Wait, E: Catalogue + Drop>(
             }
             Answer::Busy => thread::yield_now(),
             Answer::Fly(flight) => {
-                return made(rt, alloc, site, seat, tally, node, frame, region, flight);
+                return made(
+                    rt, alloc, asking, site, seat, tally, node, frame, region, flight,
+                );
             }
         }
     }
@@ -73,6 +77,7 @@ pub(crate) fn fetch<R: Wait, E: Catalogue + Drop>(
 fn made<R: Wait, E: Catalogue + Drop>(
     rt: &R,
     alloc: Global,
+    asking: &mut Asking,
     site: &Site<'_, E>,
     seat: &mut TileSeat<E>,
     tally: &mut Tally,
@@ -102,6 +107,7 @@ fn made<R: Wait, E: Catalogue + Drop>(
     match image_of(
         rt,
         alloc,
+        asking,
         site,
         seat,
         tally,
@@ -167,6 +173,7 @@ fn landed<R: Wait, E: Catalogue + Drop>(
 fn image_of<R: Wait, E: Catalogue + Drop>(
     rt: &R,
     alloc: Global,
+    asking: &mut Asking,
     site: &Site<'_, E>,
     seat: &mut TileSeat<E>,
     tally: &mut Tally,
@@ -189,8 +196,8 @@ fn image_of<R: Wait, E: Catalogue + Drop>(
     ensures number { ticket.new.number ≡ ticket.old.number }
     ensures stamped { OnOk result (IsTrue ticket.new.stamped) }
 {
-    let needs = needs_of(alloc, site, node, frame, region)?;
-    let tiles = gathered(rt, alloc, site, seat, tally, node, needs.as_slice())?;
+    let needs = needs_of(alloc, asking, site, node, frame, region)?;
+    let tiles = gathered(rt, alloc, asking, site, seat, tally, node, needs.as_slice())?;
     rendered(
         rt,
         alloc,
@@ -207,6 +214,7 @@ fn image_of<R: Wait, E: Catalogue + Drop>(
 
 fn needs_of<E: Catalogue>(
     alloc: Global,
+    asking: &mut Asking,
     site: &Site<'_, E>,
     node: u32,
     frame: i64,
@@ -220,7 +228,16 @@ fn needs_of<E: Catalogue>(
         IfOk result (λ needs. renders_of needs.items ≡ needed) }
 {
     let grid = with_side(site.shared.grid);
-    let needs = demand(alloc, site.scene, site.regions, node, frame, region, grid)?;
+    let needs = demand_by(
+        alloc,
+        asking,
+        site.scene,
+        site.regions,
+        node,
+        frame,
+        region,
+        grid,
+    )?;
     Ok(needs)
 }
 
@@ -238,6 +255,7 @@ fn with_side(grid: Grid) -> Grid
 fn gathered<R: Wait, E: Catalogue + Drop>(
     rt: &R,
     alloc: Global,
+    asking: &mut Asking,
     site: &Site<'_, E>,
     seat: &mut TileSeat<E>,
     tally: &mut Tally,
@@ -258,7 +276,7 @@ fn gathered<R: Wait, E: Catalogue + Drop>(
 {
     let mut tiles = Vec::new(alloc);
     for need in needs {
-        let tile = tile_for(rt, alloc, site, seat, tally, node, &need.end)?;
+        let tile = tile_for(rt, alloc, asking, site, seat, tally, node, &need.end)?;
         tiles.push(tile)?;
     }
     Ok(tiles)
@@ -269,6 +287,7 @@ fn gathered<R: Wait, E: Catalogue + Drop>(
 pub(crate) fn tile_for<R: Wait, E: Catalogue + Drop>(
     rt: &R,
     alloc: Global,
+    asking: &mut Asking,
     site: &Site<'_, E>,
     seat: &mut TileSeat<E>,
     tally: &mut Tally,
@@ -293,7 +312,7 @@ pub(crate) fn tile_for<R: Wait, E: Catalogue + Drop>(
             frame,
             region,
             through: _,
-        } => match fetch(rt, alloc, site, seat, tally, *m, *frame, *region) {
+        } => match fetch(rt, alloc, asking, site, seat, tally, *m, *frame, *region) {
             Ok(tile) => Ok(Some(tile)),
             Err(memory) => Err(memory),
         },

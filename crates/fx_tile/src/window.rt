@@ -20,6 +20,7 @@ use crate::inputs::add_piece;
 use crate::share::{Shared, TileSeat};
 use crate::site::Site;
 use crate::tile::tile_for;
+use fx_actions::Asking;
 use fx_base::{Memory, Rect};
 use fx_effect::{Catalogue, Inputs};
 use fx_image::{Image, Part};
@@ -115,7 +116,8 @@ fn tile_shown<R: Wait, E: Catalogue + Drop>(
 {
     let mut tally = Tally { landed: 0, hits: 0 };
     let next = site.graph.output + 1;
-    let made = tile_for(rt, alloc, site, seat, &mut tally, next, &end)?;
+    let mut asking = Asking::new(alloc)?;
+    let made = tile_for(rt, alloc, &mut asking, site, seat, &mut tally, next, &end)?;
     let count = count_of(&end, tally);
     show(alloc, site, frame, end, &made, tile, out)?;
     Ok(count)

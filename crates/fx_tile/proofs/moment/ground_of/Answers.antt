@@ -1,4 +1,4 @@
-use Rattle.std.proofs.Common.{◌∙◌, ap, subst, w64, List, All}
+use Rattle.std.proofs.Common.{◌∙◌, ap, subst, w64, All}
 use Rattle.std.proofs.lemmas.Int.{to_z-of_z}
 use mir.Val.{SFits}
 use Rattle.fx_base.specs.Bounds.{Bounds}

@@ -12,8 +12,8 @@ use Rattle.fx_tile.proofs.NeedLemmas.{IsNeedIn, needs_in}
 use Rattle.fx_tile.proofs.ReadyLemmas.{all_shown, need_some, needs_ready, renders_are}
 use Rattle.fx_tile.proofs.tile.needs_of.Goals as goal
 
-pub demand-requires-clause-within : goal.demand-requires-clause-within
-demand-requires-clause-within g c =
+pub demand_by-requires-clause-within : goal.demand_by-requires-clause-within
+demand_by-requires-clause-within g c =
     let fits : SFits w64 c.args.frame = c.ranges.frame in
     let nodes = scene_nodes g.E.ImageEffect.meaning c.args.site.now.scene.now in
     subst (λ (t : ℤ). IsWithin c.args.region (area nodes c.args.node t)) (sym (to_z-of_z w64 _ fits)) c.requires.renderable.within
