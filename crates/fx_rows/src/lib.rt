@@ -15,6 +15,8 @@ mod chain;
 #[cfg(test)]
 mod endings;
 #[cfg(test)]
+mod engines;
+#[cfg(test)]
 mod first_frame;
 #[cfg(test)]
 mod generators;
@@ -31,6 +33,8 @@ mod modes;
 #[cfg(test)]
 mod moves;
 #[cfg(test)]
+mod numbers;
+#[cfg(test)]
 mod outcome;
 #[cfg(test)]
 mod pace;
@@ -41,7 +45,11 @@ mod regions;
 #[cfg(test)]
 mod rows;
 #[cfg(test)]
+mod same_pictures;
+#[cfg(test)]
 mod strips;
+#[cfg(test)]
+mod tile_counts;
 #[cfg(test)]
 mod tiles;
 #[cfg(test)]

@@ -104,8 +104,8 @@ fn words_of(alloc: Global, texts: &[&str]) -> Result<Vec<String>, AllocError> {
     Ok(words)
 }
 
-// The graph as the file `g.json`, and the other files.
-fn files_of(
+/// The graph as the file `g.json`, and the other files.
+pub(crate) fn files_of(
     alloc: Global,
     graph: &str,
     others: &[(&str, &[u8])],

@@ -12,7 +12,7 @@ use std::thread::Threads;
 const SOURCES: &str =
     r#"{"name":"s","source":"s.pam","first":0,"last":0},{"name":"t","source":"t.pam","first":0,"last":0},{"name":"p","source":"p.pam","first":0,"last":0}"#;
 
-const FILES: &[(&str, &[u8])] = &[
+pub(crate) const FILES: &[(&str, &[u8])] = &[
     (
         "s.pam",
         b"P7\nWIDTH 3\nHEIGHT 1\nDEPTH 1\nMAXVAL 255\nENDHDR\n\x0a\xc8\x3c",
@@ -28,9 +28,9 @@ const FILES: &[(&str, &[u8])] = &[
 ];
 
 /// The effect of the node `n`, how wide the project is, a frame, and the raster of its picture.
-type Strip = (&'static str, u32, u32, &'static [u8]);
+pub(crate) type Strip = (&'static str, u32, u32, &'static [u8]);
 
-const STRIPS: &[Strip] = &[
+pub(crate) const STRIPS: &[Strip] = &[
     // The rows above and below are zero.
     (
         r#""erode","clips":{"Source":"s"}"#,
@@ -116,8 +116,11 @@ const STRIPS: &[Strip] = &[
     ),
 ];
 
-// The effect over the frames 0 and 1.
-fn graph_of(alloc: Global, &(effect, width, _, _): &Strip) -> Result<String, AllocError> {
+/// The effect over the frames 0 and 1.
+pub(crate) fn graph_of(
+    alloc: Global,
+    &(effect, width, _, _): &Strip,
+) -> Result<String, AllocError> {
     let project = format!(in alloc;
         r#""width":{width},"height":1,"depth":"byte","components":"RGBA""#
     )?;

@@ -1,0 +1,268 @@
+//! The picture of a frame by whole frames, and by tiles, over the effects of the program.
+ghost use Rattle.std.specs.Prelude.{◌≡◌, ◌≤◌, ◌+◌, [], None, ℕ, All, IfOk, OnOk, length, vec_len};
+ghost use Rattle.fx_app.specs.Crews.{IsSpare};
+ghost use Rattle.fx_eval.specs.Flights.{IsIdle};
+ghost use Rattle.fx_life.specs.Seats.{HasLife};
+ghost use Rattle.fx_shipped.specs.Shipped.{all, number_of};
+ghost use Rattle.fx_tile.specs.Moments.{IsFree};
+ghost use Rattle.fx_turn.specs.Seats.{all_parts};
+
+use fx_base::{Grid, Memory};
+use fx_core::{Core, Permit};
+use fx_directory::Directory;
+use fx_eval::frame;
+use fx_gate::{GateSeat, Gates};
+use fx_graph::{Graph, accept};
+use fx_image::Image;
+use fx_life::Life;
+use fx_outside::{FreePace, SureLibrary};
+use fx_scene::{Key, Scene, wants};
+use fx_seq::Store;
+use fx_shipped::Shipped;
+use fx_text::{GraphFault, read_graph};
+use fx_tile::{Rendered, SceneName, Shared, TileCount, TileSeat, render_moment};
+use std::alloc::Global;
+use std::sync::Wait;
+use std::test::Fail;
+use std::thread::Threads;
+
+/// The side of a tile, from 1 to 1,024 pixels, how many tiles may be kept, and how many workers there are.
+#[derive(Clone, Copy, Debug)]
+pub(crate) struct Engine {
+    pub(crate) side: u32,
+    pub(crate) cache: u32,
+    pub(crate) workers: u32,
+}
+
+fn graph_of(alloc: Global, text: &str) -> Result<Graph<Shipped>, GraphFault> {
+    let raw = read_graph(alloc, text.as_bytes(), 16, 4096)?;
+    accept(alloc, raw)
+}
+
+// The graph of a text with the frames that it wants at a frame.
+fn scene_of(
+    alloc: Global,
+    library: &mut SureLibrary,
+    text: &str,
+    at: u32,
+) -> Result<(Scene<Shipped>, Permit), Fail>
+    requires { at ≤ 999999 }
+{
+    let graph = graph_of(alloc, text).ok().ok_or("the graph is refused")?;
+    let wanted = wants(alloc, &graph, at, at)?;
+    let store = Store::fill(alloc, library, &wanted, 100_000_000, 4096)
+        .ok()
+        .ok_or("a frame is refused")?;
+    Ok(Scene::new(graph, store, 7))
+}
+
+// Each effect once, by its number.
+fn all_effects(alloc: Global) -> Result<Vec<Shipped>, Memory>
+    ensures { IfOk result (λ effects. effects.items ≡ all) }
+{
+    Ok(vec![in alloc;
+        Shipped::Solid,
+        Shipped::Checker,
+        Shipped::Ramp,
+        Shipped::Grain,
+        Shipped::Invert,
+        Shipped::Gain,
+        Shipped::Premult,
+        Shipped::Unpremult,
+        Shipped::Shuffle,
+        Shipped::Saturation,
+        Shipped::Posterise,
+        Shipped::Boxblur,
+        Shipped::Erode,
+        Shipped::Dilate,
+        Shipped::Convolve3,
+        Shipped::Crop,
+        Shipped::Translate,
+        Shipped::Mirror,
+        Shipped::Timeoffset,
+        Shipped::Frameblend,
+        Shipped::Framediff,
+        Shipped::Echo,
+        Shipped::Dissolve,
+        Shipped::Wipe,
+        Shipped::Merge,
+        Shipped::Keymix,
+    ]?)
+}
+
+// The life of a scene's graph over the frames that the tests render.
+fn life_of(alloc: Global, scene: &Scene<Shipped>) -> Result<Life<Shipped>, Memory>
+    ensures { IfOk result (HasLife number_of scene.now.graph) }
+{
+    let life = Life::start(alloc, scene.graph(), all_effects(alloc)?, 0, 3)?;
+    Ok(life)
+}
+
+// A gate for each plug-in and each node.
+fn gates_for(alloc: Global, graph: &Graph<Shipped>) -> Result<(Gates, GateSeat), Memory>
+    ensures gates { IfOk result (λ r. r.0.gates ≡ 64 + length graph.now.nodes.items) }
+    ensures seat { IfOk result (λ r. r.1 ≡ record { row = r.0; parts = all_parts; turn = None }) }
+{
+    Gates::new(alloc, 64 + graph.nodes.len() as u32)
+}
+
+// A core that keeps nothing.
+fn empty_core(alloc: Global, permit: Permit) -> Result<Core<Key, Image>, Memory>
+    ensures { IfOk result IsIdle }
+{
+    match Core::new(alloc, permit, 0) {
+        Ok(core) => Ok(core),
+        Err((_, memory)) => Err(memory),
+    }
+}
+
+/// The picture of a frame by whole frames.
+pub(crate) fn by_frames<R: Wait>(
+    rt: &R,
+    alloc: Global,
+    library: &mut SureLibrary,
+    text: &str,
+    at: u32,
+) -> Result<Image, Fail>
+    requires { at ≤ 999999 }
+{
+    let (scene, permit) = scene_of(alloc, library, text, at)?;
+    let mut core = empty_core(alloc, permit)?;
+    let (gates, mut seat) = gates_for(alloc, scene.graph())?;
+    let life = life_of(alloc, &scene)?;
+    let at = i64::from(at);
+    let picture = frame(rt, alloc, &scene, &life, &mut core, &gates, &mut seat, at);
+    life.finish();
+    Ok(picture?)
+}
+
+fn grid_of(side: u32) -> Result<Grid, Fail> {
+    if side == 0 || side > 1024 {
+        return Err(Fail::from("no side of a tile"));
+    }
+    Ok(Grid { side })
+}
+
+// What the workers share, for the scene whose permit this is, and a seat to split theirs off from.
+fn shared_by(
+    alloc: Global,
+    scene: &Scene<Shipped>,
+    permit: Permit,
+    grid: Grid,
+    cache: u32,
+) -> Result<(Shared<Shipped>, TileSeat<Shipped>), Memory>
+    ensures name { IfOk result (λ r. r.0.directory.name.scene.value ≡ scene.now) }
+    ensures row { IfOk result (λ r. r.1.directory.row ≡ r.0.directory) }
+    ensures free { IfOk result (λ r. r.1.directory.aloft ≡ []) }
+    ensures gates { IfOk result (λ r. r.0.gates.gates ≡ 64 + length scene.now.graph.nodes) }
+    ensures gate_seat { IfOk result (λ r. (r.1.gates.row ≡ r.0.gates) × (r.1.gates.turn ≡ None)) }
+    ensures parts { IfOk result (λ r. (r.1.directory.parts ≡ all_parts) × (r.1.gates.parts ≡ all_parts)) }
+{
+    let name = SceneName::of(scene);
+    let Ok((directory, directory_seat)) = Directory::new(alloc, name, permit, cache) else {
+        return Err(Memory);
+    };
+    let (gates, gate_seat) = gates_for(alloc, scene.graph())?;
+    let shared = Shared {
+        directory,
+        gates,
+        grid,
+    };
+    let first = TileSeat {
+        directory: directory_seat,
+        gates: gate_seat,
+    };
+    Ok((shared, first))
+}
+
+// So many seats, split off from this one.
+fn seats_of(
+    alloc: Global,
+    shared: &Shared<Shipped>,
+    first: &mut TileSeat<Shipped>,
+    workers: u32,
+) -> Result<Vec<TileSeat<Shipped>>, Memory>
+    requires few { workers ≤ 64 }
+    requires spare { IsSpare shared.now 65 first.old }
+    ensures { IfOk result (λ seats. (vec_len seats ≡ workers) × All (IsFree shared.now) seats.items) }
+{
+    let mut seats = Vec::new(alloc);
+    for _ in 0..workers {
+        seats.push(seat_of(alloc, shared, first)?)?;
+    }
+    Ok(seats)
+}
+
+// One more seat, split off from this one.
+fn seat_of(
+    alloc: Global,
+    shared: &Shared<Shipped>,
+    first: &mut TileSeat<Shipped>,
+) -> Result<TileSeat<Shipped>, Memory>
+    requires { IsSpare shared.now 2 first.old }
+    ensures seat { IfOk result (IsFree shared.now) }
+    ensures left { (count : ℕ) → IsSpare shared.now (count + 1) first.old
+        → OnOk result (IsSpare shared.now count first.new) }
+{
+    let directory = shared.directory.split(alloc, &mut first.directory)?;
+    let gates = shared.gates.split(alloc, &mut first.gates)?;
+    Ok(TileSeat { directory, gates })
+}
+
+/// The picture of a frame by tiles, and what became of them.
+pub(crate) fn by_tiles<R: Threads + Wait + Sync>(
+    rt: &R,
+    alloc: Global,
+    library: &mut SureLibrary,
+    text: &str,
+    at: u32,
+    engine: Engine,
+) -> Result<(Image, TileCount), Fail>
+    requires at { at ≤ 999999 }
+    requires workers { (1 ≤ engine.workers) × (engine.workers ≤ 64) }
+{
+    let (scene, permit) = scene_of(alloc, library, text, at)?;
+    let grid = grid_of(engine.side)?;
+    let (shared, mut first) = shared_by(alloc, &scene, permit, grid, engine.cache)?;
+    let seats = seats_of(alloc, &shared, &mut first, engine.workers)?;
+    let life = life_of(alloc, &scene)?;
+    let at = i64::from(at);
+    let made = render_moment(rt, alloc, &FreePace, &scene, &life, &shared, seats, at);
+    life.finish();
+    let Ok(made) = made else {
+        return Err(Fail::from(Memory));
+    };
+    let Rendered {
+        picture,
+        count,
+        seats: _,
+    } = made;
+    Ok((picture, count))
+}
+
+/// Whether two pictures are the same, pixel for pixel.
+pub(crate) fn are_same(one: &Image, other: &Image) -> bool {
+    let rect = one.rect();
+    if rect != other.rect()
+        || one.depth() != other.depth()
+        || one.components() != other.components()
+    {
+        return false;
+    }
+    for y in rect.y1..rect.y2 {
+        if !have_same_row(one, other, y) {
+            return false;
+        }
+    }
+    true
+}
+
+fn have_same_row(one: &Image, other: &Image, y: i64) -> bool {
+    let rect = one.rect();
+    for x in rect.x1..rect.x2 {
+        if one.at(x, y) != other.at(x, y) {
+            return false;
+        }
+    }
+    true
+}

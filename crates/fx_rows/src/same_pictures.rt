@@ -1,0 +1,161 @@
+//! Pictures by tiles beside those by whole frames: of the graphs that are worked by hand, and of a hundred graphs that
+//! are made of numbers.
+ghost use Rattle.std.specs.Prelude.{◌≤◌};
+
+use crate::engines::{Engine, are_same, by_frames, by_tiles};
+use crate::graph_text::SOLID;
+use crate::numbers::{NumberGraph, draw_graph};
+use crate::outcome::files_of;
+use crate::strips::{self, STRIPS};
+use crate::worked::ROWS;
+use fx_outside::SureLibrary;
+use std::alloc::Global;
+use std::process::Abort;
+use std::sync::Wait;
+use std::test::Fail;
+use std::thread::Threads;
+
+// The side of a tile, and how many tiles may be kept: each with each.
+const EACH: &[(u32, u32)] = &[
+    (1, 0),
+    (1, 1),
+    (1, 4096),
+    (16, 0),
+    (16, 1),
+    (16, 4096),
+    (64, 0),
+    (64, 1),
+    (64, 4096),
+    (1024, 0),
+    (1024, 1),
+    (1024, 4096),
+];
+
+// The frame is the same by each of these as by whole frames.
+fn frame_is_the_same<R: Threads + Wait + Sync + Abort>(
+    rt: &R,
+    alloc: Global,
+    library: &mut SureLibrary,
+    text: &str,
+    at: u32,
+    workers: u32,
+    engines: &[(u32, u32)],
+) -> Result<(), Fail>
+    requires at { at ≤ 999999 }
+    requires workers { (1 ≤ workers) × (workers ≤ 64) }
+{
+    let whole = by_frames(rt, alloc, library, text, at)?;
+    for &(side, cache) in engines {
+        let engine = Engine {
+            side,
+            cache,
+            workers,
+        };
+        let (tiled, _) = by_tiles(rt, alloc, library, text, at, engine)?;
+        assert!(rt;
+            are_same(&tiled, &whole),
+            "frame {at} by {engine:?} of {text}"
+        );
+    }
+    Ok(())
+}
+
+#[test]
+fn worked_graphs_are_the_same(rt: HostRuntime) -> Result<(), Fail> {
+    let alloc = rt.alloc();
+    for &(whole, others, _, _) in ROWS {
+        let text = whole.text(alloc)?;
+        let mut library = SureLibrary::new(alloc, files_of(alloc, "", others)?);
+        for at in 0..whole.last.min(2) + 1 {
+            frame_is_the_same(&rt, alloc, &mut library, text.as_str(), at, 1, EACH)?;
+        }
+    }
+    Ok(())
+}
+
+#[test]
+fn worked_strips_are_the_same(rt: HostRuntime) -> Result<(), Fail> {
+    let alloc = rt.alloc();
+    let mut library = SureLibrary::new(alloc, files_of(alloc, "", strips::FILES)?);
+    for strip in STRIPS {
+        let &(_, _, at, _) = strip;
+        let text = strips::graph_of(alloc, strip)?;
+        frame_is_the_same(&rt, alloc, &mut library, text.as_str(), at.min(1), 1, EACH)?;
+    }
+    Ok(())
+}
+
+#[test]
+fn a_worked_solid_is_the_same(rt: HostRuntime) -> Result<(), Fail> {
+    let alloc = rt.alloc();
+    let mut library = SureLibrary::new(alloc, Vec::new(alloc));
+    frame_is_the_same(&rt, alloc, &mut library, SOLID, 0, 1, EACH)
+}
+
+// The engines of a graph by the number of its effects less one. Each side comes with each number of tiles that are
+// kept; but where few are kept, each tile is rendered again for each that asks, and so the more effects there are, the
+// larger are the tiles.
+const ENGINES: [&[(u32, u32)]; 5] = [
+    &[(1, 0), (1, 1), (16, 4096)],
+    &[(1, 4096), (16, 0), (64, 1)],
+    &[(1, 4096), (16, 1), (1024, 0)],
+    &[(16, 4096), (64, 0), (1024, 1)],
+    &[(16, 4096), (64, 4096), (1024, 4096)],
+];
+
+// A frame of the graph of a number, by one worker, and for some numbers by eight too.
+fn number_is_the_same<R: Threads + Wait + Sync + Abort>(
+    rt: &R,
+    alloc: Global,
+    number: u32,
+) -> Result<(), Fail> {
+    let (effects, at) = (number % 5, number % 3);
+    let NumberGraph { text, files } = draw_graph(alloc, number, effects + 1)?;
+    let engines = ENGINES[effects as usize];
+    let text = text.as_str();
+    let mut library = SureLibrary::new(alloc, files);
+    frame_is_the_same(rt, alloc, &mut library, text, at, 1, engines)?;
+    if number % 12 == 0 {
+        frame_is_the_same(rt, alloc, &mut library, text, at, 8, engines)?;
+    }
+    Ok(())
+}
+
+// The same of twenty numbers from this one on.
+fn twenty_are_the_same<R: Threads + Wait + Sync + Abort>(
+    rt: &R,
+    alloc: Global,
+    first: u32,
+) -> Result<(), Fail>
+    requires { first ≤ 80 }
+{
+    for number in first..first + 20 {
+        number_is_the_same(rt, alloc, number)?;
+    }
+    Ok(())
+}
+
+#[test]
+fn numbers_from_0_are_the_same(rt: HostRuntime) -> Result<(), Fail> {
+    twenty_are_the_same(&rt, rt.alloc(), 0)
+}
+
+#[test]
+fn numbers_from_20_are_the_same(rt: HostRuntime) -> Result<(), Fail> {
+    twenty_are_the_same(&rt, rt.alloc(), 20)
+}
+
+#[test]
+fn numbers_from_40_are_the_same(rt: HostRuntime) -> Result<(), Fail> {
+    twenty_are_the_same(&rt, rt.alloc(), 40)
+}
+
+#[test]
+fn numbers_from_60_are_the_same(rt: HostRuntime) -> Result<(), Fail> {
+    twenty_are_the_same(&rt, rt.alloc(), 60)
+}
+
+#[test]
+fn numbers_from_80_are_the_same(rt: HostRuntime) -> Result<(), Fail> {
+    twenty_are_the_same(&rt, rt.alloc(), 80)
+}

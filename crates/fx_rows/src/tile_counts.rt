@@ -1,0 +1,246 @@
+//! What becomes of tiles on one thread, worked by hand.
+use crate::engines::{Engine, are_same, by_frames, by_tiles};
+use crate::worked::Whole;
+use fx_base::Name;
+use fx_outside::SureLibrary;
+use fx_tile::TileCount;
+use std::alloc::{AllocError, Global};
+use std::process::Abort;
+use std::sync::Wait;
+use std::test::Fail;
+use std::thread::Threads;
+
+// What becomes of the tiles: void_tiles, passed, asked, landed and hits.
+type Counts = (u64, u64, u64, u64, u64);
+
+// The columns and rows of the sources' frames, those of the picture, the nodes behind the sources, the side of a tile,
+// and what becomes of the tiles of frame 1 where so many may be kept.
+type Case = (
+    (u32, u32),
+    (u32, u32),
+    &'static str,
+    u32,
+    &'static [(u32, Counts)],
+);
+
+// Three frames, and one.
+const SOURCES: &str =
+    r#"{"name":"s","source":"s#.pam","first":0,"last":2},{"name":"t","source":"t.pam","first":1,"last":1}"#;
+
+// A blur of an invert.
+const BLURRED: &str =
+    r#"{"name":"i","effect":"invert","clips":{"Source":"s"}},{"name":"n","effect":"boxblur","clips":{"Source":"i"},"params":{"rx":1,"ry":1}}"#;
+
+const CASES: &[Case] = &[
+    // The sum of a blur with itself. Each of its four tiles asks twice for the tile of the blur under it, which is there
+    // at the second time if one may be kept.
+    (
+        (8, 8),
+        (8, 8),
+        r#"{"name":"b","effect":"boxblur","clips":{"Source":"s"},"params":{"rx":1,"ry":1}},{"name":"n","effect":"merge","clips":{"A":"b","B":"b"},"params":{"operation":"plus"}}"#,
+        4,
+        &[
+            (4096, (0, 0, 4, 8, 4)),
+            (1, (0, 0, 4, 8, 4)),
+            (0, (0, 0, 4, 12, 0)),
+        ],
+    ),
+    // Of the nine tiles of the blur the middle one asks for nine tiles of the invert, an edge one for six and a corner
+    // one for four: 9 + 4 * 6 + 4 * 4 = 49 asks for nine tiles. Where one may be kept it is never one that is asked for
+    // next.
+    (
+        (12, 12),
+        (12, 12),
+        BLURRED,
+        4,
+        &[
+            (4096, (0, 0, 9, 18, 40)),
+            (1, (0, 0, 9, 58, 0)),
+            (0, (0, 0, 9, 58, 0)),
+        ],
+    ),
+    (
+        (192, 192),
+        (192, 192),
+        BLURRED,
+        64,
+        &[(4096, (0, 0, 9, 18, 40))],
+    ),
+    // The one tile of the moved picture needs two of the blur, of which one lies left of 0.
+    (
+        (3, 1),
+        (5, 1),
+        r#"{"name":"b","effect":"boxblur","clips":{"Source":"s"},"params":{"rx":1,"ry":0}},{"name":"n","effect":"translate","clips":{"Source":"b"},"params":{"dx":1}}"#,
+        64,
+        &[
+            (4096, (0, 0, 1, 3, 0)),
+            (1, (0, 0, 1, 3, 0)),
+            (0, (0, 0, 1, 3, 0)),
+        ],
+    ),
+    // At its beginning a dissolve is the picture that it comes from, and at its end the one that it goes to.
+    (
+        (1, 1),
+        (1, 1),
+        r#"{"name":"n","effect":"dissolve","clips":{"SourceFrom":"s","SourceTo":"t"},"params":{"Transition":0}}"#,
+        64,
+        &[(4096, (0, 1, 0, 0, 0))],
+    ),
+    (
+        (1, 1),
+        (1, 1),
+        r#"{"name":"n","effect":"dissolve","clips":{"SourceFrom":"s","SourceTo":"t"},"params":{"Transition":1}}"#,
+        64,
+        &[(4096, (0, 1, 0, 0, 0))],
+    ),
+    (
+        (1, 1),
+        (1, 1),
+        r#"{"name":"n","effect":"dissolve","clips":{"SourceFrom":"s","SourceTo":"t"},"params":{"Transition":"0.5"}}"#,
+        64,
+        &[(4096, (0, 0, 1, 1, 0)), (0, (0, 0, 1, 1, 0))],
+    ),
+    // There is no frame five before.
+    (
+        (1, 1),
+        (1, 1),
+        r#"{"name":"n","effect":"timeoffset","clips":{"Source":"s"},"params":{"offset":5}}"#,
+        64,
+        &[(4096, (1, 0, 0, 0, 0))],
+    ),
+    // Without a mask nothing is mixed.
+    (
+        (1, 1),
+        (1, 1),
+        r#"{"name":"n","effect":"keymix","clips":{"A":"s","B":"t"}}"#,
+        64,
+        &[(4096, (0, 1, 0, 0, 0))],
+    ),
+    // One pixel past the edge of a tile, in both directions.
+    (
+        (1, 1),
+        (5, 5),
+        r#"{"name":"n","effect":"solid","params":{"r":1,"g":"0.5"}}"#,
+        4,
+        &[(4096, (0, 0, 4, 4, 0)), (0, (0, 0, 4, 4, 0))],
+    ),
+    // Of three tiles the middle one lies in the cropped rectangle, and the others lie outside of it.
+    (
+        (12, 4),
+        (12, 4),
+        r#"{"name":"n","effect":"crop","clips":{"Source":"s"},"params":{"x":4,"width":4}}"#,
+        4,
+        &[(4096, (2, 1, 0, 0, 0))],
+    ),
+    // The edge of the wipe is at column 6: the first tile lies left of it, and the last one right of it.
+    (
+        (12, 4),
+        (12, 4),
+        r#"{"name":"n","effect":"wipe","clips":{"SourceFrom":"s","SourceTo":"t"},"params":{"Transition":"0.5"}}"#,
+        4,
+        &[(4096, (0, 2, 1, 1, 0))],
+    ),
+    // The blend asks for three frames of the invert, and then the difference asks for the first of these again.
+    (
+        (3, 3),
+        (3, 3),
+        r#"{"name":"i","effect":"invert","clips":{"Source":"s"}},{"name":"b","effect":"frameblend","clips":{"Source":"i"},"params":{"radius":1}},{"name":"o","effect":"timeoffset","clips":{"Source":"i"},"params":{"offset":1}},{"name":"n","effect":"merge","clips":{"A":"b","B":"o"},"params":{"operation":"minus"}}"#,
+        4,
+        &[
+            (4096, (0, 0, 1, 5, 1)),
+            (1, (0, 0, 1, 6, 0)),
+            (0, (0, 0, 1, 6, 0)),
+        ],
+    ),
+];
+
+// The text of a case's graph.
+fn text_of(alloc: Global, &(_, (width, height), nodes, _, _): &Case) -> Result<String, AllocError> {
+    let project = format!(in alloc;
+        r#""width":{width},"height":{height},"depth":"byte","components":"RGBA""#
+    )?;
+    let nodes = format!(in alloc; "{SOURCES},{nodes}")?;
+    let whole = Whole {
+        project: project.as_str(),
+        format: "RGB_ALPHA",
+        last: 1,
+        nodes: nodes.as_str(),
+    };
+    whole.text(alloc)
+}
+
+// A file of grey samples, of which each differs from those beside it.
+fn file(
+    alloc: Global,
+    name: &str,
+    (width, height): (u32, u32),
+    first: u8,
+) -> Result<(Name, Vec<u8>), AllocError> {
+    let head = format!(in alloc;
+        "P7\nWIDTH {width}\nHEIGHT {height}\nDEPTH 1\nMAXVAL 255\nENDHDR\n"
+    )?;
+    let mut bytes = head.as_bytes().to_vec(alloc)?;
+    let mut sample = first;
+    for _ in 0..height {
+        sample = sample.wrapping_add(11);
+        for _ in 0..width {
+            sample = sample.wrapping_add(7);
+            bytes.push(sample)?;
+        }
+    }
+    Ok((Name::of(String::from_str(alloc, name)?), bytes))
+}
+
+// The files of the sources' frames.
+fn files(alloc: Global, sides: (u32, u32)) -> Result<SureLibrary, AllocError> {
+    let mut files = Vec::new(alloc);
+    for (name, first) in [
+        ("s0.pam", 0),
+        ("s1.pam", 60),
+        ("s2.pam", 130),
+        ("t.pam", 99),
+    ] {
+        files.push(file(alloc, name, sides, first)?)?;
+    }
+    Ok(SureLibrary::new(alloc, files))
+}
+
+fn counts(count: TileCount) -> Counts {
+    (
+        count.void_tiles,
+        count.passed,
+        count.asked,
+        count.landed,
+        count.hits,
+    )
+}
+
+fn case_is_right<R: Threads + Wait + Sync + Abort>(
+    rt: &R,
+    alloc: Global,
+    case: &Case,
+) -> Result<(), Fail> {
+    let &(sides, _, nodes, side, engines) = case;
+    let text = text_of(alloc, case)?;
+    let mut library = files(alloc, sides)?;
+    let whole = by_frames(rt, alloc, &mut library, text.as_str(), 1)?;
+    for &(cache, became) in engines {
+        let engine = Engine {
+            side,
+            cache,
+            workers: 1,
+        };
+        let (tiled, count) = by_tiles(rt, alloc, &mut library, text.as_str(), 1, engine)?;
+        assert_eq!(rt; counts(count), became, "by {engine:?} of {nodes}");
+        assert!(rt; are_same(&tiled, &whole), "by {engine:?} of {nodes}");
+    }
+    Ok(())
+}
+
+#[test]
+fn tiles_are_counted(rt: HostRuntime) -> Result<(), Fail> {
+    for case in CASES {
+        case_is_right(&rt, rt.alloc(), case)?;
+    }
+    Ok(())
+}
