@@ -1,11 +1,14 @@
 -- Flights of the directory, what they land, and what is counted.
-use Rattle.std.proofs.Common.{◌≡◌, ℕ, ◌<◌, ◌≤◌, ◌+◌, ℤ, List, [], ◌∷◌, ◌++◌, Contains, suc, length, get_or, take, Bool, true, false, refl, arith, sym, ap, ◌∙◌, subst, inl, inr, ◌⊎◌}
+use Rattle.std.proofs.Common.{◌≡◌, ℕ, ◌<◌, ◌≤◌, ◌+◌, ℤ, List, [], ◌∷◌, ◌++◌, Contains, suc, length, get_or, take, Option, Some, None, Bool, true, false, refl, arith, sym, ap, ◌∙◌, subst, inl, inr, ◌⊎◌}
 use Rattle.std.proofs.lemmas.List.Sums.{count_by_more_no, count_by_more_yes}
+use Rattle.std.specs.declared.alloc.Global.{Global}
+use Rattle.std.specs.declared.sync.Arc.{Arc}
 use Rattle.fx_base.specs.Bounds.{Bounds}
 use Rattle.fx_directory.specs.Seats.{Made}
 use Rattle.fx_image.specs.Stored.{Stored}
 use Rattle.fx_effect.specs.Meaning.{Meaning}
 use Rattle.fx_scene.specs.declared.key.Key.{Key}
+use Rattle.fx_scene.specs.Nodes.{Nodes}
 use Rattle.fx_scene.specs.Scenes.{Shot}
 use Rattle.fx_region.specs.Counts.{is_asked}
 use Rattle.fx_region.specs.Ends.{end_shown}
@@ -13,8 +16,8 @@ use Rattle.fx_region.specs.Sites.{scene_nodes}
 use Rattle.fx_region.specs.declared.ends.End.{End}
 use Rattle.fx_region.specs.declared.ends.End.TheVariants as code
 use Rattle.fx_region.specs.declared.ends.Need.{Need}
-use Rattle.fx_tile.specs.Counts.{Fetched, Follows, IsUnasked, Lands, Met, Within}
-use Rattle.fx_tile.specs.Sites.{IsFound, IsKeyOf, renders_of}
+use Rattle.fx_tile.specs.Counts.{AskedOnce, Fetched, Follows, IsUnasked, Lands, Met, Within, one_if_some}
+use Rattle.fx_tile.specs.Sites.{IsFound, IsKeyOf, IsTileOf, MayBeTileOf, renders_of}
 use Rattle.fx_tile.specs.Tiles.{IsRightTile, IsTile}
 use Rattle.fx_tile.specs.declared.count.Tally.{Tally}
 use Rattle.fx_tile.specs.declared.site.Site.{Site}
@@ -102,6 +105,11 @@ met_lands r l m n met lands =
 pub met_none : (m : Made) → Met 0 m m
 met_none m = record { dropped = refl; landed = omega arith; hits = omega arith; enough = omega arith }
 
+-- and so were fewer
+met_less : (r s : ℕ) (m n : Made) → s ≤ r → Met r m n → Met s m n
+met_less r s m n low met =
+    let enough = met.enough in record { dropped = met.dropped; landed = met.landed; hits = met.hits; enough = omega (arith, low, enough) }
+
 met_unasked : (r : ℕ) (l m n : Made) → Met r l m → IsUnasked m n → Met r l n
 met_unasked r l m n met un =
     let d1 = met.dropped in let d2 = un.dropped in
@@ -122,29 +130,64 @@ met_fetched r q l m n met got =
     let n3 = enough_by q m n got.way in
     record { dropped = d2 ∙ d1; landed = omega (arith, m1, n1); hits = omega (arith, m2, n2); enough = omega (arith, m3, n3) }
 
+-- what was asked for once
+pub met_once : {A : Type 0} (found : Option A) (r : ℕ) (m n : Made) → AskedOnce found r m n → Met (one_if_some found) m n
+met_once None r m n un = met_unasked 0 m m n (met_none m) un
+met_once (Some image) r m n got = met_less (0 + 1) 1 m n (omega arith) (met_fetched 0 r m m n (met_none m) got)
+
+pub met_same : (r s : ℕ) (m n : Made) → r ≡ s → Met r m n → Met s m n
+met_same r s m n e met = met_less r s m n (omega (arith, e)) met
+
+-- what was met before and then
+pub met_both : (r s : ℕ) (l m n : Made) → Met r l m → Met s m n → Met (r + s) l n
+met_both r s l m n a b =
+    let a1 = a.landed in let a2 = a.hits in let a3 = a.enough in
+    let b1 = b.landed in let b2 = b.hits in let b3 = b.enough in
+    record { dropped = b.dropped ∙ a.dropped; landed = omega (arith, a1, b1); hits = omega (arith, a2, b2); enough = omega (arith, a3, b3) }
+
 abbrev is_render : Need → Bool
 is_render n = is_asked (end_shown n.end)
 
+-- what is there is an image of a render
+pub there_by : (nodes : Nodes) (end : End) (t : Arc Stored Global) → MayBeTileOf nodes end (Some t) → is_asked (end_shown end) ≡ true
+there_by nodes code.Void t is = cc
+there_by nodes (code.Frame node frame region through) t is = cc
+there_by nodes (code.Render node frame region through) t is = refl
+
+pub tile_there : (nodes : Nodes) (end : End) (t : Arc Stored Global) → MayBeTileOf nodes end (Some t) → IsTileOf nodes end (Some t)
+tile_there nodes code.Void t is = tt
+tile_there nodes (code.Frame node frame region through) t is = tt
+tile_there nodes (code.Render node frame region through) t is = is
+
+-- One need more, where of those behind it h are met already.
 module _ {E : Type 0} {c e : _} (meaning : E → Meaning) (site : Site E c e) (needs : List Need) (i : ℕ) (need : Need) (low : i < length needs) (there : need ≡ get_or needs i need)
-    (l m n : Made) (met : Met (renders_of (take i needs)) l m) where
+    (h : ℕ) (l m n : Made) where
   same_as : (b : Bool) → is_render need ≡ b → is_render (get_or needs i need) ≡ b
   same_as b is = sym (ap is_render there) ∙ is
 
-  no_more : is_render need ≡ false → IsUnasked m n → Met (renders_of (take (i + 1) needs)) l n
-  no_more is un =
-      subst (λ (k : ℕ). Met k l n) (sym (count_by_more_no is_render needs i need low (same_as false is)))
-      (met_unasked (renders_of (take i needs)) l m n met un)
+  -- it was met already
+  pub met_already : is_render need ≡ true → Met (renders_of (take i needs) + (1 + h)) l m → Met (renders_of (take (i + 1) needs) + h) l m
+  met_already is met =
+      let count = count_by_more_yes is_render needs i need low (same_as true is) in
+      met_less (renders_of (take i needs) + (1 + h)) (renders_of (take (i + 1) needs) + h) l m (omega (arith, count)) met
 
-  one_more : (q : ℕ) → is_render need ≡ true → Fetched q m n → Met (renders_of (take (i + 1) needs)) l n
-  one_more q is got =
-      subst (λ (k : ℕ). Met k l n) (sym (count_by_more_yes is_render needs i need low (same_as true is)))
-      (met_fetched (renders_of (take i needs)) q l m n met got)
+  no_more : is_render need ≡ false → Met (renders_of (take i needs) + h) l m → IsUnasked m n → Met (renders_of (take (i + 1) needs) + h) l n
+  no_more is met un =
+      let count = count_by_more_no is_render needs i need low (same_as false is) in
+      met_unasked (renders_of (take (i + 1) needs) + h) l m n
+      (met_less (renders_of (take i needs) + h) (renders_of (take (i + 1) needs) + h) l m (omega (arith, count)) met) un
 
-  met_by : (end : End) → need.end ≡ end → IsFound meaning site end m n → Met (renders_of (take (i + 1) needs)) l n
-  met_by code.Void is found = no_more (ap (λ (z : End). is_asked (end_shown z)) is) found
-  met_by (code.Frame node frame region through) is found = no_more (ap (λ (z : End). is_asked (end_shown z)) is) found
-  met_by (code.Render node frame region through) is found = one_more _ (ap (λ (z : End). is_asked (end_shown z)) is) found
+  one_more : (q : ℕ) → is_render need ≡ true → Met (renders_of (take i needs) + h) l m → Fetched q m n → Met (renders_of (take (i + 1) needs) + h) l n
+  one_more q is met got =
+      let count = count_by_more_yes is_render needs i need low (same_as true is) in
+      met_less (renders_of (take i needs) + h + 1) (renders_of (take (i + 1) needs) + h) l n (omega (arith, count))
+      (met_fetched (renders_of (take i needs) + h) q l m n met got)
 
-  -- one need more is met
-  pub met_more : IsFound meaning site need.end m n → Met (renders_of (take (i + 1) needs)) l n
-  met_more found = met_by need.end refl found
+  met_by : (end : End) → need.end ≡ end → Met (renders_of (take i needs) + h) l m → IsFound meaning site end m n → Met (renders_of (take (i + 1) needs) + h) l n
+  met_by code.Void is met found = no_more (ap (λ (z : End). is_asked (end_shown z)) is) met found
+  met_by (code.Frame node frame region through) is met found = no_more (ap (λ (z : End). is_asked (end_shown z)) is) met found
+  met_by (code.Render node frame region through) is met found = one_more _ (ap (λ (z : End). is_asked (end_shown z)) is) met found
+
+  -- it is met now
+  pub met_more : Met (renders_of (take i needs) + h) l m → IsFound meaning site need.end m n → Met (renders_of (take (i + 1) needs) + h) l n
+  met_more met found = met_by need.end refl met found

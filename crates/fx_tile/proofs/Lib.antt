@@ -6,6 +6,7 @@ pub mod SiteLemmas
 pub mod RenderLemmas
 pub mod FlightLemmas
 pub mod WindowLemmas
+pub mod GatherLemmas
 pub mod GridLemmas
 pub mod PaintLemmas
 pub mod SumLemmas

@@ -1,10 +1,12 @@
 -- Pieces show what their needs are found to be.
-use Rattle.std.proofs.Common.{zero, suc, ◌≡◌, ℕ, ◌<◌, ◌+◌, ℤ, List, [], ◌∷◌, ◌++◌, length, get_or, take, refl, sym, ap, ◌∙◌, subst, Option, Some, Bool, true, false, cond, nat_eq, ◌&&◌, arith}
+use Rattle.std.proofs.Common.{zero, suc, ◌≡◌, ℕ, ◌<◌, ◌+◌, ℤ, List, [], ◌∷◌, ◌++◌, length, get_or, take, drop, refl, sym, ap, ◌∙◌, subst, Option, Some, Bool, true, false, cond, nat_eq, ◌&&◌, arith}
 use Rattle.std.specs.Ordering.{int_eq}
 use Rattle.std.specs.declared.sync.Arc.{Arc}
 use Rattle.std.specs.declared.alloc.Global.{Global}
 use Rattle.std.proofs.lemmas.Bool.{and_parts}
-use Rattle.std.proofs.lemmas.List.{take_more}
+use Rattle.std.proofs.lemmas.List.{at_drop_more, take_more}
+use Rattle.std.proofs.lemmas.List.Sums.{sum_by-drop_more}
+use Rattle.std.specs.List.{sum_by}
 use Rattle.fx_base.specs.Bounds.{Bounds}
 use Rattle.fx_base.specs.Rect.{within}
 use Rattle.fx_pixel.specs.declared.Depth.{Depth}
@@ -17,13 +19,15 @@ use Rattle.fx_effect.specs.Given.{Given, GivenPiece, converted, first_pixel, hol
 use Rattle.fx_effect.specs.declared.steps.Step.{Step}
 use Rattle.fx_scene.specs.Nodes.{Node, Nodes, Source, SourceFrames, depth_at}
 use Rattle.fx_scene.specs.Value.{value}
+use Rattle.fx_region.specs.declared.ends.End.{End}
 use Rattle.fx_region.specs.declared.ends.End.TheVariants as code
 use Rattle.fx_region.specs.declared.ends.Need.{Need}
 use Rattle.fx_region.specs.Ends.{EndShown, Frame, Render, end_holds, end_pixel, end_shown, frame_through, image_through}
 use Rattle.fx_region.specs.Needs.{need_holds, need_shown, needs_pixel}
 use Rattle.std.proofs.Common.{map}
 use Rattle.fx_tile.specs.Inputs.{AddsPiece, AreInputs, ArePiecesOf, IsPieceOf, piece_of}
-use Rattle.fx_tile.specs.Sites.{AreTilesOf, IsTileOf}
+use Rattle.fx_tile.specs.Counts.{one_if_some}
+use Rattle.fx_tile.specs.Sites.{EachTile}
 use Rattle.fx_tile.specs.Tiles.{IsTile}
 
 -- ---- the piece of a need
@@ -110,37 +114,60 @@ pieces_pixel nodes (n ∷ ns) (p ∷ ps) h d k t =
 
 -- ---- tiles of needs, one by one
 
-pub tiles_long : (nodes : Nodes) (ns : List Need) (ts : List (Option (Arc Stored Global))) → AreTilesOf nodes ns ts → length ts ≡ length ns
-tiles_long nodes [] [] h = refl
-tiles_long nodes [] (t ∷ ts) h = absurd h
-tiles_long nodes (n ∷ ns) [] h = absurd h
-tiles_long nodes (n ∷ ns) (t ∷ ts) h = ap suc (tiles_long nodes ns ts h.1)
+pub tiles_long : (P : End → Option (Arc Stored Global) → Type 0) (ns : List Need) (ts : List (Option (Arc Stored Global))) → EachTile P ns ts → length ts ≡ length ns
+tiles_long P [] [] h = refl
+tiles_long P [] (t ∷ ts) h = absurd h
+tiles_long P (n ∷ ns) [] h = absurd h
+tiles_long P (n ∷ ns) (t ∷ ts) h = ap suc (tiles_long P ns ts h.1)
 
-tiles_at : (nodes : Nodes) (ns : List Need) (ts : List (Option (Arc Stored Global))) (i : ℕ) (n : Need) (t : Option (Arc Stored Global))
-    → AreTilesOf nodes ns ts → i < length ns → IsTileOf nodes (get_or ns i n).end (get_or ts i t)
-tiles_at nodes [] [] i n t h low = absurd (omega (arith, low))
-tiles_at nodes [] (u ∷ ts) i n t h low = absurd h
-tiles_at nodes (m ∷ ns) [] i n t h low = absurd h
-tiles_at nodes (m ∷ ns) (u ∷ ts) zero n t h low = h.0
-tiles_at nodes (m ∷ ns) (u ∷ ts) (suc i) n t h low = tiles_at nodes ns ts i n t h.1 (omega (arith, low))
+tiles_at : (P : End → Option (Arc Stored Global) → Type 0) (ns : List Need) (ts : List (Option (Arc Stored Global))) (i : ℕ) (n : Need) (t : Option (Arc Stored Global))
+    → EachTile P ns ts → i < length ns → P (get_or ns i n).end (get_or ts i t)
+tiles_at P [] [] i n t h low = absurd (omega (arith, low))
+tiles_at P [] (u ∷ ts) i n t h low = absurd h
+tiles_at P (m ∷ ns) [] i n t h low = absurd h
+tiles_at P (m ∷ ns) (u ∷ ts) zero n t h low = h.0
+tiles_at P (m ∷ ns) (u ∷ ts) (suc i) n t h low = tiles_at P ns ts i n t h.1 (omega (arith, low))
 
-pub tile_at : (nodes : Nodes) (ns : List Need) (ts : List (Option (Arc Stored Global))) (i : ℕ) (n : Need) (t : Option (Arc Stored Global))
-    → AreTilesOf nodes ns ts → i < length ns → n ≡ get_or ns i n → t ≡ get_or ts i t → IsTileOf nodes n.end t
-tile_at nodes ns ts i n t h low e f =
-    subst (λ (m : Need). IsTileOf nodes m.end t) (sym e)
-    (subst (λ (u : Option (Arc Stored Global)). IsTileOf nodes (get_or ns i n).end u) (sym f) (tiles_at nodes ns ts i n t h low))
+pub tile_at : (P : End → Option (Arc Stored Global) → Type 0) (ns : List Need) (ts : List (Option (Arc Stored Global))) (i : ℕ) (n : Need) (t : Option (Arc Stored Global))
+    → EachTile P ns ts → i < length ns → n ≡ get_or ns i n → t ≡ get_or ts i t → P n.end t
+tile_at P ns ts i n t h low e f =
+    subst (λ (m : Need). P m.end t) (sym e)
+    (subst (λ (u : Option (Arc Stored Global)). P (get_or ns i n).end u) (sym f) (tiles_at P ns ts i n t h low))
 
-tiles_push : (nodes : Nodes) (ns : List Need) (ts : List (Option (Arc Stored Global))) (n : Need) (t : Option (Arc Stored Global))
-    → AreTilesOf nodes ns ts → IsTileOf nodes n.end t → AreTilesOf nodes (ns ++ n ∷ []) (ts ++ t ∷ [])
-tiles_push nodes [] [] n t h i = (i, tt)
-tiles_push nodes [] (u ∷ ts) n t h i = absurd h
-tiles_push nodes (m ∷ ns) [] n t h i = absurd h
-tiles_push nodes (m ∷ ns) (u ∷ ts) n t h i = (h.0, tiles_push nodes ns ts n t h.1 i)
+tiles_push : (P : End → Option (Arc Stored Global) → Type 0) (ns : List Need) (ts : List (Option (Arc Stored Global))) (n : Need) (t : Option (Arc Stored Global))
+    → EachTile P ns ts → P n.end t → EachTile P (ns ++ n ∷ []) (ts ++ t ∷ [])
+tiles_push P [] [] n t h i = (i, tt)
+tiles_push P [] (u ∷ ts) n t h i = absurd h
+tiles_push P (m ∷ ns) [] n t h i = absurd h
+tiles_push P (m ∷ ns) (u ∷ ts) n t h i = (h.0, tiles_push P ns ts n t h.1 i)
 
-pub tiles_more : (nodes : Nodes) (ns : List Need) (ts new : List (Option (Arc Stored Global))) (i : ℕ) (n : Need) (t : Option (Arc Stored Global))
-    → i < length ns → n ≡ get_or ns i n → AreTilesOf nodes (take i ns) ts → IsTileOf nodes n.end t → new ≡ ts ++ t ∷ []
-    → AreTilesOf nodes (take (i + 1) ns) new
-tiles_more nodes ns ts new i n t l e h tile q =
-    subst (λ (z : List (Option (Arc Stored Global))). AreTilesOf nodes (take (i + 1) ns) z) (sym q)
-    (subst (λ (z : List Need). AreTilesOf nodes z (ts ++ t ∷ [])) (ap (λ (z : Need). take i ns ++ z ∷ []) e ∙ sym (take_more ns i n l))
-    (tiles_push nodes (take i ns) ts n t h tile))
+pub tiles_more : (P : End → Option (Arc Stored Global) → Type 0) (ns : List Need) (ts new : List (Option (Arc Stored Global))) (i : ℕ) (n : Need) (t : Option (Arc Stored Global))
+    → i < length ns → n ≡ get_or ns i n → EachTile P (take i ns) ts → P n.end t → new ≡ ts ++ t ∷ []
+    → EachTile P (take (i + 1) ns) new
+tiles_more P ns ts new i n t l e h tile q =
+    subst (λ (z : List (Option (Arc Stored Global))). EachTile P (take (i + 1) ns) z) (sym q)
+    (subst (λ (z : List Need). EachTile P z (ts ++ t ∷ [])) (ap (λ (z : Need). take i ns ++ z ∷ []) e ∙ sym (take_more ns i n l))
+    (tiles_push P (take i ns) ts n t h tile))
+
+-- what stands beside the first of those that are left
+module _ (P : End → Option (Arc Stored Global) → Type 0) (ns : List Need) (ts : List (Option (Arc Stored Global))) (i : ℕ) (n : Need) (t : Option (Arc Stored Global))
+    (low : i < length ns) (long : length ts ≡ length ns) (need : n ≡ get_or ns i n) (tile : t ≡ get_or ts i t) where
+  tiles_left : drop i ts ≡ get_or ts i t ∷ drop (i + 1) ts
+  tiles_left = at_drop_more (λ z. z) ts i t (omega (arith, low, long))
+
+  parts : EachTile P (drop i ns) (drop i ts) → P (get_or ns i n).end (get_or ts i t) × EachTile P (drop (i + 1) ns) (drop (i + 1) ts)
+  parts each =
+      subst (λ (z : List Need). EachTile P z (get_or ts i t ∷ drop (i + 1) ts)) (at_drop_more (λ z. z) ns i n low)
+      (subst (λ (z : List (Option (Arc Stored Global))). EachTile P (drop i ns) z) tiles_left each)
+
+  pub first_left : EachTile P (drop i ns) (drop i ts) → P n.end t
+  first_left each =
+      subst (λ (m : Need). P m.end t) (sym need) (subst (λ (u : Option (Arc Stored Global)). P (get_or ns i n).end u) (sym tile) (parts each).0)
+
+  pub others_left : EachTile P (drop i ns) (drop i ts) → EachTile P (drop (i + 1) ns) (drop (i + 1) ts)
+  others_left each = (parts each).1
+
+  pub some_left : sum_by one_if_some (drop i ts) ≡ one_if_some t + sum_by one_if_some (drop (i + 1) ts)
+  some_left =
+      sum_by-drop_more one_if_some ts i t (omega (arith, low, long))
+      ∙ ap (λ (u : Option (Arc Stored Global)). one_if_some u + sum_by one_if_some (drop (i + 1) ts)) (sym tile)

@@ -1,5 +1,5 @@
 -- What renders count in a seat of the directory.
-use Rattle.std.specs.Prelude.{◌≡◌, ◌<◌, ◌≤◌, ◌+◌, ◌^◌, ◌⊎◌, ℕ}
+use Rattle.std.specs.Prelude.{◌≡◌, ◌<◌, ◌≤◌, ◌+◌, ◌^◌, ◌⊎◌, ℕ, Option, None, Some}
 use Rattle.fx_directory.specs.Seats.{Made}
 use Rattle.fx_region.specs.Ends.{EndShown, Frame, Render, Void}
 use Rattle.fx_tile.specs.declared.count.Tally.{Tally}
@@ -42,6 +42,16 @@ pub record IsUnasked (m n : Made) : Type 0 where
   pub dropped : n.dropped ≡ m.dropped
   pub landed : n.landed ≡ m.landed
   pub hits : n.hits ≡ m.hits
+
+-- a render was asked for once: nothing was counted where another renders it
+abbrev pub AskedOnce : {A : Type 0} → Option A → ℕ → Made → Made → Type 0
+AskedOnce None r m n = IsUnasked m n
+AskedOnce (Some image) r m n = Fetched r m n
+
+-- 1 where there is something
+abbrev pub one_if_some : {A : Type 0} → Option A → ℕ
+one_if_some None = 0
+one_if_some (Some x) = 1
 
 -- ---- a tile of the picture
 

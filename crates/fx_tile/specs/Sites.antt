@@ -118,12 +118,28 @@ IsTileOf nodes (code.Frame node frame region through) tile = Unit {0}
 IsTileOf nodes (code.Render node frame region through) None = ⊥
 IsTileOf nodes (code.Render node frame region through) (Some tile) = IsTile nodes node frame region (arc_value tile)
 
+-- so much of each need's end and what stands beside it
+abbrev pub EachTile :
+    (End → Option (Arc Stored Global) → Type 0) → List Need → List (Option (Arc Stored Global)) → Type 0
+EachTile P [] [] = Unit {0}
+EachTile P [] (t ∷ ts) = ⊥
+EachTile P (n ∷ ns) [] = ⊥
+EachTile P (n ∷ ns) (t ∷ ts) = P n.end t × EachTile P ns ts
+
 -- one for each need
 abbrev pub AreTilesOf : Nodes → List Need → List (Option (Arc Stored Global)) → Type 0
-AreTilesOf nodes [] [] = Unit {0}
-AreTilesOf nodes [] (t ∷ ts) = ⊥
-AreTilesOf nodes (n ∷ ns) [] = ⊥
-AreTilesOf nodes (n ∷ ns) (t ∷ ts) = IsTileOf nodes n.end t × AreTilesOf nodes ns ts
+AreTilesOf nodes = EachTile (IsTileOf nodes)
+
+-- the image of an end that is a render, where it is there
+abbrev pub MayBeTileOf : Nodes → End → Option (Arc Stored Global) → Type 0
+MayBeTileOf nodes code.Void tile = tile ≡ None
+MayBeTileOf nodes (code.Frame node frame region through) tile = tile ≡ None
+MayBeTileOf nodes (code.Render node frame region through) None = Unit {0}
+MayBeTileOf nodes (code.Render node frame region through) (Some tile) = IsTile nodes node frame region (arc_value tile)
+
+-- one for each need, as far as they are there
+abbrev pub MayBeTilesOf : Nodes → List Need → List (Option (Arc Stored Global)) → Type 0
+MayBeTilesOf nodes = EachTile (MayBeTileOf nodes)
 
 -- ---- how many renders
 

@@ -1,13 +1,13 @@
 //! A render that is asked of the directory: it is kept there, or it is rendered here and landed.
-ghost use Rattle.std.specs.Prelude.{◌≡◌, ◌≤◌, All, IfOk, IsTrue, OnOk};
+ghost use Rattle.std.specs.Prelude.{◌≡◌, ◌≤◌, All, IfOk, IfSome, IsTrue, OnOk, sum_by};
 ghost use Rattle.std.specs.Arc.{arc_value};
 ghost use Rattle.fx_core.specs.Flight.{Stands};
 ghost use Rattle.fx_directory.specs.Seats.{LeavesAlone};
 ghost use Rattle.fx_region.specs.Sites.{scene_nodes};
 ghost use Rattle.fx_scene.specs.Scenes.{node_values};
 ghost use Rattle.fx_tile.specs.Tiles.{IsRightTile, IsTile};
-ghost use Rattle.fx_tile.specs.Sites.{AreNeeds, AreTilesOf, IsFound, IsKeyOf, IsReady, IsRenderable, IsSeat, IsSite, IsTileOf, KeepsSeat, renders_needed, renders_of};
-ghost use Rattle.fx_tile.specs.Counts.{Fetched, Follows, Lands, Met, Within};
+ghost use Rattle.fx_tile.specs.Sites.{AreNeeds, AreTilesOf, IsFound, IsKeyOf, IsReady, IsRenderable, IsSeat, IsSite, IsTileOf, KeepsSeat, MayBeTileOf, MayBeTilesOf, renders_needed, renders_of};
+ghost use Rattle.fx_tile.specs.Counts.{AskedOnce, Fetched, Follows, Lands, Met, Within, one_if_some};
 
 use crate::count::Tally;
 use crate::render::rendered;
@@ -52,24 +52,61 @@ pub(crate) fn fetch<R: Wait, E: Catalogue + Drop>(
 {
     let key = site.scene.key(alloc, node, frame, region)?;
     for _ in rt.forever() {
-        match site
-            .shared
-            .directory
-            .ask(rt, alloc, &mut seat.directory, Arc::try_clone(&key)?)?
-        {
-            Answer::Here(image) => {
-                tally.hits += 1;
-                return Ok(image);
-            }
-            Answer::Busy => thread::yield_now(),
-            Answer::Fly(flight) => {
-                return made(
-                    rt, alloc, asking, site, seat, tally, node, frame, region, flight,
-                );
-            }
+        let key = Arc::try_clone(&key)?;
+        match fetch_unless_busy(
+            rt, alloc, asking, site, seat, tally, node, frame, region, key,
+        )? {
+            Some(image) => return Ok(image),
+            None => thread::yield_now(),
         }
     }
     unreachable!()
+}
+
+// The same, asked for once under its key. `None` comes where another renders it.
+#[cycle(fetching)]
+fn fetch_unless_busy<R: Wait, E: Catalogue + Drop>(
+    rt: &R,
+    alloc: Global,
+    asking: &mut Asking,
+    site: &Site<'_, E>,
+    seat: &mut TileSeat<E>,
+    tally: &mut Tally,
+    node: u32,
+    frame: i64,
+    region: Rect,
+    key: Arc<Key>,
+) -> Result<Option<Arc<Image>>, Memory>
+    requires site { IsSite E.meaning E.number_of site.now }
+    requires seat { IsSeat site.now seat.old }
+    requires within { Within tally.old seat.old.directory.made }
+    requires renderable { IsRenderable E.meaning site.now node frame region }
+    requires key { IsKeyOf site.now.scene.now node frame region (arc_value key) }
+    ensures tile { let nodes = scene_nodes E.meaning site.now.scene.now in
+        IfOk result (λ found. IfSome found (λ image. IsTile nodes node frame region (arc_value image))) }
+    ensures seat { KeepsSeat seat.old seat.new }
+    ensures asked { let r = renders_needed E.meaning site.now node frame region in
+        IfOk result (λ found. AskedOnce found r seat.old.directory.made seat.new.directory.made) }
+    ensures follows { OnOk result
+        (Follows tally.old tally.new seat.old.directory.made seat.new.directory.made) }
+{
+    match site
+        .shared
+        .directory
+        .ask(rt, alloc, &mut seat.directory, key)?
+    {
+        Answer::Here(image) => {
+            tally.hits += 1;
+            Ok(Some(image))
+        }
+        Answer::Busy => Ok(None),
+        Answer::Fly(flight) => {
+            let image = made(
+                rt, alloc, asking, site, seat, tally, node, frame, region, flight,
+            )?;
+            Ok(Some(image))
+        }
+    }
 }
 
 // Renders under a flight and lands it. Where memory is wanting the flight is dropped.
@@ -250,7 +287,8 @@ fn with_side(grid: Grid) -> Grid
     grid
 }
 
-// An image for each need that is a render.
+// An image for each need that is a render. Those that others render are waited for once the rest is there, so that
+// workers with the same needs render one each.
 #[cycle(fetching)]
 fn gathered<R: Wait, E: Catalogue + Drop>(
     rt: &R,
@@ -274,12 +312,88 @@ fn gathered<R: Wait, E: Catalogue + Drop>(
     ensures follows { OnOk result
         (Follows tally.old tally.new seat.old.directory.made seat.new.directory.made) }
 {
+    let mut early = gathered_unless_busy(rt, alloc, asking, site, seat, tally, node, needs)?;
     let mut tiles = Vec::new(alloc);
-    for need in needs {
-        let tile = tile_for(rt, alloc, asking, site, seat, tally, node, &need.end)?;
+    for i in 0..needs.len() {
+        let tile = match early[i].take() {
+            Some(tile) => Some(tile),
+            None => tile_for(rt, alloc, asking, site, seat, tally, node, &needs[i].end)?,
+        };
         tiles.push(tile)?;
     }
     Ok(tiles)
+}
+
+// The same, where no other renders them.
+#[cycle(fetching)]
+fn gathered_unless_busy<R: Wait, E: Catalogue + Drop>(
+    rt: &R,
+    alloc: Global,
+    asking: &mut Asking,
+    site: &Site<'_, E>,
+    seat: &mut TileSeat<E>,
+    tally: &mut Tally,
+    node: u32,
+    needs: &[Need],
+) -> Result<Vec<Option<Arc<Image>>>, Memory>
+    requires site { IsSite E.meaning E.number_of site.now }
+    requires seat { IsSeat site.now seat.old }
+    requires within { Within tally.old seat.old.directory.made }
+    requires ready { All (λ need. IsReady E.meaning site.now node need.end) needs.now }
+    ensures tiles { let nodes = scene_nodes E.meaning site.now.scene.now in
+        IfOk result (λ tiles. MayBeTilesOf nodes needs.now tiles.items) }
+    ensures seat { KeepsSeat seat.old seat.new }
+    ensures met { IfOk result (λ tiles.
+        Met (sum_by one_if_some tiles.items) seat.old.directory.made seat.new.directory.made) }
+    ensures follows { OnOk result
+        (Follows tally.old tally.new seat.old.directory.made seat.new.directory.made) }
+{
+    let mut tiles = Vec::new(alloc);
+    for need in needs {
+        let tile = tile_unless_busy(rt, alloc, asking, site, seat, tally, node, &need.end)?;
+        tiles.push(tile)?;
+    }
+    Ok(tiles)
+}
+
+// The image of an end that is a render, where no other renders it.
+#[cycle(fetching)]
+fn tile_unless_busy<R: Wait, E: Catalogue + Drop>(
+    rt: &R,
+    alloc: Global,
+    asking: &mut Asking,
+    site: &Site<'_, E>,
+    seat: &mut TileSeat<E>,
+    tally: &mut Tally,
+    node: u32,
+    end: &End,
+) -> Result<Option<Arc<Image>>, Memory>
+    requires site { IsSite E.meaning E.number_of site.now }
+    requires seat { IsSeat site.now seat.old }
+    requires within { Within tally.old seat.old.directory.made }
+    requires ready { IsReady E.meaning site.now node end.now }
+    ensures tile { let nodes = scene_nodes E.meaning site.now.scene.now in
+        IfOk result (MayBeTileOf nodes end.now) }
+    ensures seat { KeepsSeat seat.old seat.new }
+    ensures met { IfOk result (λ tile.
+        Met (one_if_some tile) seat.old.directory.made seat.new.directory.made) }
+    ensures follows { OnOk result
+        (Follows tally.old tally.new seat.old.directory.made seat.new.directory.made) }
+{
+    match end {
+        End::Void | End::Frame { .. } => Ok(None),
+        End::Render {
+            node: m,
+            frame,
+            region,
+            through: _,
+        } => {
+            let key = site.scene.key(alloc, *m, *frame, *region)?;
+            fetch_unless_busy(
+                rt, alloc, asking, site, seat, tally, *m, *frame, *region, key,
+            )
+        }
+    }
 }
 
 /// The image of an end that is a render, of a node before this one.
