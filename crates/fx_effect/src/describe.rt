@@ -40,14 +40,13 @@ impl Description<'_> {
     fn entries(&self, alloc: Global) -> Result<Vec<PropEntry>, Memory>
         ensures { IfOk result (λ entries. entries.items ≡ description_entries self.now) }
     {
-        let entries = vec![in alloc;
-            PropEntry::text(alloc, LABEL, self.label)?,
-            words(alloc, CONTEXTS, self.contexts)?,
-            words(alloc, DEPTHS, self.depths)?,
-            PropEntry::flag(alloc, TEMPORAL, self.temporal)?,
-            PropEntry::flag(alloc, TILES, self.tiles)?,
-            PropEntry::text(alloc, SAFETY, self.safety.text())?,
-        ]?;
+        let mut entries = Vec::new(alloc);
+        entries.push(PropEntry::text(alloc, LABEL, self.label)?)?;
+        entries.push(words(alloc, CONTEXTS, self.contexts)?)?;
+        entries.push(words(alloc, DEPTHS, self.depths)?)?;
+        entries.push(PropEntry::flag(alloc, TEMPORAL, self.temporal)?)?;
+        entries.push(PropEntry::flag(alloc, TILES, self.tiles)?)?;
+        entries.push(PropEntry::text(alloc, SAFETY, self.safety.text())?)?;
         Ok(entries)
     }
 }
@@ -57,14 +56,13 @@ impl Description<'_> {
 pub fn descriptor(alloc: Global) -> Result<PropSet, Memory>
     ensures { (s : Shape) → IfOk result (λ set. AwaitEntries set (description s)) }
 {
-    let defs = vec![in alloc;
-        blank(alloc, LABEL, PropKind::Text)?,
-        blank(alloc, CONTEXTS, PropKind::Text)?,
-        blank(alloc, DEPTHS, PropKind::Text)?,
-        blank(alloc, TEMPORAL, PropKind::Int)?,
-        blank(alloc, TILES, PropKind::Int)?,
-        blank(alloc, SAFETY, PropKind::Text)?,
-    ]?;
+    let mut defs = Vec::new(alloc);
+    defs.push(blank(alloc, LABEL, PropKind::Text)?)?;
+    defs.push(blank(alloc, CONTEXTS, PropKind::Text)?)?;
+    defs.push(blank(alloc, DEPTHS, PropKind::Text)?)?;
+    defs.push(blank(alloc, TEMPORAL, PropKind::Int)?)?;
+    defs.push(blank(alloc, TILES, PropKind::Int)?)?;
+    defs.push(blank(alloc, SAFETY, PropKind::Text)?)?;
     PropSet::new(alloc, defs)
 }
 
