@@ -1,16 +1,1 @@
-pub mod ActionsToys
-pub mod AreaHere
 pub mod DirectoryAskers
-pub mod EvalToy
-pub mod GenHere
-pub mod GraphToy
-pub mod LifeToys
-pub mod MergeHere
-pub mod PointHere
-pub mod RegionToy
-pub mod SceneToy
-pub mod TileToy
-pub mod TileCounting
-pub mod TileCrews
-pub mod TimeHere
-pub mod TransHere

@@ -1,63 +1,86 @@
 use fx_base::{Fix, Grid, Name, Names, Pattern, Rect, Status, offset};
 use std::test::Fail;
 
+// Texts, and 65536 times their numbers.
+const NUMBERS: &[(&str, i64)] = &[
+    ("0", 0),
+    ("1", 65536),
+    ("0.1", 6554),
+    ("0.5", 32768),
+    ("-0.5", -32768),
+    ("-0.000007", 0),
+    ("-0.000008", -1),
+    ("007.250000", 475136),
+    ("999999999.999999", 65536000000000),
+    ("-999999999.999999", -65536000000000),
+];
+
 #[test]
 fn numbers_are_read(rt: HostRuntime) {
-    let raws = [
-        ("0", 0),
-        ("1", 65536),
-        ("0.1", 6554),
-        ("0.5", 32768),
-        ("-0.5", -32768),
-        ("-0.000007", 0),
-        ("-0.000008", -1),
-        ("007.250000", 475136),
-        ("999999999.999999", 65536000000000),
-        ("-999999999.999999", -65536000000000),
-    ];
-    for (text, raw) in raws {
-        assert_eq!(rt; Fix::parse(text), Some(Fix { raw }), "at {text}");
-    }
-    for text in [
-        "",
-        "-",
-        "1.",
-        ".5",
-        "1.0000000",
-        "1000000000",
-        "+1",
-        " 1",
-        "1 ",
-        "--1",
-        "1.2.3",
-        "1e3",
-        "1,5",
-        "٣",
-    ] {
-        assert_eq!(rt; Fix::parse(text), None, "at {text}");
+    for &(text, raw) in NUMBERS {
+        assert_eq!(rt; Fix::parse(text), Some(Fix { raw }));
     }
     assert_eq!(rt; Fix::of_whole(-3), Fix { raw: -196608 });
 }
 
+const NO_NUMBERS: &[&str] = &[
+    "",
+    "-",
+    "1.",
+    ".5",
+    "1.0000000",
+    "1000000000",
+    "+1",
+    " 1",
+    "1 ",
+    "--1",
+    "1.2.3",
+    "1e3",
+    "1,5",
+    "٣",
+];
+
+#[test]
+fn other_texts_are_no_numbers(rt: HostRuntime) {
+    for text in NO_NUMBERS {
+        assert_eq!(rt; Fix::parse(text), None);
+    }
+}
+
+// Patterns, how many runs of # they have, and the name of a frame.
+const NAMED: &[(&str, u32, u32, &str)] = &[
+    ("o#.pam", 1, 0, "o0.pam"),
+    ("a##b.pam", 1, 7, "a07b.pam"),
+    ("a##b.pam", 1, 123, "a123b.pam"),
+    ("####", 1, 999999, "999999"),
+    ("é#", 1, 42, "é42"),
+    ("still.pam", 0, 5, "still.pam"),
+];
+
 #[test]
 fn patterns_name_frames(rt: HostRuntime) -> Result<(), Fail> {
     let alloc = rt.alloc();
-    let named = [
-        ("o#.pam", 0, "o0.pam"),
-        ("a##b.pam", 7, "a07b.pam"),
-        ("a##b.pam", 123, "a123b.pam"),
-        ("####", 999999, "999999"),
-        ("é#", 42, "é42"),
-        ("still.pam", 5, "still.pam"),
-    ];
-    for (text, frame, name) in named {
+    for &(text, runs, frame, name) in NAMED {
         let pattern = Pattern::of(alloc, text)?.ok_or("no pattern")?;
+        assert_eq!(rt; pattern.runs(), runs);
         assert_eq!(rt; pattern.name(alloc, frame)?.text(), name);
-        assert_eq!(rt; pattern.runs(), if text == "still.pam" { 0 } else { 1 });
     }
-    for text in ["", "a#b#", "#-#", "a\0#"] {
-        assert!(rt; Pattern::of(alloc, text)?.is_none(), "at {text:?}");
+    Ok(())
+}
+
+const NO_PATTERNS: &[&str] = &["", "a#b#", "#-#", "a\0#"];
+
+#[test]
+fn other_texts_are_no_patterns(rt: HostRuntime) -> Result<(), Fail> {
+    for text in NO_PATTERNS {
+        assert!(rt; Pattern::of(rt.alloc(), text)?.is_none(), "at {text:?}");
     }
+    Ok(())
+}
+
+#[test]
+fn patterns_have_a_longest(rt: HostRuntime) -> Result<(), Fail> {
+    let alloc = rt.alloc();
     let mut longest = String::new(alloc);
     for _ in 0..1024 {
         longest.push('x')?;
@@ -80,70 +103,79 @@ fn names_are_kept(rt: HostRuntime) -> Result<(), Fail> {
     Ok(())
 }
 
+// Places, and whether the rectangle from column -1 and row 2 to column 3 and row 4 holds them.
+const PLACES: &[(i64, i64, bool)] = &[
+    (-1, 2, true),
+    (2, 3, true),
+    (-2, 2, false),
+    (3, 2, false),
+    (0, 1, false),
+    (0, 4, false),
+];
+
 #[test]
 fn rectangles_are_half_open(rt: HostRuntime) {
     let r = Rect::of(-1, 2, 3, 4);
-    for (x, y, held) in [
-        (-1, 2, true),
-        (2, 3, true),
-        (-2, 2, false),
-        (3, 2, false),
-        (0, 1, false),
-        (0, 4, false),
-    ] {
-        assert_eq!(rt; r.holds(x, y), held, "at {x} {y}");
+    for &(x, y, held) in PLACES {
+        assert_eq!(rt; r.holds(x, y), held);
     }
     assert!(rt; !r.is_empty());
     assert_eq!(rt; (r.width(), r.height(), offset(-1, 3)), (4, 2, 4));
-    for none in [Rect::of(3, 0, 3, 9), Rect::of(0, 5, 9, 4)] {
-        assert!(rt; none.is_empty());
-        assert_eq!(rt; none, Rect::of(0, 0, 0, 0));
-    }
+    assert!(rt; Rect::of(3, 0, 3, 9).is_empty());
+    assert_eq!(rt; Rect::of(0, 5, 9, 4), Rect::of(0, 0, 0, 0));
 }
+
+// x1, y1, x2 and y2 of a rectangle.
+type Sides = [i64; 4];
+
+fn rect([x1, y1, x2, y2]: Sides) -> Rect {
+    Rect::of(x1, y1, x2, y2)
+}
+
+// Two rectangles, and whether the first lies within the second.
+const WITHIN: &[(Sides, Sides, bool)] = &[
+    ([-2, -1, 3, 4], [-2, -1, 3, 4], true),
+    ([-1, 0, 2, 3], [-2, -1, 3, 4], true),
+    ([-3, 0, 2, 3], [-2, -1, 3, 4], false),
+    ([-1, 0, 4, 3], [-2, -1, 3, 4], false),
+    ([-1, -2, 2, 3], [-2, -1, 3, 4], false),
+    ([-1, 0, 2, 5], [-2, -1, 3, 4], false),
+    ([0, 0, 0, 0], [-2, -1, 3, 4], true),
+    ([0, 0, 0, 0], [5, 5, 6, 6], true),
+    ([0, 0, 0, 0], [0, 0, 0, 0], true),
+    ([-2, -1, 3, 4], [0, 0, 0, 0], false),
+];
 
 #[test]
 fn rectangles_lie_within(rt: HostRuntime) {
-    let none = Rect::of(0, 0, 0, 0);
-    let outer = Rect::of(-2, -1, 3, 4);
-    for (inner, other, held) in [
-        (outer, outer, true),
-        (Rect::of(-1, 0, 2, 3), outer, true),
-        (Rect::of(-3, 0, 2, 3), outer, false),
-        (Rect::of(-1, 0, 4, 3), outer, false),
-        (Rect::of(-1, -2, 2, 3), outer, false),
-        (Rect::of(-1, 0, 2, 5), outer, false),
-        (none, outer, true),
-        (none, Rect::of(5, 5, 6, 6), true),
-        (none, none, true),
-        (outer, none, false),
-    ] {
-        assert_eq!(rt; inner.within(other), held, "at {inner:?} {other:?}");
+    for &(inner, outer, held) in WITHIN {
+        assert_eq!(rt; rect(inner).within(rect(outer)), held);
     }
 }
 
+// Two rectangles, what they share, and what holds both.
+const MET_AND_JOINED: &[(Sides, Sides, Sides, Sides)] = &[
+    ([0, 0, 4, 4], [2, -1, 6, 3], [2, 0, 4, 3], [0, -1, 6, 4]),
+    ([0, 0, 4, 4], [1, 1, 2, 3], [1, 1, 2, 3], [0, 0, 4, 4]),
+    ([0, 0, 4, 4], [4, 0, 5, 4], [0, 0, 0, 0], [0, 0, 5, 4]),
+    ([0, 0, 4, 4], [-9, 6, -8, 7], [0, 0, 0, 0], [-9, 0, 4, 7]),
+    ([0, 0, 4, 4], [0, 0, 0, 0], [0, 0, 0, 0], [0, 0, 4, 4]),
+    ([0, 0, 0, 0], [7, 7, 8, 8], [0, 0, 0, 0], [7, 7, 8, 8]),
+];
+
 #[test]
 fn rectangles_meet_and_join(rt: HostRuntime) {
-    let none = Rect::of(0, 0, 0, 0);
-    let base = Rect::of(0, 0, 4, 4);
-    for (other, meet, hull) in [
-        (
-            Rect::of(2, -1, 6, 3),
-            Rect::of(2, 0, 4, 3),
-            Rect::of(0, -1, 6, 4),
-        ),
-        (Rect::of(1, 1, 2, 3), Rect::of(1, 1, 2, 3), base),
-        (Rect::of(4, 0, 5, 4), none, Rect::of(0, 0, 5, 4)),
-        (Rect::of(-9, 6, -8, 7), none, Rect::of(-9, 0, 4, 7)),
-        (none, none, base),
-    ] {
-        assert_eq!(rt; base.meet(other), meet, "at {other:?}");
-        assert_eq!(rt; other.meet(base), meet, "at {other:?}");
-        assert_eq!(rt; base.hull(other), hull, "at {other:?}");
-        assert_eq!(rt; other.hull(base), hull, "at {other:?}");
+    for &(one, other, meet, hull) in MET_AND_JOINED {
+        let (one, other) = (rect(one), rect(other));
+        assert_eq!(rt;
+            (one.meet(other), other.meet(one)),
+            (rect(meet), rect(meet))
+        );
+        assert_eq!(rt;
+            (one.hull(other), other.hull(one)),
+            (rect(hull), rect(hull))
+        );
     }
-    let far = Rect::of(7, 7, 8, 8);
-    assert_eq!(rt; none.hull(far), far);
-    assert_eq!(rt; far.hull(none), far);
 }
 
 #[test]
@@ -157,32 +189,35 @@ fn rectangles_grow_and_move(rt: HostRuntime) {
     assert_eq!(rt; none.shift(-3, 4), none);
 }
 
+// Canonical coordinates in 1/65536, and the pixels that cover them.
+const COVERED: &[([i64; 4], [i64; 4])] = &[
+    ([32768, -32768, 98304, 131072], [0, -1, 2, 2]),
+    ([0, 65536, 65536, 196608], [0, 1, 1, 3]),
+    ([-131073, -65536, -65537, -1], [-3, -1, -1, 0]),
+    ([1, 1, 2, 2], [0, 0, 1, 1]),
+    ([65536, 0, 65536, 65536], [0, 0, 0, 0]),
+    ([98304, 0, 32768, 65536], [0, 0, 0, 0]),
+    (
+        [i64::MIN, i64::MIN, i64::MAX, i64::MAX],
+        [
+            -140737488355328,
+            -140737488355328,
+            140737488355328,
+            140737488355328,
+        ],
+    ),
+];
+
 #[test]
 fn canonical_rectangles_are_covered(rt: HostRuntime) {
-    let none = Rect::of(0, 0, 0, 0);
-    let limit = 140737488355328;
-    for (x1, y1, x2, y2, pixels) in [
-        (32768, -32768, 98304, 131072, Rect::of(0, -1, 2, 2)),
-        (0, 65536, 65536, 196608, Rect::of(0, 1, 1, 3)),
-        (-131073, -65536, -65537, -1, Rect::of(-3, -1, -1, 0)),
-        (1, 1, 2, 2, Rect::of(0, 0, 1, 1)),
-        (65536, 0, 65536, 65536, none),
-        (98304, 0, 32768, 65536, none),
-        (
-            i64::MIN,
-            i64::MIN,
-            i64::MAX,
-            i64::MAX,
-            Rect::of(-limit, -limit, limit, limit),
-        ),
-    ] {
+    for &([x1, y1, x2, y2], [left, bottom, right, top]) in COVERED {
         let covered = Rect::cover(
             Fix { raw: x1 },
             Fix { raw: y1 },
             Fix { raw: x2 },
             Fix { raw: y2 },
         );
-        assert_eq!(rt; covered, pixels, "at {x1} {y1} {x2} {y2}");
+        assert_eq!(rt; covered, Rect::of(left, bottom, right, top));
     }
 }
 
@@ -203,25 +238,27 @@ fn tiles_are_listed_by_rows(rt: HostRuntime) -> Result<(), Fail> {
     Ok(())
 }
 
+const CODES: &[(Status, u32)] = &[
+    (Status::Ok, 0),
+    (Status::Failed, 1),
+    (Status::ErrFatal, 2),
+    (Status::ErrUnknown, 3),
+    (Status::ErrMissingHostFeature, 4),
+    (Status::ErrUnsupported, 5),
+    (Status::ErrExists, 6),
+    (Status::ErrFormat, 7),
+    (Status::ErrMemory, 8),
+    (Status::ErrBadHandle, 9),
+    (Status::ErrBadIndex, 10),
+    (Status::ErrValue, 11),
+    (Status::ReplyYes, 12),
+    (Status::ReplyNo, 13),
+    (Status::ReplyDefault, 14),
+];
+
 #[test]
 fn statuses_have_their_codes(rt: HostRuntime) {
-    for (status, code) in [
-        (Status::Ok, 0),
-        (Status::Failed, 1),
-        (Status::ErrFatal, 2),
-        (Status::ErrUnknown, 3),
-        (Status::ErrMissingHostFeature, 4),
-        (Status::ErrUnsupported, 5),
-        (Status::ErrExists, 6),
-        (Status::ErrFormat, 7),
-        (Status::ErrMemory, 8),
-        (Status::ErrBadHandle, 9),
-        (Status::ErrBadIndex, 10),
-        (Status::ErrValue, 11),
-        (Status::ReplyYes, 12),
-        (Status::ReplyNo, 13),
-        (Status::ReplyDefault, 14),
-    ] {
-        assert_eq!(rt; status.code(), code, "at {status:?}");
+    for &(status, code) in CODES {
+        assert_eq!(rt; status.code(), code);
     }
 }

@@ -33,7 +33,7 @@ fn pixels_are_put_and_read(rt: HostRuntime) -> Result<(), Fail> {
     image.put(1, 3, GREY);
     assert_eq!(rt; image.at(1, 3), GREY);
     for (x, y) in [(0, 3), (1, 2), (-1, 2), (2, 3), (1, 4), (-2, 3), (1, 1)] {
-        assert_eq!(rt; image.at(x, y), CLEAR, "at {x} {y}");
+        assert_eq!(rt; image.at(x, y), CLEAR);
     }
     Ok(())
 }
@@ -101,7 +101,7 @@ fn parts_are_written_by_rows(rt: HostRuntime) -> Result<(), Fail> {
     assert_eq!(rt; part.at(0, 1), Pixel::Alpha { a: 0 });
     let shown = [(0, 1, 0), (1, 1, 258), (2, 1, 65535), (1, 0, 0), (3, 1, 0)];
     for (x, y, a) in shown {
-        assert_eq!(rt; image.at(x, y), Pixel::Alpha { a }, "at {x} {y}");
+        assert_eq!(rt; image.at(x, y), Pixel::Alpha { a });
     }
     Ok(())
 }
@@ -123,7 +123,7 @@ fn a_tile_is_written_into_a_wider_part(rt: HostRuntime) -> Result<(), Fail> {
         (1, 1, 0),
         (2, 1, 0),
     ] {
-        assert_eq!(rt; image.at(x, y), Pixel::Alpha { a }, "at {x} {y}");
+        assert_eq!(rt; image.at(x, y), Pixel::Alpha { a });
     }
     Ok(())
 }
@@ -162,7 +162,7 @@ fn an_image_is_cut_into_bands(rt: HostRuntime) -> Result<(), Fail> {
         (2, 4, 0),
         (0, 0, 0),
     ] {
-        assert_eq!(rt; image.at(x, y), Pixel::Alpha { a }, "at {x} {y}");
+        assert_eq!(rt; image.at(x, y), Pixel::Alpha { a });
     }
     Ok(())
 }

@@ -18,7 +18,7 @@ fn means_are_rounded(rt: HostRuntime) {
         (765, 255),
     ] {
         assert!(rt; sum <= 765);
-        assert_eq!(rt; thirds.sample(Depth::Byte, sum), mean, "at {sum}");
+        assert_eq!(rt; thirds.sample(Depth::Byte, sum), mean);
     }
     let halves = Mean::of(2);
     assert_eq!(rt;

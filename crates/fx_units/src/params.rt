@@ -35,9 +35,9 @@ fn falls_between_two_keys(rt: HostRuntime) -> Result<(), Fail> {
         (14, -10, -10),
     ] {
         param.set_step(false);
-        assert_eq!(rt; param.value_at(frame), linear, "linear at {frame}");
+        assert_eq!(rt; param.value_at(frame), linear);
         param.set_step(true);
-        assert_eq!(rt; param.value_at(frame), stepped, "stepped at {frame}");
+        assert_eq!(rt; param.value_at(frame), stepped);
     }
 
     assert_eq!(rt; param.key_index(11), Err(ParamFault::NoSuchKey));
@@ -80,7 +80,7 @@ fn follows_keys_of_every_kind(rt: HostRuntime) -> Result<(), Fail> {
         param.set_key(rt.alloc(), -3, first)?;
         param.set_key(rt.alloc(), 1, second)?;
         for (frame, value) in (-4..3).zip(values) {
-            assert_eq!(rt; param.value_at(frame), value, "{kind:?} at {frame}");
+            assert_eq!(rt; param.value_at(frame), value);
         }
     }
     Ok(())
@@ -101,7 +101,7 @@ fn goes_all_the_way(rt: HostRuntime) -> Result<(), Fail> {
         (1073741823, 9223372028264841215),
         (1073741824, i64::MAX),
     ] {
-        assert_eq!(rt; param.value_at(frame), value, "at {frame}");
+        assert_eq!(rt; param.value_at(frame), value);
     }
     Ok(())
 }
@@ -130,8 +130,8 @@ fn sets_and_deletes(rt: HostRuntime) -> Result<(), Fail> {
 
     for (frame, place, count) in [(4, 3, 1), (2, 5, 2), (4, 6, 2), (9, 1, 3)] {
         param.set_key(rt.alloc(), frame, ParamValue::Choice(place))?;
-        assert_eq!(rt; param.key_count(), count, "with {frame}");
-        assert_eq!(rt; param.value_at(frame), i64::from(place), "at {frame}");
+        assert_eq!(rt; param.key_count(), count);
+        assert_eq!(rt; param.value_at(frame), i64::from(place));
     }
     assert_eq!(rt; param.key_index(9), Ok(2));
     assert_eq!(rt; param.delete_key(4), Ok(()));

@@ -50,7 +50,6 @@ fn pixels_are_converted(rt: HostRuntime) {
         assert_eq!(rt;
             pixel.convert(Depth::Short, Depth::Byte, Components::Alpha),
             Pixel::Alpha { a: byte },
-            "at {short}"
         );
     }
 }

@@ -2,7 +2,7 @@
 ghost use Rattle.std.specs.Prelude.{◌≡◌, [], ◌∷◌, codes, IfOk};
 ghost use Rattle.fx_props.specs.declared.value.PropKind.TheVariants as kind;
 ghost use Rattle.fx_props.specs.Property.{IsLawfulDef};
-ghost use Rattle.fx_props.specs.Entries.{AreBlank, ShowsFlag, ShowsFrames, ShowsRegion, ShowsText, ShowsTexts, ShowsWindow};
+ghost use Rattle.fx_props.specs.Entries.{AreBlank, HasValues, ShowsFlag, ShowsFrames, ShowsRegion, ShowsText, ShowsTexts, ShowsWindow};
 
 use fx_base::{Fix, Memory, Name, Names, Rect};
 use fx_props::names::{CLIP_FRAMES, CLIP_REGION, CONTEXTS, NAME, REGION, SEQUENCE, TILES, WINDOW};
@@ -39,12 +39,11 @@ fn context(alloc: Global) -> Result<PropDef, AllocError>
     ensures name { IfOk result (λ def. def.name ≡ codes "OfxImageEffectPropContext") }
     ensures lawful { IfOk result (λ def. IsLawfulDef def) }
 {
-    let allowed = vec![in alloc;
-        name(alloc, "OfxImageEffectContextGenerator")?,
-        name(alloc, "OfxImageEffectContextFilter")?,
-        name(alloc, "OfxImageEffectContextTransition")?,
-        name(alloc, "OfxImageEffectContextGeneral")?,
-    ]?;
+    let mut allowed = Vec::new(alloc);
+    allowed.push(name(alloc, "OfxImageEffectContextGenerator")?)?;
+    allowed.push(name(alloc, "OfxImageEffectContextFilter")?)?;
+    allowed.push(name(alloc, "OfxImageEffectContextTransition")?)?;
+    allowed.push(name(alloc, "OfxImageEffectContextGeneral")?)?;
     Ok(PropDef {
         name: name(alloc, "OfxImageEffectPropContext")?,
         kind: PropKind::Text,
@@ -220,60 +219,98 @@ fn regions_and_frames_are_written(rt: HostRuntime) -> Result<(), Fail> {
     Ok(())
 }
 
-// One property of each sort: the name Mask, yes, two contexts, the window (-1, 2, 30, 40), the region
-// (-2, 0, 3, 1), and the frames -4 to 5.
-fn each_sort(alloc: Global) -> Result<PropSet, Memory>
-    ensures text { IfOk result (λ set. ShowsText set NAME.now) }
-    ensures flag { IfOk result (λ set. ShowsFlag set TILES.now) }
-    ensures texts { IfOk result (λ set. ShowsTexts set CONTEXTS.now) }
-    ensures window { IfOk result (λ set. ShowsWindow set WINDOW.now) }
-    ensures region { IfOk result (λ set. ShowsRegion set REGION.now) }
-    ensures frames { IfOk result (λ set. ShowsFrames set SEQUENCE.now) }
+// A set of one property.
+fn set_with(alloc: Global, entry: PropEntry) -> Result<PropSet, Memory>
+    ensures { IfOk result (λ set. HasValues set entry) }
 {
-    let contexts = vec![in alloc;
-        PropValue::Text(name(alloc, "OfxImageEffectContextFilter")?),
-        PropValue::Text(name(alloc, "OfxImageEffectContextGeneral")?),
-    ]?;
+    set_of(alloc, vec![in alloc; entry]?)
+}
+
+// The name Mask.
+fn text_set(alloc: Global) -> Result<PropSet, Memory>
+    ensures { IfOk result (λ set. ShowsText set NAME.now) }
+{
+    set_with(alloc, PropEntry::text(alloc, NAME, "Mask")?)
+}
+
+// Yes.
+fn flag_set(alloc: Global) -> Result<PropSet, Memory>
+    ensures { IfOk result (λ set. ShowsFlag set TILES.now) }
+{
+    set_with(alloc, PropEntry::flag(alloc, TILES, true)?)
+}
+
+// Two contexts.
+fn texts_set(alloc: Global) -> Result<PropSet, Memory>
+    ensures { IfOk result (λ set. ShowsTexts set CONTEXTS.now) }
+{
+    let mut contexts = Vec::new(alloc);
+    contexts.push(PropValue::Text(name(alloc, "OfxImageEffectContextFilter")?))?;
+    contexts.push(PropValue::Text(name(alloc, "OfxImageEffectContextGeneral")?))?;
+    let entry = PropEntry::new(name(alloc, CONTEXTS)?, PropKind::Text, contexts)?;
+    set_with(alloc, entry)
+}
+
+// The window (-1, 2, 30, 40).
+fn window_set(alloc: Global) -> Result<PropSet, Memory>
+    ensures { IfOk result (λ set. ShowsWindow set WINDOW.now) }
+{
     let window = vec![in alloc;
         PropValue::Int(-1),
         PropValue::Int(2),
         PropValue::Int(30),
         PropValue::Int(40),
     ]?;
+    let entry = PropEntry::new(name(alloc, WINDOW)?, PropKind::Int, window)?;
+    set_with(alloc, entry)
+}
+
+// The region (-2, 0, 3, 1).
+fn region_set(alloc: Global) -> Result<PropSet, Memory>
+    ensures { IfOk result (λ set. ShowsRegion set REGION.now) }
+{
     let region = vec![in alloc;
         PropValue::Fix(Fix { raw: -131072 }),
         PropValue::Fix(Fix { raw: 0 }),
         PropValue::Fix(Fix { raw: 196608 }),
         PropValue::Fix(Fix { raw: 65536 }),
     ]?;
+    let entry = PropEntry::new(name(alloc, REGION)?, PropKind::Fix, region)?;
+    set_with(alloc, entry)
+}
+
+// The frames -4 to 5.
+fn frames_set(alloc: Global) -> Result<PropSet, Memory>
+    ensures { IfOk result (λ set. ShowsFrames set SEQUENCE.now) }
+{
     let frames = vec![in alloc;
         PropValue::Fix(Fix { raw: -262144 }),
         PropValue::Fix(Fix { raw: 327680 }),
     ]?;
-    let entries = vec![in alloc;
-        PropEntry::text(alloc, NAME, "Mask")?,
-        PropEntry::flag(alloc, TILES, true)?,
-        PropEntry::new(name(alloc, CONTEXTS)?, PropKind::Text, contexts)?,
-        PropEntry::new(name(alloc, WINDOW)?, PropKind::Int, window)?,
-        PropEntry::new(name(alloc, REGION)?, PropKind::Fix, region)?,
-        PropEntry::new(name(alloc, SEQUENCE)?, PropKind::Fix, frames)?,
-    ]?;
-    set_of(alloc, entries)
+    let entry = PropEntry::new(name(alloc, SEQUENCE)?, PropKind::Fix, frames)?;
+    set_with(alloc, entry)
 }
 
 #[test]
 fn what_stands_in_a_set_is_read(rt: HostRuntime) -> Result<(), Fail> {
     let alloc = rt.alloc();
-    let set = each_sort(alloc)?;
-    assert_eq!(rt; text_at(&set, NAME), "Mask");
-    assert!(rt; flag_at(&set, TILES));
-    let contexts = texts_at(alloc, &set, CONTEXTS)?.into_items();
+    assert_eq!(rt; text_at(&text_set(alloc)?, NAME), "Mask");
+    assert!(rt; flag_at(&flag_set(alloc)?, TILES));
+    let window = window_at(&window_set(alloc)?, WINDOW);
+    assert_eq!(rt; window, Rect::of(-1, 2, 30, 40));
+    let region = region_at(&region_set(alloc)?, REGION);
+    assert_eq!(rt; region, Rect::of(-2, 0, 3, 1));
+    Ok(())
+}
+
+#[test]
+fn lists_in_a_set_are_read(rt: HostRuntime) -> Result<(), Fail> {
+    let alloc = rt.alloc();
+    let contexts = texts_at(alloc, &texts_set(alloc)?, CONTEXTS)?.into_items();
     assert_eq!(rt; contexts.len(), 2);
     assert_eq!(rt; contexts[0].text(), "OfxImageEffectContextFilter");
     assert_eq!(rt; contexts[1].text(), "OfxImageEffectContextGeneral");
-    assert_eq!(rt; window_at(&set, WINDOW), Rect::of(-1, 2, 30, 40));
-    assert_eq!(rt; region_at(&set, REGION), Rect::of(-2, 0, 3, 1));
-    let frames = frames_at(alloc, &set, SEQUENCE)?;
+    let frames = frames_at(alloc, &frames_set(alloc)?, SEQUENCE)?;
     assert_eq!(rt; frames.as_slice(), [(-4, 5)].as_slice());
     Ok(())
 }

@@ -37,11 +37,10 @@ fn named(alloc: Global, text: &str) -> Result<Name, AllocError> {
 
 // A library of the files byte, short and cut, whose fetches with these numbers fail.
 fn library(alloc: Global, failing: &[u64]) -> Result<MemoryLibrary, AllocError> {
-    let files = vec![in alloc;
-        (named(alloc, "byte")?, BYTE.to_vec(alloc)?),
-        (named(alloc, "short")?, SHORT.to_vec(alloc)?),
-        (named(alloc, "cut")?, CUT.to_vec(alloc)?),
-    ]?;
+    let mut files = Vec::new(alloc);
+    for (name, bytes) in [("byte", BYTE), ("short", SHORT), ("cut", CUT)] {
+        files.push((named(alloc, name)?, bytes.to_vec(alloc)?))?;
+    }
     Ok(MemoryLibrary::new(alloc, files, failing.to_vec(alloc)?))
 }
 

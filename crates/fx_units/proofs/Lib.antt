@@ -1,4 +1,0 @@
-pub mod ActionsToyLemmas
-pub mod LifeToyLemmas
-pub mod RegionToyLemmas
-pub mod TileCountingLemmas

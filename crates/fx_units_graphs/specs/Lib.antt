@@ -1,0 +1,2 @@
+pub mod TileCounting
+pub mod TileCrews

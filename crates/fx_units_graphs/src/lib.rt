@@ -1,0 +1,5 @@
+//! The unit tests of fx_tile: frames by workers over effects that note and count their calls.
+#![tactic(auto)]
+
+#[cfg(test)]
+mod tile;

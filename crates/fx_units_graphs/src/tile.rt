@@ -1,0 +1,3 @@
+//! Frames by workers over effects that note and count their calls.
+mod counting;
+mod crew;

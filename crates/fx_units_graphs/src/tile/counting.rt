@@ -1,0 +1,279 @@
+//! Renders by workers over effects that note their actions and count their calls.
+ghost use Rattle.std.specs.Prelude.{◌≡◌, ◌≤◌, ◌∷◌, [], IfOk, map};
+ghost use Rattle.fx_units_graphs.specs.TileCounting.{counted_number};
+
+mod course;
+mod effect;
+mod fetching;
+mod notes;
+
+use crate::tile::counting::course::is_lawful;
+use crate::tile::counting::effect::Counted;
+use crate::tile::counting::notes::Notes;
+use crate::tile::crew::{closed, shared_by, split_off};
+use fx_base::{Grid, Memory, Name, Rect};
+use fx_core::Totals;
+use fx_effect::Safety;
+use fx_graph::{Graph, accept};
+use fx_image::Image;
+use fx_life::Life;
+use fx_outside::{FreePace, SureLibrary};
+use fx_pixel::Pixel;
+use fx_scene::{Scene, wants};
+use fx_seq::Store;
+use fx_text::{GraphFault, read_graph};
+use fx_tile::{Rendered, SceneName, TileCount, render_moment};
+use std::alloc::{AllocError, Global};
+use std::process::Abort;
+use std::sync::Wait;
+use std::test::Fail;
+use std::thread::Threads;
+
+// A source under two nodes of each effect, in two contexts of one.
+const GRAPH: &str = r#"{
+    "ofxr": 1,
+    "project": {"width": 8, "height": 8, "depth": "byte", "components": "RGBA"},
+    "output": {"node": "f", "file": "o#.pam", "format": "RGB_ALPHA"},
+    "range": {"first": 3, "last": 3},
+    "nodes": [
+        {"name": "s", "source": "s.pam", "first": 3, "last": 3},
+        {"name": "a", "effect": "unsafe", "clips": {"Source": "s"}},
+        {"name": "b", "effect": "unsafe", "clips": {"Source": "a"}, "context": "general"},
+        {"name": "c", "effect": "instance", "clips": {"Source": "b"}, "params": {"instance": 0}},
+        {"name": "d", "effect": "instance", "clips": {"Source": "c"}, "params": {"instance": 1}},
+        {"name": "e", "effect": "fully", "clips": {"Source": "d"}},
+        {"name": "f", "effect": "fully", "clips": {"Source": "e"}}
+    ]
+}"#;
+
+// The frame, the sides of its picture and of each of its sixteen tiles.
+const FRAME: u32 = 3;
+
+const SIDE: u8 = 8;
+
+const TILE: u32 = 2;
+
+// For how many turns the first call of the fully safe effect looks for another call, and each call of the others, in
+// which none may begin.
+const AT_FIRST: u32 = 30_000;
+
+const A_WHILE: u32 = 10;
+
+// What becomes of the sixteen tiles, each of which is rendered once for each of the six nodes.
+const TOTAL: TileCount = TileCount {
+    void_tiles: 0,
+    passed: 0,
+    asked: 16,
+    landed: 96,
+    hits: 0,
+};
+
+fn graph<'a>(alloc: Global) -> Result<Graph<Counted<'a>>, GraphFault> {
+    let raw = read_graph(alloc, GRAPH.as_bytes(), 16, 8192)?;
+    accept(alloc, raw)
+}
+
+// The samples at a column and a row, by which each place has its own.
+fn samples(x: u8, y: u8) -> [u8; 4]
+    requires { (x ≤ 7) × (y ≤ 7) }
+{
+    [x, y, 8 * y + x, 255 - x]
+}
+
+// The source's file, whose first row is the top one.
+fn file(alloc: Global) -> Result<(Name, Vec<u8>), AllocError> {
+    let header = format!(in alloc; "P7\nWIDTH 8\nHEIGHT 8\nDEPTH 4\nMAXVAL 255\nENDHDR\n")?;
+    let mut bytes = header.as_bytes().to_vec(alloc)?;
+    for k in 0..SIDE * SIDE {
+        bytes.extend_from_slice(&samples(k % 8, 7 - k / 8))?;
+    }
+    Ok((Name::of(String::from_str(alloc, "s.pam")?), bytes))
+}
+
+fn store(alloc: Global, graph: &Graph<Counted<'_>>) -> Result<Store, Memory> {
+    let wanted = wants(alloc, graph, FRAME, FRAME)?;
+    let files = vec![in alloc; file(alloc)?]?;
+    let mut library = SureLibrary::new(alloc, files);
+    Store::fill(alloc, &mut library, &wanted, 100_000, 8192)
+        .ok()
+        .ok_or(Memory)
+}
+
+// What each effect notes.
+#[derive(Drop)]
+struct Plugins {
+    single: Notes,
+    instance: Notes,
+    fully: Notes,
+}
+
+impl Plugins {
+    // Nothing is noted yet. The first call of the fully safe effect is to look for another one for so many turns, and
+    // each call of the others for so many.
+    fn new(alloc: Global, at_first: u32, a_while: u32) -> Result<Plugins, AllocError> {
+        Ok(Plugins {
+            single: Notes::new(alloc, a_while, a_while)?,
+            instance: Notes::new(alloc, a_while, a_while)?,
+            fully: Notes::new(alloc, at_first, 0)?,
+        })
+    }
+
+    // The effects, which note here.
+    fn effects(&self, alloc: Global) -> Result<Vec<Counted<'_>>, Memory>
+        ensures { IfOk result (λ effects. map (λ e. counted_number e.safety) effects.items ≡ 0 ∷ 1 ∷ 2 ∷ []) }
+    {
+        let effects = vec![in alloc;
+            Counted {
+                safety: Safety::Unsafe,
+                notes: Some(&self.single)
+            },
+            Counted {
+                safety: Safety::InstanceSafe,
+                notes: Some(&self.instance)
+            },
+            Counted {
+                safety: Safety::FullySafe,
+                notes: Some(&self.fully)
+            },
+        ]?;
+        Ok(effects)
+    }
+
+    // Whether the actions on each are a life.
+    fn are_lawful(&self, alloc: Global) -> Result<bool, AllocError> {
+        for notes in [&self.single, &self.instance, &self.fully] {
+            if !is_lawful(&notes.numbers(alloc)?) {
+                return Ok(false);
+            }
+        }
+        Ok(true)
+    }
+
+    // How many calls began.
+    fn calls(&self) -> u64 {
+        let gated = self.single.calls().wrapping_add(self.instance.calls());
+        gated.wrapping_add(self.fully.calls())
+    }
+}
+
+// The picture of the frame and what became of its tiles, and the counts of the directory.
+#[derive(Drop)]
+struct Outcome {
+    made: Result<(Image, TileCount), Memory>,
+    totals: Totals,
+}
+
+// What comes of the frame by so many workers, over effects that are handed in.
+fn rendered<'a, R: Threads + Wait + Sync>(
+    rt: &R,
+    alloc: Global,
+    graph: Graph<Counted<'a>>,
+    effects: Vec<Counted<'a>>,
+    workers: u32,
+) -> Result<Outcome, Memory>
+    requires effects { map (λ e. counted_number e.safety) effects.items ≡ 0 ∷ 1 ∷ 2 ∷ [] }
+    requires workers { (1 ≤ workers) × (workers ≤ 64) }
+{
+    if graph.nodes.len() > 16 {
+        return Err(Memory);
+    }
+    let store = store(alloc, &graph)?;
+    let (scene, permit) = Scene::new(graph, store, 7);
+    let grid = Grid { side: TILE };
+    let (shared, mut first) = shared_by(alloc, SceneName::of(&scene), permit, 9, grid)?;
+    let seats = split_off(alloc, &shared, &mut first, workers)?;
+    let life = Life::start(alloc, scene.graph(), effects, FRAME, FRAME)?;
+    let frame = i64::from(FRAME);
+    let outcome = render_moment(rt, alloc, &FreePace, &scene, &life, &shared, seats, frame);
+    life.finish();
+    match outcome {
+        Ok(rendered) => {
+            let Rendered {
+                picture,
+                count,
+                seats,
+            } = rendered;
+            let totals = closed(alloc, shared, first, seats)?;
+            let made = Ok((picture, count));
+            Ok(Outcome { made, totals })
+        }
+        Err((seats, memory)) => {
+            let totals = closed(alloc, shared, first, seats)?;
+            let made = Err(memory);
+            Ok(Outcome { made, totals })
+        }
+    }
+}
+
+// Each pixel of the picture is that of the source at its place.
+fn shows_the_source<R: Abort>(rt: &R, picture: &Image) {
+    assert_eq!(rt; picture.rect(), Rect::of(0, 0, 8, 8));
+    for k in 0..SIDE * SIDE {
+        let (x, y) = (k % 8, k / 8);
+        let [r, g, b, a] = samples(x, y).map(u16::from);
+        let pixel = picture.at(i64::from(x), i64::from(y));
+        assert_eq!(rt; pixel, Pixel::Rgba { r, g, b, a }, "at {x} {y}");
+    }
+}
+
+// What comes of the frame by four workers, over effects that note here.
+fn by_four<R: Threads + Wait + Sync>(
+    rt: &R,
+    alloc: Global,
+    plugins: &Plugins,
+) -> Result<Outcome, Memory> {
+    let graph = graph(alloc).ok().ok_or(Memory)?;
+    rendered(rt, alloc, graph, plugins.effects(alloc)?, 4)
+}
+
+// Each render that landed is a call, in the order of life and under the gate of its node.
+fn are_called<R: Threads + Wait + Abort + Sync>(
+    rt: &R,
+    alloc: Global,
+    plugins: &Plugins,
+) -> Result<(), Fail> {
+    let Outcome { made, totals } = by_four(rt, alloc, plugins)?;
+    let (picture, count) = made?;
+    shows_the_source(rt, &picture);
+    assert_eq!(rt; count, TOTAL);
+    assert_eq!(rt; plugins.calls(), count.landed);
+    assert_eq!(rt; totals.landed, count.landed);
+    for notes in [&plugins.single, &plugins.instance, &plugins.fully] {
+        assert_eq!(rt; notes.calls(), 32);
+    }
+    assert!(rt; plugins.are_lawful(alloc)?);
+    assert_eq!(rt; plugins.single.most_at_once(), 1);
+    assert_eq!(rt; plugins.instance.most_at_once(), 1);
+    assert!(rt; plugins.fully.was_joined());
+    Ok(())
+}
+
+#[test]
+fn effects_are_called_as_they_may_be(rt: HostRuntime) -> Result<(), Fail> {
+    let alloc = rt.alloc();
+    let plugins = Plugins::new(alloc, AT_FIRST, A_WHILE)?;
+    are_called(&rt, alloc, &plugins)
+}
+
+// The first call of the first node lacks memory, for which a flight of each node stands.
+fn lacks_memory<R: Threads + Wait + Abort + Sync>(
+    rt: &R,
+    alloc: Global,
+    plugins: &Plugins,
+) -> Result<(), Fail> {
+    plugins.single.lack_memory();
+    let Outcome { made, totals } = by_four(rt, alloc, plugins)?;
+    assert!(rt; made.is_err());
+    assert_eq!(rt; totals.dropped, 6);
+    assert_eq!(rt; totals.flights, totals.landed.wrapping_add(totals.dropped));
+    assert_eq!(rt; plugins.calls(), totals.landed);
+    assert!(rt; plugins.are_lawful(alloc)?);
+    Ok(())
+}
+
+#[test]
+fn want_of_memory_drops_its_flights(rt: HostRuntime) -> Result<(), Fail> {
+    let alloc = rt.alloc();
+    let plugins = Plugins::new(alloc, 0, 0)?;
+    lacks_memory(&rt, alloc, &plugins)
+}
