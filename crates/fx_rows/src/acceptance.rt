@@ -1,9 +1,12 @@
 //! Graph files that are read and accepted over the effects of the program: how many nodes they have, or the code and
 //! the path of their first fault.
-use fx_graph::{Graph, accept};
+use fx_effect::Context;
+use fx_graph::{Graph, Node, Work, accept};
+use fx_pixel::{Components, Depth};
 use fx_shipped::Shipped;
 use fx_text::{GraphCode, GraphFault, read_graph};
 use std::alloc::{AllocError, Global};
+use std::test::Fail;
 
 // A graph file of these nodes, and of an output with this node and this file.
 fn file_of(alloc: Global, node: &str, file: &str, nodes: &str) -> Result<String, AllocError> {
@@ -73,6 +76,11 @@ const NODES: &[(&str, &str)] = &[
         r#"{"name":"s","source":"t.pam","first":0,"last":9}"#,
         "G4 nodes[1].name",
     ),
+    // A node between the two is the first fault.
+    (
+        r#"{"name":"a","effect":"solid"},{"name":"b","effect":"x"},{"name":"a","effect":"x"}"#,
+        "G5 nodes[2].effect",
+    ),
     // G14 of a source.
     (
         r#"{"name":"z","source":"t.pam","first":0,"last":9}"#,
@@ -83,10 +91,30 @@ const NODES: &[(&str, &str)] = &[
         r#"{"name":"z","source":"t#.#","first":9,"last":9}"#,
         "G14 nodes[1].source",
     ),
+    (
+        r#"{"name":"z","source":"t.pam","first":3,"last":4}"#,
+        "G14 nodes[1].source",
+    ),
+    (
+        r#"{"name":"z","source":"t##.pam","first":0,"last":999999}"#,
+        "2",
+    ),
+    (
+        r#"{"name":"z","source":"","first":3,"last":3}"#,
+        "G14 nodes[1].source",
+    ),
+    (
+        r#"{"name":"z","source":"t\u0000","first":3,"last":3}"#,
+        "G14 nodes[1].source",
+    ),
     // G5, before the context.
     (r#"{"name":"z","effect":"Solid"}"#, "G5 nodes[1].effect"),
     (
         r#"{"name":"z","effect":"blur","context":"filter"}"#,
+        "G5 nodes[1].effect",
+    ),
+    (
+        r#"{"name":"z","effect":"","context":"filter"}"#,
         "G5 nodes[1].effect",
     ),
     // G6, before the clips.
@@ -106,6 +134,15 @@ const NODES: &[(&str, &str)] = &[
         r#"{"name":"z","effect":"merge","context":"transition"}"#,
         "G6 nodes[1].context",
     ),
+    (
+        r#"{"name":"z","effect":"grain","context":"transition"}"#,
+        "G6 nodes[1].context",
+    ),
+    // And before a clip that the effect hasn't and that names no node.
+    (
+        r#"{"name":"z","effect":"solid","context":"filter","clips":{"x":"y"}}"#,
+        "G6 nodes[1].context",
+    ),
     // G7, in byte order, before a clip that is missing.
     (
         r#"{"name":"z","effect":"ramp","clips":{"Source":"s"}}"#,
@@ -122,6 +159,19 @@ const NODES: &[(&str, &str)] = &[
     (
         r#"{"name":"z","effect":"merge","clips":{"A":"s","B":"s","Mask":"s"}}"#,
         "G7 nodes[1].clips.Mask",
+    ),
+    (
+        r#"{"name":"z","effect":"keymix","clips":{"zebra":"s","apple":"s"}}"#,
+        "G7 nodes[1].clips.apple",
+    ),
+    (
+        r#"{"name":"z","effect":"merge","clips":{"A":"s","B":"s","Output":"s"}}"#,
+        "G7 nodes[1].clips.Output",
+    ),
+    // Before one that names no earlier node, and before the parameters.
+    (
+        r#"{"name":"z","effect":"mirror","clips":{"source":"x"},"params":{"a":1}}"#,
+        "G7 nodes[1].clips.source",
     ),
     // G8, as declared, before a clip that names no earlier node.
     (
@@ -144,6 +194,18 @@ const NODES: &[(&str, &str)] = &[
         r#"{"name":"z","effect":"keymix","clips":{"A":"x","Mask":"y"}}"#,
         "G8 nodes[1].clips.B",
     ),
+    (
+        r#"{"name":"z","effect":"keymix","clips":{"Mask":"s"},"params":{"a":1}}"#,
+        "G8 nodes[1].clips.A",
+    ),
+    (
+        r#"{"name":"z","effect":"mirror","context":"general","clips":{}}"#,
+        "G8 nodes[1].clips.Source",
+    ),
+    (
+        r#"{"name":"z","effect":"wipe","clips":{"SourceTo":"s"}}"#,
+        "G8 nodes[1].clips.SourceFrom",
+    ),
     // G9, in byte order, before the parameters.
     (
         r#"{"name":"z","effect":"crop","clips":{"Source":"z"}}"#,
@@ -157,6 +219,14 @@ const NODES: &[(&str, &str)] = &[
         r#"{"name":"z","effect":"keymix","clips":{"A":"s","B":"s","Mask":""}}"#,
         "G9 nodes[1].clips.Mask",
     ),
+    (
+        r#"{"name":"z","effect":"keymix","clips":{"A":"s","B":"s","Mask":"z"},"params":{"a":1}}"#,
+        "G9 nodes[1].clips.Mask",
+    ),
+    (
+        r#"{"name":"z","effect":"keymix","clips":{"B":"y","A":"x"}}"#,
+        "G9 nodes[1].clips.A",
+    ),
     // G10, G11 and G12, parameter by parameter in byte order.
     (
         r#"{"name":"z","effect":"boxblur","clips":{"Source":"s"},"params":{"radius":2}}"#,
@@ -165,6 +235,10 @@ const NODES: &[(&str, &str)] = &[
     (
         r#"{"name":"z","effect":"invert","clips":{"Source":"s"},"params":{"Source":1}}"#,
         "G10 nodes[1].params.Source",
+    ),
+    (
+        r#"{"name":"z","effect":"mirror","clips":{"Source":"s"},"params":{"axis":0,"axe":1}}"#,
+        "G10 nodes[1].params.axe",
     ),
     (
         r#"{"name":"z","effect":"boxblur","clips":{"Source":"s"},"params":{"ry":1,"rz":1,"rx":65}}"#,
@@ -206,6 +280,127 @@ const NODES: &[(&str, &str)] = &[
         r#"{"name":"z","effect":"translate","clips":{"Source":"s"},"params":{"dx":{"keys":[[4,"0.5"],[3,1]]},"dy":16385}}"#,
         "G12 nodes[1].params.dx",
     ),
+    // Values at the ends of their ranges. A level that rounds to 1 is one.
+    (
+        r#"{"name":"z","effect":"convolve3","clips":{"Source":"s"},"params":{"k1":-256,"k2":256,"k3":{"keys":[[-999999,-256],[999999,256]]}}}"#,
+        "2",
+    ),
+    (
+        r#"{"name":"z","effect":"solid","params":{"r":0,"g":1,"b":"0.25","a":"1.000001"}}"#,
+        "2",
+    ),
+    (
+        r#"{"name":"z","effect":"checker","params":{"level":{"keys":[[3,"0.5"]],"step":true}}}"#,
+        "2",
+    ),
+    (
+        r#"{"name":"z","effect":"wipe","clips":{"SourceFrom":"s","SourceTo":"s"},"params":{"Transition":1}}"#,
+        "2",
+    ),
+    (
+        r#"{"name":"a","effect":"mirror","clips":{"Source":"s"},"params":{"axis":"x"}},{"name":"z","effect":"mirror","clips":{"Source":"s"},"params":{"axis":"y"}}"#,
+        "3",
+    ),
+    // G11 and G12 of whole numbers.
+    (
+        r#"{"name":"z","effect":"convolve3","clips":{"Source":"s"},"params":{"k1":257}}"#,
+        "G11 nodes[1].params.k1",
+    ),
+    (
+        r#"{"name":"z","effect":"convolve3","clips":{"Source":"s"},"params":{"k1":-257}}"#,
+        "G11 nodes[1].params.k1",
+    ),
+    (
+        r#"{"name":"z","effect":"convolve3","clips":{"Source":"s"},"params":{"k1":true}}"#,
+        "G11 nodes[1].params.k1",
+    ),
+    (
+        r#"{"name":"z","effect":"convolve3","clips":{"Source":"s"},"params":{"k1":"1"}}"#,
+        "G11 nodes[1].params.k1",
+    ),
+    (
+        r#"{"name":"z","effect":"convolve3","clips":{"Source":"s"},"params":{"k1":9223372036854775807}}"#,
+        "G11 nodes[1].params.k1",
+    ),
+    (
+        r#"{"name":"z","effect":"convolve3","clips":{"Source":"s"},"params":{"k1":{"keys":[[0,1],[1,257]]}}}"#,
+        "G11 nodes[1].params.k1",
+    ),
+    // A value is asked before the frames of the keys.
+    (
+        r#"{"name":"z","effect":"convolve3","clips":{"Source":"s"},"params":{"k1":{"keys":[[1,1],[0,257]]}}}"#,
+        "G11 nodes[1].params.k1",
+    ),
+    (
+        r#"{"name":"z","effect":"convolve3","clips":{"Source":"s"},"params":{"k1":{"keys":[[0,1],[0,2]]}}}"#,
+        "G12 nodes[1].params.k1",
+    ),
+    (
+        r#"{"name":"z","effect":"convolve3","clips":{"Source":"s"},"params":{"k1":{"keys":[[0,1],[2,1],[1,1]]}}}"#,
+        "G12 nodes[1].params.k1",
+    ),
+    // G11 of fixed-point numbers: 2^47 is the first whole number that has no raw number of 64 bits.
+    (
+        r#"{"name":"z","effect":"checker","params":{"level":2}}"#,
+        "G11 nodes[1].params.level",
+    ),
+    (
+        r#"{"name":"z","effect":"checker","params":{"level":-1}}"#,
+        "G11 nodes[1].params.level",
+    ),
+    (
+        r#"{"name":"z","effect":"checker","params":{"level":140737488355327}}"#,
+        "G11 nodes[1].params.level",
+    ),
+    (
+        r#"{"name":"z","effect":"checker","params":{"level":140737488355328}}"#,
+        "G11 nodes[1].params.level",
+    ),
+    (
+        r#"{"name":"z","effect":"checker","params":{"level":-140737488355328}}"#,
+        "G11 nodes[1].params.level",
+    ),
+    (
+        r#"{"name":"z","effect":"checker","params":{"level":-9223372036854775808}}"#,
+        "G11 nodes[1].params.level",
+    ),
+    (
+        r#"{"name":"z","effect":"checker","params":{"level":"1.00001"}}"#,
+        "G11 nodes[1].params.level",
+    ),
+    (
+        r#"{"name":"z","effect":"checker","params":{"level":"-0.00001"}}"#,
+        "G11 nodes[1].params.level",
+    ),
+    (
+        r#"{"name":"z","effect":"checker","params":{"level":"half"}}"#,
+        "G11 nodes[1].params.level",
+    ),
+    (
+        r#"{"name":"z","effect":"checker","params":{"level":""}}"#,
+        "G11 nodes[1].params.level",
+    ),
+    (
+        r#"{"name":"z","effect":"checker","params":{"level":false}}"#,
+        "G11 nodes[1].params.level",
+    ),
+    // G11 and G12 of choices.
+    (
+        r#"{"name":"z","effect":"mirror","clips":{"Source":"s"},"params":{"axis":"X"}}"#,
+        "G11 nodes[1].params.axis",
+    ),
+    (
+        r#"{"name":"z","effect":"mirror","clips":{"Source":"s"},"params":{"axis":1}}"#,
+        "G11 nodes[1].params.axis",
+    ),
+    (
+        r#"{"name":"z","effect":"mirror","clips":{"Source":"s"},"params":{"axis":true}}"#,
+        "G11 nodes[1].params.axis",
+    ),
+    (
+        r#"{"name":"z","effect":"mirror","clips":{"Source":"s"},"params":{"axis":{"keys":[[3,"x"],[3,"y"]]}}}"#,
+        "G12 nodes[1].params.axis",
+    ),
     // Two nodes with a fault each: the first counts, whatever its fault.
     (
         r#"{"name":"m","effect":"mirror","clips":{"Source":"z"}},{"name":"z","effect":"solid","params":{"red":1}}"#,
@@ -234,6 +429,7 @@ fn nodes_are_accepted_or_refused(rt: HostRuntime) -> Result<(), AllocError> {
 // The output's node and file, all nodes, and what is answered.
 const OUTPUTS: &[(&str, &str, &str, &str)] = &[
     ("z", "o##.pam", r#"{"name":"z","effect":"solid"}"#, "1"),
+    ("z", "o##", r#"{"name":"z","effect":"solid"}"#, "1"),
     // G13, before the file, behind every node.
     (
         "y",
@@ -262,6 +458,37 @@ const OUTPUTS: &[(&str, &str, &str, &str)] = &[
     ),
     (
         "z",
+        "#o#",
+        r#"{"name":"z","effect":"solid"}"#,
+        "G14 output.file",
+    ),
+    (
+        "z",
+        "",
+        r#"{"name":"z","effect":"solid"}"#,
+        "G14 output.file",
+    ),
+    // Nodes with a fault stand before a wrong node and a wrong file of the output.
+    (
+        "z",
+        "o.pam",
+        r#"{"name":"a","effect":"x"}"#,
+        "G5 nodes[0].effect",
+    ),
+    (
+        "z",
+        "o.pam",
+        r#"{"name":"z","source":"","first":0,"last":0}"#,
+        "G14 nodes[0].source",
+    ),
+    (
+        "z",
+        "o.pam",
+        r#"{"name":"z","effect":"solid","params":{"red":1}}"#,
+        "G10 nodes[0].params.red",
+    ),
+    (
+        "z",
         "",
         r#"{"name":"z","effect":"solid","params":{"b":{"keys":[[0,0],[0,0]]}}}"#,
         "G12 nodes[0].params.b",
@@ -283,5 +510,103 @@ fn the_output_is_accepted_or_refused_last(rt: HostRuntime) -> Result<(), AllocEr
         let answer = told(alloc, text.as_str())?;
         assert_eq!(rt; answer.as_str(), *wanted, "at {text}");
     }
+    Ok(())
+}
+
+// Sources of each form, and effects over them in a project of bytes and RGBA.
+const FORMED: &str =
+    r#"{"name":"br","source":"s","first":0,"last":0},{"name":"ba","source":"s","first":0,"last":0,"components":"Alpha"},{"name":"sr","source":"s","first":0,"last":0,"depth":"short"},{"name":"sa","source":"s","first":0,"last":0,"depth":"short","components":"Alpha"},{"name":"a","effect":"grain"},{"name":"b","effect":"gain","clips":{"Source":"sa"}},{"name":"c","effect":"posterise","clips":{"Source":"sr"}},{"name":"d","effect":"invert","clips":{"Source":"ba"}},{"name":"e","effect":"dissolve","clips":{"SourceFrom":"ba","SourceTo":"br"}},{"name":"f","effect":"dissolve","clips":{"SourceFrom":"br","SourceTo":"sa"}},{"name":"g","effect":"keymix","clips":{"A":"ba","B":"ba","Mask":"sr"}},{"name":"z","effect":"merge","clips":{"A":"ba","B":"ba"}}"#;
+
+// Each of these nodes with its form.
+const FORMS: &[(&str, Depth, Components)] = &[
+    ("br", Depth::Byte, Components::Rgba),
+    ("ba", Depth::Byte, Components::Alpha),
+    ("sr", Depth::Short, Components::Rgba),
+    ("sa", Depth::Short, Components::Alpha),
+    // No input tells, so it has the project's.
+    ("a", Depth::Byte, Components::Rgba),
+    // As its clip; bytes alone; RGBA alone.
+    ("b", Depth::Short, Components::Alpha),
+    ("c", Depth::Byte, Components::Rgba),
+    ("d", Depth::Byte, Components::Rgba),
+    // The deepest depth, and RGBA where one clip has it.
+    ("e", Depth::Byte, Components::Rgba),
+    ("f", Depth::Short, Components::Rgba),
+    // A mask tells a depth, and no components.
+    ("g", Depth::Short, Components::Alpha),
+    ("z", Depth::Byte, Components::Alpha),
+];
+
+#[test]
+fn forms_are_negotiated(rt: HostRuntime) -> Result<(), Fail> {
+    let alloc = rt.alloc();
+    let text = file_of(alloc, "z", "o#.pam", FORMED)?;
+    let graph = graph_of(alloc, text.as_str()).ok().ok_or("refused")?;
+    assert_eq!(rt; graph.nodes.len(), FORMS.len());
+    for (at, (name, depth, components)) in FORMS.iter().enumerate() {
+        let node = graph.nodes.get(at).ok_or("no node")?;
+        assert_eq!(rt;
+            (node.name.text(), node.depth, node.components),
+            (*name, *depth, *components)
+        );
+    }
+    Ok(())
+}
+
+// A blur of two parameters, an effect with a choice, and one with four levels.
+const MADE: &str =
+    r#"{"name":"s","source":"s#.pam","first":3,"last":5,"outside":"hold"},{"name":"z","effect":"boxblur","context":"general","clips":{"Source":"s"},"params":{"rx":{"keys":[[-1,0],[9,5]]}}},{"name":"y","effect":"mirror","clips":{"Source":"z"},"params":{"axis":"y"}},{"name":"x","effect":"solid","params":{"g":"0.25"}}"#;
+
+// What the node of the blur holds.
+fn is_blur(node: &Node<Shipped>) -> bool {
+    match &node.work {
+        Work::Source { .. } => false,
+        Work::Effect {
+            effect,
+            context,
+            clips,
+            names,
+            optional,
+            masks,
+            params,
+        } => {
+            *effect == Shipped::Boxblur
+                && *context == Context::General
+                && clips.as_slice() == [Some(0)].as_slice()
+                && names.items().iter().all(|name| name.text() == "Source")
+                && optional.items() == [false].as_slice()
+                && masks.items() == [false].as_slice()
+                && params.len() == 2
+        }
+    }
+}
+
+// The values of all parameters of a graph at a frame, in their order.
+fn numbers_at(alloc: Global, graph: &Graph<Shipped>, frame: i64) -> Result<Vec<i64>, AllocError> {
+    let mut numbers = Vec::new(alloc);
+    for node in &graph.nodes {
+        if let Work::Effect { params, .. } = &node.work {
+            for param in params {
+                numbers.push(param.value_at(frame))?;
+            }
+        }
+    }
+    Ok(numbers)
+}
+
+// Half way from frame -1 to frame 9 a whole number between 0 and 5 is rounded down to 2; a level of 0.25 is 16,384.
+const NUMBERS: &[i64] = &[2, 1, 1, 0, 16_384, 0, 65_536];
+
+#[test]
+fn a_graph_is_made(rt: HostRuntime) -> Result<(), Fail> {
+    let alloc = rt.alloc();
+    let text = file_of(alloc, "z", "o.##.pam", MADE)?;
+    let graph = graph_of(alloc, text.as_str()).ok().ok_or("refused")?;
+    assert_eq!(rt; (graph.output, graph.first, graph.last), (1, 0, 9));
+    assert_eq!(rt; graph.file.name(alloc, 8)?.text(), "o.08.pam");
+    assert_eq!(rt; (graph.project.x2, graph.project.y2), (4, 2));
+    assert_eq!(rt; graph.nodes.len(), 4);
+    assert!(rt; graph.nodes.iter().any(is_blur));
+    assert_eq!(rt; numbers_at(alloc, &graph, 4)?.as_slice(), NUMBERS);
     Ok(())
 }

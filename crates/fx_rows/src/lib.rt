@@ -7,8 +7,6 @@ mod acceptance;
 #[cfg(test)]
 mod areas;
 #[cfg(test)]
-mod arguments;
-#[cfg(test)]
 mod asking;
 #[cfg(test)]
 mod chain;
@@ -39,6 +37,8 @@ mod outcome;
 #[cfg(test)]
 mod pace;
 #[cfg(test)]
+mod pixels;
+#[cfg(test)]
 mod points;
 #[cfg(test)]
 mod regions;
@@ -46,6 +46,8 @@ mod regions;
 mod rows;
 #[cfg(test)]
 mod same_pictures;
+#[cfg(test)]
+mod scenes;
 #[cfg(test)]
 mod strips;
 #[cfg(test)]

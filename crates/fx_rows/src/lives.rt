@@ -10,6 +10,7 @@ use fx_gate::Gates;
 use fx_image::Image;
 use fx_life::{Loaded, Running, Use};
 use fx_pixel::{Components, Depth, Pixel};
+use fx_shipped::Shipped;
 use std::alloc::Global;
 use std::sync::Wait;
 use std::sync::atomic::{AtomicU64, Ordering};
@@ -109,6 +110,18 @@ fn instances_stand_before_sequences_begin(rt: HostRuntime) -> Result<(), Fail> {
     Ok(())
 }
 
+#[test]
+fn an_effect_without_instances_is_described(rt: HostRuntime) -> Result<(), Fail> {
+    let notes = AtomicU64::new(0);
+    let effect = Toy {
+        notes: Some(&notes),
+    };
+    Running::start(rt.alloc(), effect, &[], 4, 9)?.finish();
+    // loaded, described, unloaded
+    assert_eq!(rt; notes.load(Ordering::SeqCst), 129);
+    Ok(())
+}
+
 // The gate of a node, of the effect that the catalogue has by this name.
 fn gate_of<E: Catalogue + Drop>(alloc: Global, name: &str, node: u32) -> Result<Option<u32>, Memory>
     requires { node < 2 ^ 31 }
@@ -139,5 +152,9 @@ fn gates_are_the_plugins_or_the_instances(rt: HostRuntime) -> Result<(), Fail> {
     assert_eq!(rt; gate_of::<Toy<'_>>(alloc, "toy", 0)?, Some(3));
     assert_eq!(rt; gate_of::<Toy<'_>>(alloc, "toy", 9)?, Some(3));
     assert_eq!(rt; gate_of::<Toy<'_>>(alloc, "nobody", 9)?, None);
+    // The number of an unsafe effect, and 64 plus the node of one whose instances are safe.
+    assert_eq!(rt; gate_of::<Shipped>(alloc, "frameblend", 9)?, Some(19));
+    assert_eq!(rt; gate_of::<Shipped>(alloc, "boxblur", 9)?, Some(73));
+    assert_eq!(rt; gate_of::<Shipped>(alloc, "solid", 9)?, None);
     Ok(())
 }

@@ -1,6 +1,7 @@
 //! Where regions are found, and what they need, over the effects that are shipped, worked by hand.
 ghost use Rattle.std.specs.Prelude.{◌≤◌};
 
+use crate::scenes::deep_diamond;
 use crate::worked::Whole;
 use fx_base::{Grid, Memory, Name, Rect};
 use fx_effect::{Step, Steps};
@@ -17,49 +18,97 @@ use std::test::Fail;
 
 // A graph: the sides of the project, those of the files `s0.pam` to `s2.pam`, and the nodes.
 #[derive(Clone, Copy)]
-struct Filmed {
+struct Filmed<'a> {
     project: (u32, u32),
     frames: (u32, u32),
-    nodes: &'static str,
+    nodes: &'a str,
 }
 
 // A wipe whose edge is the middle column, 96.
-const WIPE: Filmed = Filmed {
+const WIPE: Filmed<'static> = Filmed {
     project: (192, 192),
     frames: (192, 192),
     nodes: r#"{"name":"a","source":"s#.pam","first":0,"last":2},{"name":"b","source":"s#.pam","first":0,"last":2},{"name":"n","effect":"wipe","clips":{"SourceFrom":"a","SourceTo":"b"},"params":{"Transition":"0.5"}}"#,
 };
 
 // The same to the frame before.
-const WIPE_BACK: Filmed = Filmed {
+const WIPE_BACK: Filmed<'static> = Filmed {
     project: (192, 192),
     frames: (192, 192),
     nodes: r#"{"name":"a","source":"s#.pam","first":0,"last":2},{"name":"b","effect":"timeoffset","clips":{"Source":"a"},"params":{"offset":1}},{"name":"n","effect":"wipe","clips":{"SourceFrom":"a","SourceTo":"b"},"params":{"Transition":"0.5"}}"#,
 };
 
 // A blur has pixels beside its source, and they are moved into the picture.
-const MOVED_BLUR: Filmed = Filmed {
+const MOVED_BLUR: Filmed<'static> = Filmed {
     project: (5, 1),
     frames: (3, 1),
     nodes: r#"{"name":"s","source":"s#.pam","first":0,"last":2},{"name":"b","effect":"boxblur","clips":{"Source":"s"},"params":{"rx":1,"ry":0}},{"name":"n","effect":"translate","clips":{"Source":"b"},"params":{"dx":1}}"#,
 };
 
 // A blur reads one pixel beside what it renders.
-const BLUR: Filmed = Filmed {
+const BLUR: Filmed<'static> = Filmed {
     project: (192, 192),
     frames: (192, 192),
     nodes: r#"{"name":"s","source":"s#.pam","first":0,"last":2},{"name":"i","effect":"invert","clips":{"Source":"s"}},{"name":"n","effect":"boxblur","clips":{"Source":"i"},"params":{"rx":1,"ry":1}}"#,
 };
 
 // The frame two before and the current one.
-const DIFFERENCE: Filmed = Filmed {
+const DIFFERENCE: Filmed<'static> = Filmed {
     project: (192, 192),
     frames: (192, 192),
     nodes: r#"{"name":"s","source":"s#.pam","first":0,"last":2},{"name":"n","effect":"framediff","clips":{"Source":"s"},"params":{"gap":2}}"#,
 };
 
+// The same as its clip left of column 100, and nothing right of it.
+const CROP: Filmed<'static> = Filmed {
+    project: (192, 192),
+    frames: (192, 192),
+    nodes: r#"{"name":"s","source":"s#.pam","first":0,"last":2},{"name":"n","effect":"crop","clips":{"Source":"s"},"params":{"width":100}}"#,
+};
+
+// Bytes of short samples that are held, one frame ago.
+const HELD_BACK: Filmed<'static> = Filmed {
+    project: (192, 192),
+    frames: (192, 192),
+    nodes: r#"{"name":"s","source":"s#.pam","first":0,"last":2,"outside":"hold","depth":"short"},{"name":"p","effect":"posterise","clips":{"Source":"s"}},{"name":"n","effect":"timeoffset","clips":{"Source":"p"},"params":{"offset":1}}"#,
+};
+
+// The same as SourceFrom, in a region that is 8 columns wider; and under an effect that is rendered.
+const WIDER: Filmed<'static> = Filmed {
+    project: (192, 192),
+    frames: (192, 192),
+    nodes: r#"{"name":"a","source":"s#.pam","first":0,"last":2},{"name":"b","effect":"translate","clips":{"Source":"a"},"params":{"dx":8}},{"name":"n","effect":"wipe","clips":{"SourceFrom":"a","SourceTo":"b"}}"#,
+};
+
+const WIDER_UNDER: Filmed<'static> = Filmed {
+    project: (192, 192),
+    frames: (192, 192),
+    nodes: r#"{"name":"a","source":"s#.pam","first":0,"last":2},{"name":"b","effect":"translate","clips":{"Source":"a"},"params":{"dx":8}},{"name":"w","effect":"wipe","clips":{"SourceFrom":"a","SourceTo":"b"}},{"name":"n","effect":"invert","clips":{"Source":"w"}}"#,
+};
+
+// A clip that has pixels beside the project.
+const BLUR_UNDER: Filmed<'static> = Filmed {
+    project: (192, 192),
+    frames: (192, 192),
+    nodes: r#"{"name":"s","source":"s#.pam","first":0,"last":2},{"name":"b","effect":"boxblur","clips":{"Source":"s"},"params":{"rx":1,"ry":1}},{"name":"n","effect":"invert","clips":{"Source":"b"}}"#,
+};
+
+// A blur reads 64 pixels beside what it renders.
+const FAR_BLUR: Filmed<'static> = Filmed {
+    project: (192, 192),
+    frames: (192, 192),
+    nodes: r#"{"name":"s","source":"s#.pam","first":0,"last":2},{"name":"n","effect":"boxblur","clips":{"Source":"s"},"params":{"rx":64,"ry":64}}"#,
+};
+
+// A clip that is moved 8 columns from frame 0 to frame 1.
+const MOVING: Filmed<'static> = Filmed {
+    project: (192, 192),
+    frames: (192, 192),
+    nodes: r#"{"name":"s","source":"s#.pam","first":0,"last":2},{"name":"m","effect":"translate","clips":{"Source":"s"},"params":{"dx":{"keys":[[0,0],[1,8]]}}},{"name":"n","effect":"framediff","clips":{"Source":"m"},"params":{"gap":1}}"#,
+};
+
 // A frame, a region of the output, and where it is found.
-const ENDS: &[(Filmed, u32, [i64; 4], &str)] = &[
+const ENDS: &[(Filmed<'static>, u32, [i64; 4], &str)] = &[
     // A tile on one side of the edge is its clip there, and one across it is rendered.
     (
         WIPE,
@@ -97,10 +146,41 @@ const ENDS: &[(Filmed, u32, [i64; 4], &str)] = &[
         "frame 0 of 0 (0,128,64,192) byte byte byte",
     ),
     (WIPE_BACK, 0, [0, 128, 64, 192], "nowhere"),
+    // Behind the frames of the source, and beside them.
+    (WIPE_BACK, 9, [0, 0, 64, 64], "nowhere"),
+    (WIPE, 1, [192, 0, 256, 64], "nowhere"),
+    // The region is cut before it is asked whether it is its clip there.
+    (
+        CROP,
+        1,
+        [50, -10, 300, 10],
+        "frame 1 of 0 (50,0,100,10) byte byte",
+    ),
+    // From a source of short samples through two nodes of bytes; behind frame 3 the last frame is held.
+    (
+        HELD_BACK,
+        2,
+        [128, 0, 256, 64],
+        "frame 1 of 0 (128,0,192,64) short byte byte",
+    ),
+    (
+        HELD_BACK,
+        9,
+        [0, 0, 64, 64],
+        "frame 2 of 0 (0,0,64,64) short byte byte",
+    ),
+    // It is cut at each node: to column 200 at the wipe, and to 192 at its clip.
+    (
+        WIDER,
+        1,
+        [128, 0, 256, 64],
+        "frame 1 of 0 (128,0,192,64) byte byte",
+    ),
+    (WIDER, 1, [192, 0, 256, 64], "nowhere"),
 ];
 
 // A frame, a region of the output, and what it needs by tiles of side 64.
-const NEEDS: &[(Filmed, u32, [i64; 4], &str)] = &[
+const NEEDS: &[(Filmed<'static>, u32, [i64; 4], &str)] = &[
     (
         MOVED_BLUR,
         0,
@@ -143,6 +223,53 @@ const NEEDS: &[(Filmed, u32, [i64; 4], &str)] = &[
          0@0: node 1 at 0 (0,128,64,192)\n\
          0@0: node 1 at 0 (64,128,128,192)\n",
     ),
+    (
+        BLUR,
+        0,
+        [64, 0, 128, 64],
+        "0@0: node 1 at 0 (0,0,64,64)\n\
+         0@0: node 1 at 0 (64,0,128,64)\n\
+         0@0: node 1 at 0 (128,0,192,64)\n\
+         0@0: node 1 at 0 (0,64,64,128)\n\
+         0@0: node 1 at 0 (64,64,128,128)\n\
+         0@0: node 1 at 0 (128,64,192,128)\n",
+    ),
+    // Tiles round the origin.
+    (
+        BLUR_UNDER,
+        0,
+        [-1, -1, 1, 1],
+        "0@0: node 1 at 0 (-1,-1,0,0)\n\
+         0@0: node 1 at 0 (0,-1,64,0)\n\
+         0@0: node 1 at 0 (-1,0,0,64)\n\
+         0@0: node 1 at 0 (0,0,64,64)\n",
+    ),
+    // Of columns 64 to 255 and rows -64 to 127 the clip has four tiles.
+    (
+        FAR_BLUR,
+        0,
+        [128, 0, 192, 64],
+        "0@0: frame 0 of 0 (64,0,128,64) byte\n\
+         0@0: frame 0 of 0 (128,0,192,64) byte\n\
+         0@0: frame 0 of 0 (64,64,128,128) byte\n\
+         0@0: frame 0 of 0 (128,64,192,128) byte\n",
+    ),
+    // Tiles are cut to the region of definition, which is wider at frame 1. At frame 0 nothing is moved.
+    (
+        MOVING,
+        1,
+        [128, 0, 256, 64],
+        "0@0: frame 0 of 0 (128,0,192,64) byte byte\n\
+         0@1: node 1 at 1 (128,0,192,64)\n\
+         0@1: node 1 at 1 (192,0,200,64)\n",
+    ),
+    // Columns from 192 on are found nowhere in SourceFrom, and aren't needed.
+    (
+        WIDER_UNDER,
+        1,
+        [128, 0, 256, 64],
+        "0@1: frame 1 of 0 (128,0,192,64) byte byte\n",
+    ),
     // The clips in the order in which they are described.
     (
         WIPE,
@@ -167,9 +294,16 @@ const NEEDS: &[(Filmed, u32, [i64; 4], &str)] = &[
         "0@0: frame 0 of 0 (128,128,192,192) byte\n\
          0@2: frame 2 of 0 (128,128,192,192) byte\n",
     ),
+    // A frame that the source hasn't isn't needed.
+    (
+        DIFFERENCE,
+        1,
+        [0, 0, 64, 64],
+        "0@1: frame 1 of 0 (0,0,64,64) byte\n",
+    ),
 ];
 
-fn graph_of(alloc: Global, filmed: Filmed) -> Result<Graph<Shipped>, GraphFault> {
+fn graph_of(alloc: Global, filmed: Filmed<'_>) -> Result<Graph<Shipped>, GraphFault> {
     let Filmed {
         project: (width, height),
         nodes,
@@ -213,7 +347,7 @@ fn files(alloc: Global, sides: (u32, u32)) -> Result<Vec<(Name, Vec<u8>)>, Alloc
 }
 
 // The scene of a graph with the frames that it wants at a frame.
-fn scene_of(alloc: Global, filmed: Filmed, at: u32) -> Result<Scene<Shipped>, Fail>
+fn scene_of(alloc: Global, filmed: Filmed<'_>, at: u32) -> Result<Scene<Shipped>, Fail>
     requires { at ≤ 999999 }
 {
     let graph = graph_of(alloc, filmed).ok().ok_or("refused")?;
@@ -342,5 +476,23 @@ fn regions_need_the_tiles_of_their_interest(rt: HostRuntime) -> Result<(), Fail>
             filmed.nodes
         );
     }
+    Ok(())
+}
+
+// There are 2 * 6^20 ways from the output to the source, at the frames -11 to 29.
+#[test]
+fn regions_take_time_by_what_is_reached(rt: HostRuntime) -> Result<(), Fail> {
+    let alloc = rt.alloc();
+    let source = r#"{"name":"n0","source":"s#.pam","first":0,"last":2}"#;
+    let nodes = deep_diamond(alloc, source, 20)?;
+    let filmed = Filmed {
+        project: (192, 192),
+        frames: (192, 192),
+        nodes: nodes.as_str(),
+    };
+    let scene = scene_of(alloc, filmed, 9)?;
+    let regions = Regions::of(alloc, &scene, 9)?;
+    let rod = regions.rod(scene.graph().output, 9);
+    assert_eq!(rt; rod, Rect::of(0, 0, 192, 192));
     Ok(())
 }
