@@ -31,6 +31,10 @@ const SOURCES: &str =
 const BLURRED: &str =
     r#"{"name":"i","effect":"invert","clips":{"Source":"s"}},{"name":"n","effect":"boxblur","clips":{"Source":"i"},"params":{"rx":1,"ry":1}}"#;
 
+// A difference of frames of such a difference.
+const DIFFERED_TWICE: &str =
+    r#"{"name":"d","effect":"framediff","clips":{"Source":"s"}},{"name":"n","effect":"framediff","clips":{"Source":"d"}}"#;
+
 const CASES: &[Case] = &[
     // The sum of a blur with itself. Each of its four tiles asks twice for the tile of the blur under it, which is there
     // at the second time if one may be kept.
@@ -151,6 +155,78 @@ const CASES: &[Case] = &[
             (1, (0, 0, 1, 6, 0)),
             (0, (0, 0, 1, 6, 0)),
         ],
+    ),
+    // A source of one column in a picture of two: where each has a tile of its own, one is passed on and one is void.
+    (
+        (1, 1),
+        (2, 1),
+        r#"{"name":"n","source":"s#.pam","first":0,"last":2}"#,
+        64,
+        &[(4096, (0, 1, 0, 0, 0))],
+    ),
+    (
+        (1, 1),
+        (2, 1),
+        r#"{"name":"n","source":"s#.pam","first":0,"last":2}"#,
+        1,
+        &[(4096, (1, 1, 0, 0, 0))],
+    ),
+    // Behind its last frame it is black.
+    (
+        (1, 1),
+        (2, 1),
+        r#"{"name":"n","source":"s#.pam","first":0,"last":0}"#,
+        64,
+        &[(4096, (1, 0, 0, 0, 0))],
+    ),
+    (
+        (1, 1),
+        (2, 1),
+        r#"{"name":"n","source":"s#.pam","first":0,"last":0}"#,
+        1,
+        &[(4096, (2, 0, 0, 0, 0))],
+    ),
+    // The difference at 1 reads that under it at 0 and at 1, and both are rendered from the source.
+    (
+        (1, 1),
+        (2, 1),
+        DIFFERED_TWICE,
+        64,
+        &[
+            (4096, (0, 0, 1, 3, 0)),
+            (1, (0, 0, 1, 3, 0)),
+            (0, (0, 0, 1, 3, 0)),
+        ],
+    ),
+    (
+        (1, 1),
+        (2, 1),
+        DIFFERED_TWICE,
+        1,
+        &[(4096, (1, 0, 1, 3, 0))],
+    ),
+    // Where the source has both columns each of the upper one needs its own of the lower one.
+    (
+        (2, 1),
+        (2, 1),
+        DIFFERED_TWICE,
+        1,
+        &[(4096, (0, 0, 2, 6, 0))],
+    ),
+    (
+        (2, 1),
+        (2, 1),
+        DIFFERED_TWICE,
+        64,
+        &[(4096, (0, 0, 1, 3, 0))],
+    ),
+    // Of the lower blend at 0, 1 and 2 the third is nowhere.
+    (
+        (1, 1),
+        (2, 1),
+        r#"{"name":"u","source":"s#.pam","first":0,"last":0},{"name":"b","effect":"frameblend","clips":{"Source":"u"},"params":{"radius":1}},{"name":"n","effect":"frameblend","clips":{"Source":"b"},"params":{"radius":1}}"#,
+        64,
+        &[(4096, (0, 0, 1, 3, 0))],
     ),
 ];
 
