@@ -7,7 +7,7 @@ use crate::graph_text::SOLID;
 use crate::numbers::{NumberGraph, draw_graph};
 use crate::outcome::files_of;
 use crate::strips::{self, STRIPS};
-use crate::worked::ROWS;
+use crate::worked::{ROWS, Whole};
 use fx_outside::SureLibrary;
 use std::alloc::Global;
 use std::process::Abort;
@@ -30,6 +30,8 @@ const EACH: &[(u32, u32)] = &[
     (1024, 1),
     (1024, 4096),
 ];
+
+const SOME: &[(u32, u32)] = &[(64, 4096), (1024, 0)];
 
 // The frame is the same by each of these as by whole frames.
 fn frame_is_the_same<R: Threads + Wait + Sync + Abort>(
@@ -90,6 +92,22 @@ fn a_worked_solid_is_the_same(rt: HostRuntime) -> Result<(), Fail> {
     let alloc = rt.alloc();
     let mut library = SureLibrary::new(alloc, Vec::new(alloc));
     frame_is_the_same(&rt, alloc, &mut library, SOLID, 0, 1, EACH)
+}
+
+// Of a blur that is wider than an image may be, so that whole frames make it in two pieces.
+const WIDE: Whole<'static> = Whole {
+    project: r#""width":4096,"height":1,"depth":"byte","components":"RGBA""#,
+    format: "RGB_ALPHA",
+    last: 0,
+    nodes: r#"{"name":"g","effect":"ramp"},{"name":"b","effect":"boxblur","clips":{"Source":"g"},"params":{"rx":2,"ry":0}},{"name":"n","effect":"translate","clips":{"Source":"b"},"params":{"dx":-2}}"#,
+};
+
+#[test]
+fn a_wide_picture_is_the_same(rt: HostRuntime) -> Result<(), Fail> {
+    let alloc = rt.alloc();
+    let text = WIDE.text(alloc)?;
+    let mut library = SureLibrary::new(alloc, Vec::new(alloc));
+    frame_is_the_same(&rt, alloc, &mut library, text.as_str(), 0, 1, SOME)
 }
 
 // The engines of a graph by the number of its effects less one. Each side comes with each number of tiles that are
