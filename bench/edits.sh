@@ -1,7 +1,7 @@
 #!/bin/sh
 # Tries the wrong bodies that the gate leaves out for its time: each must be refused.
 #   bench/edits.sh CRATE ..    those of these crates (bench/edits/CRATE/)
-# It works on a copy, takes over what checks here have kept, and needs `rt`.
+# It works on a copy, takes over the libraries that checks here have built, and needs `rt`.
 set -eu
 root=$(cd "$(dirname "$0")/.." && pwd)
 if [ $# -eq 0 ]; then
@@ -16,7 +16,7 @@ for crate in "$@"; do
 done
 room=$(mktemp -d)
 trap 'rm -rf "$room"' EXIT
-cp -Rp "$root/crates" "$root/crates.txt" "$root/HANDLES" "$room/"
+(cd "$root" && tar cf - --exclude=out/incremental crates crates.txt HANDLES) | tar xf - -C "$room"
 for crate in "$@"; do
     rm -rf "$room/crates/$crate/must-fail"
     cp -R "$root/bench/edits/$crate" "$room/crates/$crate/must-fail"
