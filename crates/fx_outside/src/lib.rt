@@ -9,12 +9,10 @@ mod memory;
 mod real;
 mod sure;
 mod tally;
-#[cfg(test)]
-mod tests;
 mod traits;
 
 pub use fault::{FetchFault, PutFault};
 pub use memory::{MemoryDepot, MemoryLibrary, MemorySink};
-pub use real::{FileDepot, FileLibrary, StdSink};
+pub use real::{FileDepot, FileLibrary, StdSink, read_all};
 pub use sure::{SureDepot, SureLibrary, SureSink};
 pub use traits::{Depot, FreePace, Library, Pace, Sink};

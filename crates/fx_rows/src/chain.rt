@@ -1,6 +1,7 @@
 //! Source frames and inverts over them, from files to files.
 use crate::graph_text::{ALONE, Behind, Chain, INVERTED, INVERTED_TWICE, PIXEL};
 use crate::outcome::{Outside, RENDER, SOUND, Told, done, ended, run_surely, run_with};
+use crate::same::{same, same_at};
 use std::test::Fail;
 
 // A picture: the project's sides, what stands behind the source, the file of its frame 0, and the file of
@@ -110,11 +111,11 @@ fn pictures_are_written(rt: HostRuntime) -> Result<(), Fail> {
             ..SOUND
         };
         let left = run_with(&rt, alloc, RENDER, graph.as_str(), outside)?;
-        assert_eq!(rt; left.told(), done(b"frames 1\n"), "at {frame:?}");
-        assert_eq!(rt; left.depot.get("o0.pam"), Some(picture));
+        same_at(&rt, &frame, left.told(), done(b"frames 1\n"));
+        same(&rt, left.depot.get("o0.pam"), Some(picture));
         let sure = run_surely(&rt, alloc, graph.as_str(), &files)?;
-        assert_eq!(rt; sure.told(), done(b"frames 1\n"), "at {frame:?}");
-        assert_eq!(rt; sure.depot.get("o0.pam"), Some(picture));
+        same_at(&rt, &frame, sure.told(), done(b"frames 1\n"));
+        same(&rt, sure.depot.get("o0.pam"), Some(picture));
     }
     Ok(())
 }
@@ -125,11 +126,11 @@ fn empty_texts_are_refused(rt: HostRuntime) -> Result<(), Fail> {
     let alloc = rt.alloc();
     let graph = PIXEL.text(alloc)?;
     let left = run_surely(&rt, alloc, graph.as_str(), &[])?;
-    assert_eq!(rt; left.told(), ended(3, b"ofxr: frame: src 0 P1\n"));
-    assert_eq!(rt; left.depot.get("o0.pam"), None);
+    same(&rt, left.told(), ended(3, b"ofxr: frame: src 0 P1\n"));
+    same(&rt, left.depot.get("o0.pam"), None);
     let left = run_surely(&rt, alloc, "", &[])?;
-    assert_eq!(rt; left.told(), ended(2, b"ofxr: graph: G1\n"));
-    assert_eq!(rt; left.depot.get("o0.pam"), None);
+    same(&rt, left.told(), ended(2, b"ofxr: graph: G1\n"));
+    same(&rt, left.depot.get("o0.pam"), None);
     Ok(())
 }
 
@@ -307,9 +308,9 @@ fn ranges_are_written(rt: HostRuntime) -> Result<(), Fail> {
             ..SOUND
         };
         let left = run_with(&rt, alloc, RENDER, graph.as_str(), outside)?;
-        assert_eq!(rt; left.told(), done(report), "at {start} {range:?}");
+        same_at(&rt, &(&start, &range), left.told(), done(report));
         for (name, bytes) in files {
-            assert_eq!(rt; left.depot.get(*name), *bytes, "at {start} {name}");
+            same_at(&rt, &(&start, &name), left.depot.get(*name), *bytes);
         }
     }
     Ok(())
@@ -413,9 +414,9 @@ fn failing_calls_keep_the_frames_before(rt: HostRuntime) -> Result<(), Fail> {
             ..SOUND
         };
         let left = run_with(&rt, alloc, RENDER, graph.as_str(), outside)?;
-        assert_eq!(rt; left.told(), Told { status, out, err }, "at {err:?}");
+        same_at(&rt, &err, left.told(), Told { status, out, err });
         for (name, bytes) in files {
-            assert_eq!(rt; left.depot.get(*name), *bytes, "at {err:?} {name}");
+            same_at(&rt, &(&err, &name), left.depot.get(*name), *bytes);
         }
     }
     Ok(())
@@ -500,9 +501,9 @@ fn refused_frames_end_the_run(rt: HostRuntime) -> Result<(), Fail> {
             ..SOUND
         };
         let left = run_with(&rt, alloc, RENDER, graph.as_str(), outside)?;
-        assert_eq!(rt; left.told(), ended(3, line), "at {first:?} {second:?}");
-        assert_eq!(rt; left.depot.get("o0.pam"), None);
-        assert_eq!(rt; left.depot.get("o1.pam"), None);
+        same_at(&rt, &(&first, &second), left.told(), ended(3, line));
+        same(&rt, left.depot.get("o0.pam"), None);
+        same(&rt, left.depot.get("o1.pam"), None);
     }
     Ok(())
 }

@@ -1,5 +1,6 @@
 //! How runs of graphs of many nodes end: by the first failure, or by the last frame of their range.
 use crate::outcome::{Outside, RENDER, SOUND, Told, done, ended, run_with};
+use crate::same::{same, same_at};
 use crate::worked::{Whole, first_other};
 use std::test::Fail;
 
@@ -175,8 +176,8 @@ fn whichever_fails_first_ends_the_run(rt: HostRuntime) -> Result<(), Fail> {
             ..SOUND
         };
         let outcome = run_with(&rt, alloc, RENDER, graph.as_str(), outside)?;
-        assert_eq!(rt; outcome.told(), Told { status, out, err }, "at {err:?}");
-        assert_eq!(rt; first_other(&outcome, left), None, "at {err:?}");
+        same_at(&rt, &err, outcome.told(), Told { status, out, err });
+        same_at(&rt, &err, first_other(&outcome, left), None);
     }
     Ok(())
 }
@@ -239,8 +240,8 @@ fn options_narrow_the_range(rt: HostRuntime) -> Result<(), Fail> {
             ..SOUND
         };
         let outcome = run_with(&rt, alloc, words, graph.as_str(), outside)?;
-        assert_eq!(rt; outcome.told(), done(report), "at {words:?}");
-        assert_eq!(rt; first_other(&outcome, left), None, "at {words:?}");
+        same_at(&rt, &words, outcome.told(), done(report));
+        same_at(&rt, &words, first_other(&outcome, left), None);
     }
     Ok(())
 }
@@ -258,9 +259,10 @@ fn nodes_are_taken_in_order(rt: HostRuntime) -> Result<(), Fail> {
     let alloc = rt.alloc();
     let graph = EARLIER.text(alloc)?;
     let outcome = run_with(&rt, alloc, RENDER, graph.as_str(), SOUND)?;
-    assert_eq!(rt;
+    same(
+        &rt,
         outcome.told(),
-        ended(2, b"ofxr: graph: G9 nodes[0].clips.Source\n")
+        ended(2, b"ofxr: graph: G9 nodes[0].clips.Source\n"),
     );
     Ok(())
 }

@@ -1,6 +1,7 @@
 //! One solid frame, from the graph's bytes to a file and the report.
 use crate::graph_text::{SOLID, edited};
 use crate::outcome::{Outside, RENDER, SOUND, Told, done, ended, run_with};
+use crate::same::{same, same_at};
 use std::test::Fail;
 
 pub(crate) const FILE: &[u8] =
@@ -17,7 +18,7 @@ const REPORTS: &[(&[u64], &[u64], (u8, &[u8], &[u8]))] = &[
 #[test]
 fn one_solid_frame_is_written(rt: HostRuntime) -> Result<(), Fail> {
     let alloc = rt.alloc();
-    assert_eq!(rt; FILE.len(), 73);
+    same(&rt, FILE.len(), 73);
     for &(reports, lines, (status, out, err)) in REPORTS {
         let outside = Outside {
             reports,
@@ -25,14 +26,15 @@ fn one_solid_frame_is_written(rt: HostRuntime) -> Result<(), Fail> {
             ..SOUND
         };
         let left = run_with(&rt, alloc, RENDER, SOLID, outside)?;
-        assert_eq!(rt;
+        same_at(
+            &rt,
+            &(&reports, &lines),
             left.told(),
             Told { status, out, err },
-            "at {reports:?} {lines:?}"
         );
-        assert_eq!(rt; left.depot.get("o0.pam"), Some(FILE));
+        same(&rt, left.depot.get("o0.pam"), Some(FILE));
         for name in ["o.pam", "o#.pam", "o1.pam", "o00.pam", "g.json"] {
-            assert_eq!(rt; left.depot.get(name), None);
+            same(&rt, left.depot.get(name), None);
         }
     }
     Ok(())
@@ -75,8 +77,8 @@ fn other_words_are_usage(rt: HostRuntime) -> Result<(), Fail> {
                 ..SOUND
             };
             let left = run_with(&rt, alloc, words, SOLID, outside)?;
-            assert_eq!(rt; left.told(), ended(1, line), "at {words:?}");
-            assert_eq!(rt; left.depot.get("o0.pam"), None);
+            same_at(&rt, &words, left.told(), ended(1, line));
+            same(&rt, left.depot.get("o0.pam"), None);
         }
     }
     Ok(())
@@ -102,12 +104,13 @@ fn failing_calls_end_the_run(rt: HostRuntime) -> Result<(), Fail> {
             ..SOUND
         };
         let left = run_with(&rt, alloc, &["render", name], SOLID, outside)?;
-        assert_eq!(rt;
+        same_at(
+            &rt,
+            &(&name, &fetches, &puts),
             left.told(),
             Told { status, out, err },
-            "at {name} {fetches:?} {puts:?}"
         );
-        assert_eq!(rt; left.depot.get("o0.pam").is_some(), status == 0);
+        same(&rt, left.depot.get("o0.pam").is_some(), status == 0);
     }
     Ok(())
 }
@@ -132,7 +135,7 @@ fn levels_are_read(rt: HostRuntime) -> Result<(), Fail> {
     for &(params, raster) in LEVELS {
         let graph = edited(alloc, SOLID, PARAMS, params)?;
         let left = run_with(&rt, alloc, RENDER, graph.as_str(), SOUND)?;
-        assert_eq!(rt; left.told(), done(b"frames 1\n"), "at {params}");
+        same_at(&rt, &params, left.told(), done(b"frames 1\n"));
         let file = left.depot.get("o0.pam").ok_or("no file")?;
         assert!(rt; file.len() == 73 && file.ends_with(&raster), "at {params}");
     }

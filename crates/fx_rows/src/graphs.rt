@@ -1,6 +1,7 @@
 //! Which graphs are taken, and which are refused.
 use crate::graph_text::{SOLID, edited};
 use crate::outcome::{RENDER, SOUND, ended, run_with};
+use crate::same::same_at;
 use std::alloc::Global;
 use std::test::Fail;
 
@@ -154,7 +155,7 @@ fn texts_are_refused(rt: HostRuntime) -> Result<(), Fail> {
     let alloc = rt.alloc();
     for &(text, line) in OTHERS {
         let left = run_with(&rt, alloc, RENDER, text, SOUND)?;
-        assert_eq!(rt; left.told(), ended(2, line), "at {text}");
+        same_at(&rt, &text, left.told(), ended(2, line));
     }
     Ok(())
 }
@@ -166,8 +167,8 @@ fn graphs_are_refused(rt: HostRuntime) -> Result<(), Fail> {
         for &(old, new, line) in edits {
             let graph = edited(alloc, text, old, new)?;
             let left = run_with(&rt, alloc, RENDER, graph.as_str(), SOUND)?;
-            assert_eq!(rt; left.told(), ended(2, line), "at {old} {new}");
-            assert_eq!(rt; left.depot.get("o0.pam"), None, "at {old} {new}");
+            same_at(&rt, &(&old, &new), left.told(), ended(2, line));
+            same_at(&rt, &(&old, &new), left.depot.get("o0.pam"), None);
         }
     }
     Ok(())
@@ -218,7 +219,7 @@ fn graphs_of_the_form_are_taken(rt: HostRuntime) -> Result<(), Fail> {
     for (old, new, line) in TAKEN {
         let graph = edited(alloc, CHAIN, *old, *new)?;
         let left = run_with(&rt, alloc, RENDER, graph.as_str(), SOUND)?;
-        assert_eq!(rt; left.told(), ended(4, *line), "at {old} {new}");
+        same_at(&rt, &(&old, &new), left.told(), ended(4, *line));
     }
     Ok(())
 }
@@ -270,7 +271,7 @@ fn limits_are_kept(rt: HostRuntime) -> Result<(), Fail> {
         ),
     ] {
         let left = run_with(&rt, alloc, RENDER, graph.as_str(), SOUND)?;
-        assert_eq!(rt; left.told(), ended(status, line), "at {graph}");
+        same_at(&rt, &graph, left.told(), ended(status, line));
     }
     Ok(())
 }

@@ -1,5 +1,6 @@
 //! The modes that put nothing: graphs that are checked, and graphs that are made of a number and rendered in memory.
 use crate::outcome::{Outcome, Outside, SOUND, Told, done, ended, run_with};
+use crate::same::{same, same_at};
 use crate::worked::Whole;
 use std::alloc::Global;
 use std::sync::Wait;
@@ -44,8 +45,12 @@ fn checked<R: Threads + Wait + Sync>(
 #[test]
 fn a_graph_is_checked_without_its_frames(rt: HostRuntime) -> Result<(), Fail> {
     let outcome = checked(&rt, rt.alloc(), CHECK, SHOT, &[2])?;
-    assert_eq!(rt; outcome.told(), done(b"nodes 12\nframes 24\nwanted 24\n"));
-    assert_eq!(rt; outcome.depot.get("o0.pam"), None);
+    same(
+        &rt,
+        outcome.told(),
+        done(b"nodes 12\nframes 24\nwanted 24\n"),
+    );
+    same(&rt, outcome.depot.get("o0.pam"), None);
     Ok(())
 }
 
@@ -75,7 +80,7 @@ const NARROWED: &[(&[&str], &[u8])] = &[
 fn options_narrow_what_is_checked(rt: HostRuntime) -> Result<(), Fail> {
     for &(words, report) in NARROWED {
         let outcome = checked(&rt, rt.alloc(), words, BLACK, &[2])?;
-        assert_eq!(rt; outcome.told(), done(report), "at {words:?}");
+        same_at(&rt, &words, outcome.told(), done(report));
     }
     Ok(())
 }
@@ -102,7 +107,7 @@ const FAULTS: &[(&str, &[u8])] = &[
 fn faults_are_told_by_a_check(rt: HostRuntime) -> Result<(), Fail> {
     for &(graph, line) in FAULTS {
         let outcome = run_with(&rt, rt.alloc(), CHECK, graph, SOUND)?;
-        assert_eq!(rt; outcome.told(), ended(2, line), "at {graph}");
+        same_at(&rt, &graph, outcome.told(), ended(2, line));
     }
     Ok(())
 }
@@ -134,7 +139,7 @@ fn what_fails_ends_each_mode(rt: HostRuntime) -> Result<(), Fail> {
             out: b"",
             err,
         };
-        assert_eq!(rt; outcome.told(), wanted, "at {words:?}");
+        same_at(&rt, &words, outcome.told(), wanted);
     }
     Ok(())
 }
@@ -158,7 +163,7 @@ const NO_ORDERS: &[&[&str]] = &[
 fn other_words_are_told_the_use(rt: HostRuntime) -> Result<(), Fail> {
     for &words in NO_ORDERS {
         let outcome = run_with(&rt, rt.alloc(), words, "", SOUND)?;
-        assert_eq!(rt; outcome.told(), ended(1, USAGE), "at {words:?}");
+        same_at(&rt, &words, outcome.told(), ended(1, USAGE));
     }
     Ok(())
 }
@@ -174,7 +179,7 @@ const CLOSED: Outside<'static> = Outside {
 fn a_bench_of_no_frames_sums_up_to_nought(rt: HostRuntime) -> Result<(), Fail> {
     let words = &["bench", "0", "--first", "4"];
     let outcome = run_with(&rt, rt.alloc(), words, "", CLOSED)?;
-    assert_eq!(rt; outcome.told(), done(b"frames 0\nbytes 0\nsum 0\n"));
+    same(&rt, outcome.told(), done(b"frames 0\nbytes 0\nsum 0\n"));
     Ok(())
 }
 
@@ -182,9 +187,10 @@ fn a_bench_of_no_frames_sums_up_to_nought(rt: HostRuntime) -> Result<(), Fail> {
 #[test]
 fn a_bench_of_nought_has_its_sum(rt: HostRuntime) -> Result<(), Fail> {
     let outcome = run_with(&rt, rt.alloc(), &["bench", "0"], "", CLOSED)?;
-    assert_eq!(rt;
+    same(
+        &rt,
         outcome.told(),
-        done(b"frames 4\nbytes 1229076\nsum 3814987\n")
+        done(b"frames 4\nbytes 1229076\nsum 3814987\n"),
     );
     Ok(())
 }

@@ -1,5 +1,6 @@
 //! Frames that one effect makes of files, worked by hand, from files to files.
 use crate::outcome::{SureOutcome, run_surely};
+use crate::same::same_at;
 use crate::worked::Whole;
 use std::alloc::{AllocError, Global};
 use std::process::Abort;
@@ -123,13 +124,14 @@ fn is_made<R: Threads + Wait + Sync + Abort>(
     let &(effect, sources, made) = row;
     let files = files_of(alloc, setting.depth, sources)?;
     let outcome = left_by(rt, alloc, setting, row, &files)?;
-    assert_eq!(rt; outcome.told().status, 0, "at {effect}");
+    same_at(rt, &effect, outcome.told().status, 0);
     let name = format!(in alloc; "o{}.pam", setting.frame)?;
     let file = file_of(alloc, setting.depth, &made)?;
-    assert_eq!(rt;
+    same_at(
+        rt,
+        &effect,
         outcome.depot.get(name.as_str()),
         Some(file.as_slice()),
-        "at {effect}"
     );
     Ok(())
 }

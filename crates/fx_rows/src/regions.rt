@@ -1,6 +1,7 @@
 //! Where regions are found, and what they need, over the effects that are shipped, worked by hand.
 ghost use Rattle.std.specs.Prelude.{◌≤◌};
 
+use crate::same::{same, same_at};
 use crate::scenes::deep_diamond;
 use crate::worked::Whole;
 use fx_base::{Grid, Memory, Name, Rect};
@@ -453,11 +454,11 @@ fn regions_are_found_where_identities_lead(rt: HostRuntime) -> Result<(), Fail> 
     for (filmed, at, region, expected) in ENDS {
         let at = (*at).min(9);
         let scene = scene_of(alloc, *filmed, at)?;
-        assert_eq!(rt;
+        same_at(
+            &rt,
+            &(&at, &filmed.nodes),
             found(alloc, &scene, at, rect_of(*region))?.as_str(),
             *expected,
-            "at {at} in {}",
-            filmed.nodes
         );
     }
     Ok(())
@@ -469,11 +470,11 @@ fn regions_need_the_tiles_of_their_interest(rt: HostRuntime) -> Result<(), Fail>
     for (filmed, at, region, expected) in NEEDS {
         let at = (*at).min(9);
         let scene = scene_of(alloc, *filmed, at)?;
-        assert_eq!(rt;
+        same_at(
+            &rt,
+            &(&at, &filmed.nodes),
             needed(alloc, &scene, at, rect_of(*region))?.as_str(),
             *expected,
-            "at {at} in {}",
-            filmed.nodes
         );
     }
     Ok(())
@@ -493,6 +494,6 @@ fn regions_take_time_by_what_is_reached(rt: HostRuntime) -> Result<(), Fail> {
     let scene = scene_of(alloc, filmed, 9)?;
     let regions = Regions::of(alloc, &scene, 9)?;
     let rod = regions.rod(scene.graph().output, 9);
-    assert_eq!(rt; rod, Rect::of(0, 0, 192, 192));
+    same(&rt, rod, Rect::of(0, 0, 192, 192));
     Ok(())
 }

@@ -1,4 +1,5 @@
 //! Which source frames a run wants, and what each node reads, over the effects that are shipped, worked by hand.
+use crate::same::{same, same_at};
 use crate::worked::Whole;
 use fx_base::Memory;
 use fx_graph::{Graph, accept};
@@ -135,10 +136,11 @@ fn the_frames_that_are_reached_are_wanted(rt: HostRuntime) -> Result<(), Fail> {
     for (source, effects, first, last, expected) in CASES {
         let graph = graph_of(alloc, source, effects).ok().ok_or("refused")?;
         let wanted = wanted_by(alloc, &graph, *first, *last)?;
-        assert_eq!(rt;
+        same_at(
+            &rt,
+            &(&first, &last, &source, &effects),
             told(alloc, &wanted)?.as_str(),
             *expected,
-            "from {first} to {last} in {source}{effects}"
         );
     }
     Ok(())
@@ -160,11 +162,12 @@ fn what_is_reached_stands_by_node_and_frame(rt: HostRuntime) -> Result<(), Fail>
     let alloc = rt.alloc();
     let graph = graph_of(alloc, TEN, TWICE).ok().ok_or("refused")?;
     let moments = reach(alloc, &graph, 4, 4)?;
-    assert_eq!(rt;
+    same(
+        &rt,
         told_moments(alloc, &moments)?.as_str(),
-        "0 2, 0 3, 0 4, 0 5, 0 6, 1 3, 1 4, 1 5, 2 4, "
+        "0 2, 0 3, 0 4, 0 5, 0 6, 1 3, 1 4, 1 5, 2 4, ",
     );
-    assert_eq!(rt; reach(alloc, &graph, 4, 3)?.len(), 0);
+    same(&rt, reach(alloc, &graph, 4, 3)?.len(), 0);
     value_depends_on_reach(&graph);
     value_is_mix();
     zero_outside_area();
@@ -244,10 +247,11 @@ fn a_node_reads_its_clips(rt: HostRuntime) -> Result<(), Fail> {
     for (effects, node, frame, expected) in READS {
         let graph = graph_of(alloc, BLACK, effects).ok().ok_or("refused")?;
         let reads = read_by(alloc, &graph, *node, *frame)?;
-        assert_eq!(rt;
+        same_at(
+            &rt,
+            &(&node, &frame, &effects),
             told_moments(alloc, &reads)?.as_str(),
             *expected,
-            "at {node} {frame} in {effects}"
         );
     }
     Ok(())
@@ -284,11 +288,11 @@ fn a_deep_diamond_is_reached_by_its_edges(rt: HostRuntime) -> Result<(), Fail> {
     let graph = graph_of(alloc, nodes.as_str(), "").ok().ok_or("refused")?;
     // The blend and the merge of the level that is k below the highest are reached at 2 k + 1 frames, in all at
     // 2 * 63^2 moments; the output at one, and the source at 127.
-    assert_eq!(rt; reach(alloc, &graph, 300, 300)?.len(), 8066);
+    same(&rt, reach(alloc, &graph, 300, 300)?.len(), 8066);
     let wanted = wants(alloc, &graph, 300, 300)?;
-    assert_eq!(rt; wanted.len(), 127);
-    assert_eq!(rt; wanted[0].frame, 237);
-    assert_eq!(rt; wanted[126].frame, 363);
+    same(&rt, wanted.len(), 127);
+    same(&rt, wanted[0].frame, 237);
+    same(&rt, wanted[126].frame, 363);
     Ok(())
 }
 
@@ -307,10 +311,11 @@ const SHOWN: &[(i64, bool, Option<u32>)] = &[
 #[test]
 fn a_source_shows_its_frames(rt: HostRuntime) {
     for (frame, hold, shown) in SHOWN {
-        assert_eq!(rt;
+        same_at(
+            &rt,
+            &(&frame, &hold),
             shown_frame(3, 5, *hold, *frame),
             *shown,
-            "at {frame} {hold}"
         );
     }
 }

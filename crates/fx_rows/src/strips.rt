@@ -1,5 +1,6 @@
 //! One effect on three grey pixels in a row, or on one pixel: pictures worked by hand, in tiles of any side.
 use crate::outcome::{Outside, RENDER, SOUND, done, run_with};
+use crate::same::same_at;
 use crate::tiles::{ENGINES, words_of};
 use crate::worked::Whole;
 use std::alloc::{AllocError, Global};
@@ -158,17 +159,14 @@ fn strip_is_right<R: Threads + Wait + Sync + Abort>(
         ..SOUND
     };
     let outcome = run_with(rt, alloc, words, graph.as_str(), outside)?;
-    assert_eq!(rt;
-        outcome.told(),
-        done(b"frames 2\n"),
-        "at {words:?} {effect}"
-    );
+    same_at(rt, &(&words, &effect), outcome.told(), done(b"frames 2\n"));
     let name = format!(in alloc; "o{frame}.pam")?;
     let file = file_of(alloc, strip)?;
-    assert_eq!(rt;
+    same_at(
+        rt,
+        &(&words, &effect),
         outcome.depot.get(name.as_str()),
         Some(file.as_slice()),
-        "at {words:?} {effect}"
     );
     Ok(())
 }

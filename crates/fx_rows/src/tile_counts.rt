@@ -1,5 +1,6 @@
 //! What becomes of tiles on one thread, worked by hand.
 use crate::engines::{Engine, are_same, by_frames, by_tiles};
+use crate::same::same_at;
 use crate::worked::Whole;
 use fx_base::Name;
 use fx_outside::SureLibrary;
@@ -307,7 +308,7 @@ fn case_is_right<R: Threads + Wait + Sync + Abort>(
             workers: 1,
         };
         let (tiled, count) = by_tiles(rt, alloc, &mut library, text.as_str(), 1, engine)?;
-        assert_eq!(rt; counts(count), became, "by {engine:?} of {nodes}");
+        same_at(rt, &(&engine, &nodes), counts(count), became);
         assert!(rt; are_same(&tiled, &whole), "by {engine:?} of {nodes}");
     }
     Ok(())

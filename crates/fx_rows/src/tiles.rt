@@ -5,6 +5,7 @@ use crate::first_frame::FILE;
 use crate::graph_text::SOLID;
 use crate::outcome::{Outside, SOUND, done, run_paced, run_with};
 use crate::pace::HoldPace;
+use crate::same::{same, same_at};
 use crate::worked::{ROWS, Row, Whole, first_other};
 use std::alloc::{AllocError, Global};
 use std::process::Abort;
@@ -60,8 +61,8 @@ fn each_engine_is_right<R: Threads + Wait + Sync + Abort>(
     for &engine in ENGINES {
         let words = words_of(engine);
         let outcome = run_with(rt, alloc, &words, graph.as_str(), outside)?;
-        assert_eq!(rt; outcome.told(), done(report), "at {engine:?} {graph}");
-        assert_eq!(rt; first_other(&outcome, left), None, "at {engine:?} {graph}");
+        same_at(rt, &(&engine, &graph), outcome.told(), done(report));
+        same_at(rt, &(&engine, &graph), first_other(&outcome, left), None);
     }
     Ok(())
 }
@@ -78,8 +79,8 @@ fn small_pictures_are_the_same(rt: HostRuntime) -> Result<(), Fail> {
 fn a_small_solid_is_the_same(rt: HostRuntime) -> Result<(), Fail> {
     for &engine in ENGINES {
         let outcome = run_with(&rt, rt.alloc(), &words_of(engine), SOLID, SOUND)?;
-        assert_eq!(rt; outcome.told(), done(b"frames 1\n"), "at {engine:?}");
-        assert_eq!(rt; outcome.depot.get("o0.pam"), Some(FILE), "at {engine:?}");
+        same_at(&rt, &engine, outcome.told(), done(b"frames 1\n"));
+        same_at(&rt, &engine, outcome.depot.get("o0.pam"), Some(FILE));
     }
     Ok(())
 }
@@ -97,7 +98,7 @@ fn picture_is_right<R: Threads + Wait + Sync + Abort>(
     for &engine in engines {
         let words = words_of(engine);
         let outcome = run_with(rt, alloc, &words, graph.as_str(), outside)?;
-        assert_eq!(rt; outcome.told(), done(b"frames 1\n"), "at {engine:?}");
+        same_at(rt, &engine, outcome.told(), done(b"frames 1\n"));
         assert!(rt; outcome.depot.get("o0.pam") == Some(file), "at {engine:?}");
     }
     Ok(())
@@ -252,11 +253,11 @@ fn workers_render_beside_each_other(rt: HostRuntime) -> Result<(), Fail> {
     };
     let one = ["render", "g.json", "--workers", "1"];
     let alone = run_with(&rt, alloc, &one, graph.as_str(), outside)?;
-    assert_eq!(rt; alone.told(), done(b"frames 1\n"));
+    same(&rt, alone.told(), done(b"frames 1\n"));
     let pace = HoldPace::new();
     let eight = ["render", "g.json", "--workers", "8"];
     let beside = run_paced(&rt, alloc, &pace, &eight, graph.as_str(), outside)?;
-    assert_eq!(rt; beside.told(), done(b"frames 1\n"));
+    same(&rt, beside.told(), done(b"frames 1\n"));
     assert!(rt; pace.held_both());
     assert!(rt; alone.depot.get("o0.pam").is_some());
     assert!(rt; beside.depot.get("o0.pam") == alone.depot.get("o0.pam"));

@@ -1,5 +1,6 @@
 //! Graphs of many nodes, from files to files, beside bytes worked by hand.
 use crate::outcome::{Outcome, Outside, RENDER, SOUND, done, run_with};
+use crate::same::same_at;
 use std::alloc::{AllocError, Global};
 use std::test::Fail;
 
@@ -529,8 +530,8 @@ fn graphs_are_rendered(rt: HostRuntime) -> Result<(), Fail> {
         let graph = whole.text(alloc)?;
         let outside = Outside { files, ..SOUND };
         let outcome = run_with(&rt, alloc, RENDER, graph.as_str(), outside)?;
-        assert_eq!(rt; outcome.told(), done(report), "at {graph}");
-        assert_eq!(rt; first_other(&outcome, left), None, "at {graph}");
+        same_at(&rt, &graph, outcome.told(), done(report));
+        same_at(&rt, &graph, first_other(&outcome, left), None);
     }
     Ok(())
 }

@@ -1,3 +1,4 @@
+use crate::same::same;
 use fx_base::{Fix, Grid, Name, Names, Pattern, Rect, Status, offset};
 use std::test::Fail;
 
@@ -18,9 +19,9 @@ const NUMBERS: &[(&str, i64)] = &[
 #[test]
 fn numbers_are_read(rt: HostRuntime) {
     for &(text, raw) in NUMBERS {
-        assert_eq!(rt; Fix::parse(text), Some(Fix { raw }));
+        same(&rt, Fix::parse(text), Some(Fix { raw }));
     }
-    assert_eq!(rt; Fix::of_whole(-3), Fix { raw: -196608 });
+    same(&rt, Fix::of_whole(-3), Fix { raw: -196608 });
 }
 
 const NO_NUMBERS: &[&str] = &[
@@ -43,7 +44,7 @@ const NO_NUMBERS: &[&str] = &[
 #[test]
 fn other_texts_are_no_numbers(rt: HostRuntime) {
     for text in NO_NUMBERS {
-        assert_eq!(rt; Fix::parse(text), None);
+        same(&rt, Fix::parse(text), None);
     }
 }
 
@@ -62,8 +63,8 @@ fn patterns_name_frames(rt: HostRuntime) -> Result<(), Fail> {
     let alloc = rt.alloc();
     for &(text, runs, frame, name) in NAMED {
         let pattern = Pattern::of(alloc, text)?.ok_or("no pattern")?;
-        assert_eq!(rt; pattern.runs(), runs);
-        assert_eq!(rt; pattern.name(alloc, frame)?.text(), name);
+        same(&rt, pattern.runs(), runs);
+        same(&rt, pattern.name(alloc, frame)?.text(), name);
     }
     Ok(())
 }
@@ -95,11 +96,11 @@ fn patterns_have_a_longest(rt: HostRuntime) -> Result<(), Fail> {
 fn names_are_kept(rt: HostRuntime) -> Result<(), Fail> {
     let alloc = rt.alloc();
     let name = Name::of(String::from_str(alloc, "Source")?);
-    assert_eq!(rt; name.text(), "Source");
-    assert_eq!(rt; name.copied(alloc)?.text(), "Source");
+    same(&rt, name.text(), "Source");
+    same(&rt, name.copied(alloc)?.text(), "Source");
     let names = Names::of(vec![in alloc; name]?);
-    assert_eq!(rt; names.items().len(), 1);
-    assert_eq!(rt; names.into_items().len(), 1);
+    same(&rt, names.items().len(), 1);
+    same(&rt, names.into_items().len(), 1);
     Ok(())
 }
 
@@ -117,12 +118,12 @@ const PLACES: &[(i64, i64, bool)] = &[
 fn rectangles_are_half_open(rt: HostRuntime) {
     let r = Rect::of(-1, 2, 3, 4);
     for &(x, y, held) in PLACES {
-        assert_eq!(rt; r.holds(x, y), held);
+        same(&rt, r.holds(x, y), held);
     }
     assert!(rt; !r.is_empty());
-    assert_eq!(rt; (r.width(), r.height(), offset(-1, 3)), (4, 2, 4));
+    same(&rt, (r.width(), r.height(), offset(-1, 3)), (4, 2, 4));
     assert!(rt; Rect::of(3, 0, 3, 9).is_empty());
-    assert_eq!(rt; Rect::of(0, 5, 9, 4), Rect::of(0, 0, 0, 0));
+    same(&rt, Rect::of(0, 5, 9, 4), Rect::of(0, 0, 0, 0));
 }
 
 // x1, y1, x2 and y2 of a rectangle.
@@ -149,7 +150,7 @@ const WITHIN: &[(Sides, Sides, bool)] = &[
 #[test]
 fn rectangles_lie_within(rt: HostRuntime) {
     for &(inner, outer, held) in WITHIN {
-        assert_eq!(rt; rect(inner).within(rect(outer)), held);
+        same(&rt, rect(inner).within(rect(outer)), held);
     }
 }
 
@@ -167,13 +168,15 @@ const MET_AND_JOINED: &[(Sides, Sides, Sides, Sides)] = &[
 fn rectangles_meet_and_join(rt: HostRuntime) {
     for &(one, other, meet, hull) in MET_AND_JOINED {
         let (one, other) = (rect(one), rect(other));
-        assert_eq!(rt;
+        same(
+            &rt,
             (one.meet(other), other.meet(one)),
-            (rect(meet), rect(meet))
+            (rect(meet), rect(meet)),
         );
-        assert_eq!(rt;
+        same(
+            &rt,
             (one.hull(other), other.hull(one)),
-            (rect(hull), rect(hull))
+            (rect(hull), rect(hull)),
         );
     }
 }
@@ -182,11 +185,11 @@ fn rectangles_meet_and_join(rt: HostRuntime) {
 fn rectangles_grow_and_move(rt: HostRuntime) {
     let none = Rect::of(0, 0, 0, 0);
     let wide = Rect::of(1, 2, 4, 3);
-    assert_eq!(rt; wide.grow(5, 1), Rect::of(-4, 1, 9, 4));
-    assert_eq!(rt; wide.grow(0, 0), wide);
-    assert_eq!(rt; none.grow(5, 1), none);
-    assert_eq!(rt; wide.shift(-3, 4), Rect::of(-2, 6, 1, 7));
-    assert_eq!(rt; none.shift(-3, 4), none);
+    same(&rt, wide.grow(5, 1), Rect::of(-4, 1, 9, 4));
+    same(&rt, wide.grow(0, 0), wide);
+    same(&rt, none.grow(5, 1), none);
+    same(&rt, wide.shift(-3, 4), Rect::of(-2, 6, 1, 7));
+    same(&rt, none.shift(-3, 4), none);
 }
 
 // Canonical coordinates in 1/65536, and the pixels that cover them.
@@ -217,7 +220,7 @@ fn canonical_rectangles_are_covered(rt: HostRuntime) {
             Fix { raw: x2 },
             Fix { raw: y2 },
         );
-        assert_eq!(rt; covered, Rect::of(left, bottom, right, top));
+        same(&rt, covered, Rect::of(left, bottom, right, top));
     }
 }
 
@@ -225,15 +228,23 @@ fn canonical_rectangles_are_covered(rt: HostRuntime) {
 fn tiles_are_listed_by_rows(rt: HostRuntime) -> Result<(), Fail> {
     let alloc = rt.alloc();
     let grid = Grid { side: 64 };
-    assert_eq!(rt; grid.tile(-2, 3), Rect::of(-128, 192, -64, 256));
+    same(&rt, grid.tile(-2, 3), Rect::of(-128, 192, -64, 256));
     let left = Rect::of(-64, 0, 0, 64);
     let right = Rect::of(0, 0, 64, 64);
     let across = grid.tiles_of(alloc, Rect::of(-1, 0, 1, 1))?;
-    assert_eq!(rt; across.as_slice(), [left, right].as_slice());
+    same(&rt, across.as_slice(), [left, right].as_slice());
     let up = grid.tiles_of(alloc, Rect::of(-1, 63, 1, 65))?;
     let above = [Rect::of(-64, 64, 0, 128), Rect::of(0, 64, 64, 128)];
-    assert_eq!(rt; up.as_slice(), [left, right, above[0], above[1]].as_slice());
-    assert_eq!(rt; grid.tiles_of(alloc, left)?.as_slice(), [left].as_slice());
+    same(
+        &rt,
+        up.as_slice(),
+        [left, right, above[0], above[1]].as_slice(),
+    );
+    same(
+        &rt,
+        grid.tiles_of(alloc, left)?.as_slice(),
+        [left].as_slice(),
+    );
     assert!(rt; grid.tiles_of(alloc, Rect::of(0, 0, 0, 0))?.is_empty());
     Ok(())
 }
@@ -259,6 +270,6 @@ const CODES: &[(Status, u32)] = &[
 #[test]
 fn statuses_have_their_codes(rt: HostRuntime) {
     for &(status, code) in CODES {
-        assert_eq!(rt; status.code(), code);
+        same(&rt, status.code(), code);
     }
 }

@@ -1,4 +1,5 @@
 //! The graph and the frames of 0, worked by hand from the recurrence and the table of effects.
+use crate::same::same;
 use fx_bench::make;
 use std::test::Fail;
 
@@ -16,17 +17,17 @@ const NAMES: &[&str] = &["in0.pam", "in1.pam", "in2.pam", "in3.pam"];
 #[test]
 fn zero_makes_its_graph(rt: HostRuntime) -> Result<(), Fail> {
     let bench = make(rt.alloc(), 0)?;
-    assert_eq!(rt; bench.graph.as_slice(), GRAPH.as_bytes());
+    same(&rt, bench.graph.as_slice(), GRAPH.as_bytes());
     Ok(())
 }
 
 #[test]
 fn zero_makes_four_frames(rt: HostRuntime) -> Result<(), Fail> {
     let bench = make(rt.alloc(), 0)?;
-    assert_eq!(rt; bench.frames.len(), NAMES.len());
+    same(&rt, bench.frames.len(), NAMES.len());
     for ((name, bytes), wanted) in bench.frames.iter().zip(NAMES) {
-        assert_eq!(rt; name.text(), *wanted);
-        assert_eq!(rt; bytes.len(), 307_269);
+        same(&rt, name.text(), *wanted);
+        same(&rt, bytes.len(), 307_269);
     }
     let first = bench.frames.first().ok_or("no frame")?;
     assert!(rt; first.1.starts_with(FRONT));

@@ -1,5 +1,6 @@
 ghost use Rattle.std.specs.Prelude.{◌≡◌, ◌<◌, None};
 
+use crate::same::same;
 use fx_base::Memory;
 use fx_gate::{GateSeat, Gates};
 use std::alloc::Global;
@@ -12,7 +13,7 @@ fn a_gate_is_held_and_released(rt: HostRuntime) -> Result<(), Fail> {
     let alloc = rt.alloc();
     let (gates, mut seat) = Gates::new(alloc, 4)?;
     let mut hold = gates.hold(&rt, &mut seat, 3);
-    assert_eq!(rt; hold.gate(), Some(3));
+    same(&rt, hold.gate(), Some(3));
     let made = hold.workspace().room(alloc, 2);
     let kept = made.is_ok() && hold.workspace().cells.len() == 2;
     gates.release(&mut seat, hold);
@@ -25,14 +26,14 @@ fn a_gate_is_held_and_released(rt: HostRuntime) -> Result<(), Fail> {
 fn room_keeps_the_old_cells(rt: HostRuntime) -> Result<(), Fail> {
     let alloc = rt.alloc();
     let mut hold = Gates::free(alloc);
-    assert_eq!(rt; hold.gate(), None);
+    same(&rt, hold.gate(), None);
     let workspace = hold.workspace();
     workspace.room(alloc, 2)?;
     workspace.cells.clear();
     workspace.cells.push(7)?;
     workspace.room(alloc, 3)?;
     workspace.room(alloc, 1)?;
-    assert_eq!(rt; workspace.cells.as_slice(), [7, 0, 0].as_slice());
+    same(&rt, workspace.cells.as_slice(), [7, 0, 0].as_slice());
     Ok(())
 }
 
@@ -84,7 +85,7 @@ fn two_threads_hold_two_gates(rt: HostRuntime) -> Result<(), Fail> {
     let mut hold = gates.hold(&rt, &mut first, 1);
     let counted = hold.workspace().cells.first().copied();
     gates.release(&mut first, hold);
-    assert_eq!(rt; counted, Some(1000));
+    same(&rt, counted, Some(1000));
     gates.close(alloc, first).map_err(|e| e.2)?;
     Ok(())
 }

@@ -1,5 +1,6 @@
 ghost use Rattle.fx_image.specs.Stored.{SameFrame};
 
+use crate::same::same;
 use fx_base::Rect;
 use fx_image::laws::a_row_is_written;
 use fx_image::samples::{copy_pixels, pixel, pixel_size, sample, set_pixel, set_sample};
@@ -25,15 +26,16 @@ const CLEAR: Pixel = Pixel::Rgba {
 fn pixels_are_put_and_read(rt: HostRuntime) -> Result<(), Fail> {
     let rect = Rect::of(-1, 2, 2, 4);
     let mut image = Image::new(rt.alloc(), rect, Depth::Short, Components::Rgba, 25)?;
-    assert_eq!(rt; (image.rect(), image.row_bytes()), (rect, 25));
-    assert_eq!(rt;
+    same(&rt, (image.rect(), image.row_bytes()), (rect, 25));
+    same(
+        &rt,
         (image.depth(), image.components()),
-        (Depth::Short, Components::Rgba)
+        (Depth::Short, Components::Rgba),
     );
     image.put(1, 3, GREY);
-    assert_eq!(rt; image.at(1, 3), GREY);
+    same(&rt, image.at(1, 3), GREY);
     for (x, y) in [(0, 3), (1, 2), (-1, 2), (2, 3), (1, 4), (-2, 3), (1, 1)] {
-        assert_eq!(rt; image.at(x, y), CLEAR);
+        same(&rt, image.at(x, y), CLEAR);
     }
     Ok(())
 }
@@ -44,13 +46,14 @@ fn views_are_read_by_rows(rt: HostRuntime) -> Result<(), Fail> {
     let mut image = Image::new(rt.alloc(), rect, Depth::Short, Components::Rgba, 16)?;
     image.put(1, 0, GREY);
     let view = image.view(Rect::of(1, 0, 2, 1));
-    assert_eq!(rt; view.rect(), Rect::of(1, 0, 2, 1));
-    assert_eq!(rt;
+    same(&rt, view.rect(), Rect::of(1, 0, 2, 1));
+    same(
+        &rt,
         (view.depth(), view.components()),
-        (Depth::Short, Components::Rgba)
+        (Depth::Short, Components::Rgba),
     );
-    assert_eq!(rt; (view.at(0, 0), view.at(1, 0)), (CLEAR, GREY));
-    assert_eq!(rt; view.row(0), [1, 2, 1, 2, 1, 2, 1, 2].as_slice());
+    same(&rt, (view.at(0, 0), view.at(1, 0)), (CLEAR, GREY));
+    same(&rt, view.row(0), [1, 2, 1, 2, 1, 2, 1, 2].as_slice());
     Ok(())
 }
 
@@ -58,12 +61,12 @@ fn views_are_read_by_rows(rt: HostRuntime) -> Result<(), Fail> {
 fn pixels_of_a_row_are_read_and_set(rt: HostRuntime) {
     let mut row = [0u8; 16];
     set_pixel(Depth::Short, &mut row, 1, GREY);
-    assert_eq!(rt; row, [0, 0, 0, 0, 0, 0, 0, 0, 1, 2, 1, 2, 1, 2, 1, 2]);
-    assert_eq!(rt; sample(Depth::Short, &row, 4), 258);
-    assert_eq!(rt; pixel(Depth::Short, Components::Rgba, &row, 1), GREY);
-    assert_eq!(rt; pixel_size(Depth::Short, Components::Rgba), 8);
+    same(&rt, row, [0, 0, 0, 0, 0, 0, 0, 0, 1, 2, 1, 2, 1, 2, 1, 2]);
+    same(&rt, sample(Depth::Short, &row, 4), 258);
+    same(&rt, pixel(Depth::Short, Components::Rgba, &row, 1), GREY);
+    same(&rt, pixel_size(Depth::Short, Components::Rgba), 8);
     set_sample(Depth::Short, &mut row, 1, 772);
-    assert_eq!(rt; row, [0, 0, 3, 4, 0, 0, 0, 0, 1, 2, 1, 2, 1, 2, 1, 2]);
+    same(&rt, row, [0, 0, 3, 4, 0, 0, 0, 0, 1, 2, 1, 2, 1, 2, 1, 2]);
 }
 
 #[test]
@@ -71,7 +74,7 @@ fn pixels_are_copied_between_rows(rt: HostRuntime) {
     let source = [1, 2, 3, 4];
     let mut row = [9u8; 8];
     copy_pixels(Depth::Short, Components::Alpha, &source, &mut row, 1, 2);
-    assert_eq!(rt; row, [9, 9, 1, 2, 3, 4, 9, 9]);
+    same(&rt, row, [9, 9, 1, 2, 3, 4, 9, 9]);
 }
 
 #[test]
@@ -84,24 +87,25 @@ fn parts_are_written_by_rows(rt: HostRuntime) -> Result<(), Fail> {
         8,
     )?;
     let mut part = image.part(Rect::of(1, 1, 3, 2));
-    assert_eq!(rt; part.rect(), Rect::of(1, 1, 3, 2));
-    assert_eq!(rt;
+    same(&rt, part.rect(), Rect::of(1, 1, 3, 2));
+    same(
+        &rt,
         (part.depth(), part.components()),
-        (Depth::Short, Components::Alpha)
+        (Depth::Short, Components::Alpha),
     );
     part.pixels_fit();
-    assert_eq!(rt; part.row_bytes(), 4);
+    same(&rt, part.row_bytes(), 4);
     a_row_is_written();
     let row = part.row_mut(1);
-    assert_eq!(rt; row.len(), 4);
+    same(&rt, row.len(), 4);
     row[0] = 1;
     row[1] = 2;
     part.put(2, 1, Pixel::Alpha { a: 65535 });
-    assert_eq!(rt; part.at(1, 1), Pixel::Alpha { a: 258 });
-    assert_eq!(rt; part.at(0, 1), Pixel::Alpha { a: 0 });
+    same(&rt, part.at(1, 1), Pixel::Alpha { a: 258 });
+    same(&rt, part.at(0, 1), Pixel::Alpha { a: 0 });
     let shown = [(0, 1, 0), (1, 1, 258), (2, 1, 65535), (1, 0, 0), (3, 1, 0)];
     for (x, y, a) in shown {
-        assert_eq!(rt; image.at(x, y), Pixel::Alpha { a });
+        same(&rt, image.at(x, y), Pixel::Alpha { a });
     }
     Ok(())
 }
@@ -112,7 +116,7 @@ fn a_tile_is_written_into_a_wider_part(rt: HostRuntime) -> Result<(), Fail> {
     let mut image = Image::new(rt.alloc(), whole, Depth::Byte, Components::Alpha, 3)?;
     let mut part = image.part(whole);
     let row = part.row_within_mut(Rect::of(1, 0, 3, 1), 0);
-    assert_eq!(rt; row.len(), 2);
+    same(&rt, row.len(), 2);
     row[0] = 5;
     row[1] = 6;
     for (x, y, a) in [
@@ -123,7 +127,7 @@ fn a_tile_is_written_into_a_wider_part(rt: HostRuntime) -> Result<(), Fail> {
         (1, 1, 0),
         (2, 1, 0),
     ] {
-        assert_eq!(rt; image.at(x, y), Pixel::Alpha { a });
+        same(&rt, image.at(x, y), Pixel::Alpha { a });
     }
     Ok(())
 }
@@ -148,10 +152,10 @@ fn an_image_is_cut_into_bands(rt: HostRuntime) -> Result<(), Fail> {
     };
     let image = Image::in_bands(rt.alloc(), &layout)?;
     let mut bands = image.into_bands(rt.alloc())?;
-    assert_eq!(rt; bands.len(), 3);
-    assert_eq!(rt; bands[0].rect(), Rect::of(0, 0, 3, 2));
-    assert_eq!(rt; bands[1].rect(), Rect::of(0, 2, 3, 4));
-    assert_eq!(rt; bands[2].rect(), Rect::of(0, 4, 3, 5));
+    same(&rt, bands.len(), 3);
+    same(&rt, bands[0].rect(), Rect::of(0, 0, 3, 2));
+    same(&rt, bands[1].rect(), Rect::of(0, 2, 3, 4));
+    same(&rt, bands[2].rect(), Rect::of(0, 4, 3, 5));
     mark(&mut bands[1], 2, 3);
     let image = Image::of_bands(rt.alloc(), &layout, bands)?;
     for (x, y, a) in [
@@ -162,7 +166,7 @@ fn an_image_is_cut_into_bands(rt: HostRuntime) -> Result<(), Fail> {
         (2, 4, 0),
         (0, 0, 0),
     ] {
-        assert_eq!(rt; image.at(x, y), Pixel::Alpha { a });
+        same(&rt, image.at(x, y), Pixel::Alpha { a });
     }
     Ok(())
 }

@@ -1,4 +1,5 @@
 //! Values worked by hand.
+use crate::same::same;
 use fx_kernel::{
     Mean, Windows, add_row, blend_row, clear, divided, in_units, mixed, product, take_row,
     write_means, write_window_means,
@@ -18,51 +19,57 @@ fn means_are_rounded(rt: HostRuntime) {
         (765, 255),
     ] {
         assert!(rt; sum <= 765);
-        assert_eq!(rt; thirds.sample(Depth::Byte, sum), mean);
+        same(&rt, thirds.sample(Depth::Byte, sum), mean);
     }
     let halves = Mean::of(2);
-    assert_eq!(rt;
+    same(
+        &rt,
         (
             halves.sample(Depth::Short, 1),
-            halves.sample(Depth::Short, 131069)
+            halves.sample(Depth::Short, 131069),
         ),
-        (1, 65535)
+        (1, 65535),
     );
     let squares = Mean::of(16641);
-    assert_eq!(rt; squares.sample(Depth::Short, 1090567935), 65535);
-    assert_eq!(rt; squares.sample(Depth::Short, 8320), 0);
-    assert_eq!(rt; squares.sample(Depth::Short, 8321), 1);
+    same(&rt, squares.sample(Depth::Short, 1090567935), 65535);
+    same(&rt, squares.sample(Depth::Short, 8320), 0);
+    same(&rt, squares.sample(Depth::Short, 8321), 1);
     let most = Mean::of(65536);
-    assert_eq!(rt; most.sample(Depth::Short, 4294901760), 65535);
-    assert_eq!(rt;
+    same(&rt, most.sample(Depth::Short, 4294901760), 65535);
+    same(
+        &rt,
         (
             most.sample(Depth::Byte, 32767),
-            most.sample(Depth::Byte, 32768)
+            most.sample(Depth::Byte, 32768),
         ),
-        (0, 1)
+        (0, 1),
     );
 }
 
 #[test]
 fn samples_are_multiplied(rt: HostRuntime) {
-    assert_eq!(rt;
+    same(
+        &rt,
         (product(Depth::Byte, 1, 127), product(Depth::Byte, 1, 128)),
-        (0, 1)
+        (0, 1),
     );
-    assert_eq!(rt; product(Depth::Byte, 255, 200), 200);
-    assert_eq!(rt; product(Depth::Short, 32768, 65535), 32768);
-    assert_eq!(rt;
+    same(&rt, product(Depth::Byte, 255, 200), 200);
+    same(&rt, product(Depth::Short, 32768, 65535), 32768);
+    same(
+        &rt,
         (mixed(Depth::Byte, 255, 7, 9), mixed(Depth::Byte, 0, 7, 9)),
-        (7, 9)
+        (7, 9),
     );
-    assert_eq!(rt; mixed(Depth::Byte, 128, 10, 20), 15);
-    assert_eq!(rt;
+    same(&rt, mixed(Depth::Byte, 128, 10, 20), 15);
+    same(
+        &rt,
         (divided(Depth::Short, 32767), divided(Depth::Short, 32768)),
-        (0, 1)
+        (0, 1),
     );
-    assert_eq!(rt;
+    same(
+        &rt,
         (in_units(32767), in_units(32768), in_units(98303)),
-        (0, 1, 1)
+        (0, 1, 1),
     );
 }
 
@@ -70,10 +77,10 @@ fn samples_are_multiplied(rt: HostRuntime) {
 fn rows_are_blended(rt: HostRuntime) {
     let mut bytes = [0, 100, 255];
     blend_row(Depth::Byte, 32768, &[255, 200, 255], &mut bytes, 3);
-    assert_eq!(rt; bytes.as_slice(), [128, 150, 255].as_slice());
+    same(&rt, bytes.as_slice(), [128, 150, 255].as_slice());
     let mut shorts = [1, 0, 255, 255];
     blend_row(Depth::Short, 16384, &[0, 0, 0, 0], &mut shorts, 2);
-    assert_eq!(rt; shorts.as_slice(), [0, 192, 191, 255].as_slice());
+    same(&rt, shorts.as_slice(), [0, 192, 191, 255].as_slice());
 }
 
 #[test]
@@ -82,9 +89,9 @@ fn rows_are_summed(rt: HostRuntime) {
     let mut cells = [9, 9];
     clear(&mut cells);
     add_row(Depth::Short, &row, &mut cells);
-    assert_eq!(rt; cells.as_slice(), [258, 255].as_slice());
+    same(&rt, cells.as_slice(), [258, 255].as_slice());
     take_row(Depth::Short, &row, &mut cells);
-    assert_eq!(rt; cells.as_slice(), [0, 0].as_slice());
+    same(&rt, cells.as_slice(), [0, 0].as_slice());
 }
 
 #[test]
@@ -92,7 +99,7 @@ fn means_are_written(rt: HostRuntime) {
     let cells = [3, 6, 9, 13];
     let mut row = [0; 8];
     write_means(Depth::Short, Mean::of(2), &cells, &mut row);
-    assert_eq!(rt; row.as_slice(), [0, 2, 0, 3, 0, 5, 0, 7].as_slice());
+    same(&rt, row.as_slice(), [0, 2, 0, 3, 0, 5, 0, 7].as_slice());
     let windows = Windows {
         step: 1,
         count: 2,
@@ -100,5 +107,5 @@ fn means_are_written(rt: HostRuntime) {
     };
     let mut means = [0, 0];
     write_window_means(Depth::Byte, Mean::of(3), &cells, windows, &mut means);
-    assert_eq!(rt; means.as_slice(), [6, 9].as_slice());
+    same(&rt, means.as_slice(), [6, 9].as_slice());
 }

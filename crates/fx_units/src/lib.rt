@@ -29,6 +29,8 @@ mod prefs;
 #[cfg(test)]
 mod props;
 #[cfg(test)]
+mod same;
+#[cfg(test)]
 mod seq;
 #[cfg(test)]
 mod single_flight;

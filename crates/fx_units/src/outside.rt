@@ -1,7 +1,8 @@
+use crate::same::{same, same_at};
 use fx_base::Name;
 use fx_outside::{
     Depot, FetchFault, FileDepot, FileLibrary, FreePace, Library, MemoryDepot, MemoryLibrary,
-    MemorySink, Pace, PutFault, Sink, StdSink, SureDepot, SureLibrary, SureSink,
+    MemorySink, Pace, PutFault, Sink, StdSink, SureDepot, SureLibrary, SureSink, read_all,
 };
 use std::alloc::{AllocError, Global};
 use std::test::Fail;
@@ -17,12 +18,28 @@ fn library_fails_as_listed(rt: HostRuntime) -> Result<(), Fail> {
     let other = b"".to_vec(alloc)?;
     let files = vec![in alloc; (named(alloc, "a")?, bytes), (named(alloc, "b")?, other)]?;
     let mut library = MemoryLibrary::new(alloc, files, vec![in alloc; 2, 4]?);
-    assert_eq!(rt; library.fetch(alloc, "a")?.as_slice(), b"two".as_slice());
-    assert_eq!(rt; library.fetch(alloc, "a").err(), Some(FetchFault::Failed));
-    assert_eq!(rt; library.fetch(alloc, "b")?.len(), 0);
-    assert_eq!(rt; library.fetch(alloc, "a").err(), Some(FetchFault::Failed));
-    assert_eq!(rt; library.fetch(alloc, "c").err(), Some(FetchFault::Failed));
-    assert_eq!(rt; library.fetch(alloc, "a")?.len(), 3);
+    same(
+        &rt,
+        library.fetch(alloc, "a")?.as_slice(),
+        b"two".as_slice(),
+    );
+    same(
+        &rt,
+        library.fetch(alloc, "a").err(),
+        Some(FetchFault::Failed),
+    );
+    same(&rt, library.fetch(alloc, "b")?.len(), 0);
+    same(
+        &rt,
+        library.fetch(alloc, "a").err(),
+        Some(FetchFault::Failed),
+    );
+    same(
+        &rt,
+        library.fetch(alloc, "c").err(),
+        Some(FetchFault::Failed),
+    );
+    same(&rt, library.fetch(alloc, "a")?.len(), 3);
     Ok(())
 }
 
@@ -30,14 +47,18 @@ fn library_fails_as_listed(rt: HostRuntime) -> Result<(), Fail> {
 fn depot_fails_as_listed(rt: HostRuntime) -> Result<(), Fail> {
     let alloc = rt.alloc();
     let mut depot = MemoryDepot::new(alloc, vec![in alloc; 3]?);
-    assert_eq!(rt; depot.get("a"), None);
+    same(&rt, depot.get("a"), None);
     depot.put(alloc, "a", b"one")?;
     depot.put(alloc, "b", b"")?;
-    assert_eq!(rt; depot.put(alloc, "a", b"two").err(), Some(PutFault::Failed));
-    assert_eq!(rt; depot.get("a").ok_or("no a")?, b"one".as_slice());
+    same(
+        &rt,
+        depot.put(alloc, "a", b"two").err(),
+        Some(PutFault::Failed),
+    );
+    same(&rt, depot.get("a").ok_or("no a")?, b"one".as_slice());
     depot.put(alloc, "a", b"three")?;
-    assert_eq!(rt; depot.get("a").ok_or("no a")?, b"three".as_slice());
-    assert_eq!(rt; depot.get("b").ok_or("no b")?.len(), 0);
+    same(&rt, depot.get("a").ok_or("no a")?, b"three".as_slice());
+    same(&rt, depot.get("b").ok_or("no b")?.len(), 0);
     Ok(())
 }
 
@@ -46,9 +67,9 @@ fn sink_fails_as_listed(rt: HostRuntime) -> Result<(), Fail> {
     let alloc = rt.alloc();
     let mut sink = MemorySink::new(alloc, vec![in alloc; 2]?);
     sink.write(alloc, b"ab")?;
-    assert_eq!(rt; sink.write(alloc, b"c").err(), Some(PutFault::Failed));
+    same(&rt, sink.write(alloc, b"c").err(), Some(PutFault::Failed));
     sink.write(alloc, b"d")?;
-    assert_eq!(rt; sink.bytes(), b"abd".as_slice());
+    same(&rt, sink.bytes(), b"abd".as_slice());
     FreePace.before_draw(0);
     Ok(())
 }
@@ -58,9 +79,17 @@ fn sure_library_has_every_name(rt: HostRuntime) -> Result<(), Fail> {
     let alloc = rt.alloc();
     let bytes = b"two".to_vec(alloc)?;
     let mut library = SureLibrary::new(alloc, vec![in alloc; (named(alloc, "a")?, bytes)]?);
-    assert_eq!(rt; library.fetch(alloc, "a")?.as_slice(), b"two".as_slice());
-    assert_eq!(rt; library.fetch(alloc, "b")?.len(), 0);
-    assert_eq!(rt; library.fetch(alloc, "a")?.as_slice(), b"two".as_slice());
+    same(
+        &rt,
+        library.fetch(alloc, "a")?.as_slice(),
+        b"two".as_slice(),
+    );
+    same(&rt, library.fetch(alloc, "b")?.len(), 0);
+    same(
+        &rt,
+        library.fetch(alloc, "a")?.as_slice(),
+        b"two".as_slice(),
+    );
     Ok(())
 }
 
@@ -68,13 +97,13 @@ fn sure_library_has_every_name(rt: HostRuntime) -> Result<(), Fail> {
 fn sure_depot_takes_every_put(rt: HostRuntime) -> Result<(), Fail> {
     let alloc = rt.alloc();
     let mut depot = SureDepot::new(alloc);
-    assert_eq!(rt; depot.get("a"), None);
+    same(&rt, depot.get("a"), None);
     depot.put(alloc, "a", b"one")?;
     depot.put(alloc, "b", b"")?;
     depot.put(alloc, "a", b"three")?;
-    assert_eq!(rt; depot.get("a").ok_or("no a")?, b"three".as_slice());
-    assert_eq!(rt; depot.get("b").ok_or("no b")?.len(), 0);
-    assert_eq!(rt; depot.get("c"), None);
+    same(&rt, depot.get("a").ok_or("no a")?, b"three".as_slice());
+    same(&rt, depot.get("b").ok_or("no b")?.len(), 0);
+    same(&rt, depot.get("c"), None);
     Ok(())
 }
 
@@ -82,10 +111,10 @@ fn sure_depot_takes_every_put(rt: HostRuntime) -> Result<(), Fail> {
 fn sure_sink_takes_every_write(rt: HostRuntime) -> Result<(), Fail> {
     let alloc = rt.alloc();
     let mut sink = SureSink::new(alloc);
-    assert_eq!(rt; sink.bytes().len(), 0);
+    same(&rt, sink.bytes().len(), 0);
     sink.write(alloc, b"ab")?;
     sink.write(alloc, b"c")?;
-    assert_eq!(rt; sink.bytes(), b"abc".as_slice());
+    same(&rt, sink.bytes(), b"abc".as_slice());
     Ok(())
 }
 
@@ -96,23 +125,39 @@ fn real_files_are_written_and_read(rt: HostRuntime) -> Result<(), Fail> {
     let mut library = FileLibrary::new(&rt, alloc);
     depot.put(alloc, "fx_outside_test.bin", b"longer than the next")?;
     depot.put(alloc, "fx_outside_test.bin", b"\x00\xff")?;
-    assert_eq!(rt;
+    same(
+        &rt,
         library.fetch(alloc, "fx_outside_test.bin")?.as_slice(),
-        b"\x00\xff".as_slice()
+        b"\x00\xff".as_slice(),
     );
-    assert_eq!(rt;
+    same(
+        &rt,
         library.fetch(alloc, "no_such_folder/file").err(),
-        Some(FetchFault::Failed)
+        Some(FetchFault::Failed),
     );
-    assert_eq!(rt; library.fetch(alloc, ".").err(), Some(FetchFault::Failed));
-    assert_eq!(rt;
+    same(
+        &rt,
+        library.fetch(alloc, ".").err(),
+        Some(FetchFault::Failed),
+    );
+    same(
+        &rt,
         depot.put(alloc, "no_such_folder/file", b"x").err(),
-        Some(PutFault::Failed)
+        Some(PutFault::Failed),
     );
-    assert_eq!(rt;
+    same(
+        &rt,
         depot.put(alloc, "/dev/full", b"x").err(),
-        Some(PutFault::Failed)
+        Some(PutFault::Failed),
     );
     StdSink::new(rt.stdout()).write(alloc, b"")?;
     Ok(())
+}
+
+#[test]
+fn a_reader_is_read_up_to_the_longest(rt: HostRuntime) {
+    for (longest, wanted) in [(3, Some(3)), (4, Some(3)), (2, None)] {
+        let read = read_all(rt.alloc(), b"abc".as_slice(), longest);
+        same_at(&rt, &longest, read.ok().map(|bytes| bytes.len()), wanted);
+    }
 }

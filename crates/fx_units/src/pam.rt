@@ -1,3 +1,4 @@
+use crate::same::same;
 use fx_base::Rect;
 use fx_image::Image;
 use fx_pam::laws::{one_or_the_other, reads_back};
@@ -39,9 +40,9 @@ fn pixels_are_read(rt: HostRuntime) -> Result<(), Fail> {
     for (bytes, left, right) in ROWS {
         let image = read(rt.alloc(), bytes, 2)?;
         let [r, g, b, a] = left;
-        assert_eq!(rt; image.at(0, 0), Pixel::Rgba { r, g, b, a });
+        same(&rt, image.at(0, 0), Pixel::Rgba { r, g, b, a });
         let [r, g, b, a] = right;
-        assert_eq!(rt; image.at(1, 0), Pixel::Rgba { r, g, b, a });
+        same(&rt, image.at(1, 0), Pixel::Rgba { r, g, b, a });
     }
     Ok(())
 }
@@ -51,23 +52,25 @@ fn the_first_row_is_the_top(rt: HostRuntime) -> Result<(), Fail> {
     let bytes = b"P7\nWIDTH 1\nHEIGHT 2\nDEPTH 1\nMAXVAL 255\nENDHDR\n\x01\x02";
     let image = read(rt.alloc(), bytes, 2)?;
     let (top, bottom) = (image.at(0, 1), image.at(0, 0));
-    assert_eq!(rt;
+    same(
+        &rt,
         top,
         Pixel::Rgba {
             r: 1,
             g: 1,
             b: 1,
-            a: 255
-        }
+            a: 255,
+        },
     );
-    assert_eq!(rt;
+    same(
+        &rt,
         bottom,
         Pixel::Rgba {
             r: 2,
             g: 2,
             b: 2,
-            a: 255
-        }
+            a: 255,
+        },
     );
     Ok(())
 }
@@ -122,7 +125,7 @@ const FAULTS: [(&[u8], PamFault); 17] = [
 #[test]
 fn the_first_fault_is_told(rt: HostRuntime) {
     for (bytes, fault) in FAULTS {
-        assert_eq!(rt; read(rt.alloc(), bytes, 8192).err(), Some(fault));
+        same(&rt, read(rt.alloc(), bytes, 8192).err(), Some(fault));
     }
 }
 
@@ -137,12 +140,12 @@ fn rgba_is_written(rt: HostRuntime) -> Result<(), Fail> {
     write(rt.alloc(), &image, Format::RgbAlpha, &mut out)?;
     let all =
         b"P7\nWIDTH 1\nHEIGHT 2\nDEPTH 4\nMAXVAL 65535\nTUPLTYPE RGB_ALPHA\nENDHDR\n\0\x01\0\x02\0\x03\0\x04\x05\0\x06\0\x07\0\x08\0";
-    assert_eq!(rt; out.as_slice(), all.as_slice());
+    same(&rt, out.as_slice(), all.as_slice());
     let before = out.len();
     write(rt.alloc(), &image, Format::Rgb, &mut out)?;
     let colours =
         b"P7\nWIDTH 1\nHEIGHT 2\nDEPTH 3\nMAXVAL 65535\nTUPLTYPE RGB\nENDHDR\n\0\x01\0\x02\0\x03\x05\0\x06\0\x07\0";
-    assert_eq!(rt; &out[before..], colours.as_slice());
+    same(&rt, &out[before..], colours.as_slice());
     reads_back();
     one_or_the_other();
     Ok(())
@@ -157,6 +160,6 @@ fn alpha_is_written(rt: HostRuntime) -> Result<(), Fail> {
     let mut out = Vec::new(rt.alloc());
     write(rt.alloc(), &image, Format::Grayscale, &mut out)?;
     let text = b"P7\nWIDTH 2\nHEIGHT 1\nDEPTH 1\nMAXVAL 255\nTUPLTYPE GRAYSCALE\nENDHDR\n\x07\xff";
-    assert_eq!(rt; out.as_slice(), text.as_slice());
+    same(&rt, out.as_slice(), text.as_slice());
     Ok(())
 }

@@ -1,6 +1,7 @@
 //! Rows worked by hand: values between keys, refusals, and each call once with ample memory.
 ghost use Rattle.std.specs.Prelude.{◌≤ℤ◌, IfOk};
 
+use crate::same::same;
 use fx_base::{Fix, Name, Names};
 use fx_params::{Param, ParamDef, ParamFault, ParamKind, ParamValue};
 use std::alloc::{AllocError, Global};
@@ -35,19 +36,19 @@ fn falls_between_two_keys(rt: HostRuntime) -> Result<(), Fail> {
         (14, -10, -10),
     ] {
         param.set_step(false);
-        assert_eq!(rt; param.value_at(frame), linear);
+        same(&rt, param.value_at(frame), linear);
         param.set_step(true);
-        assert_eq!(rt; param.value_at(frame), stepped);
+        same(&rt, param.value_at(frame), stepped);
     }
 
-    assert_eq!(rt; param.key_index(11), Err(ParamFault::NoSuchKey));
-    assert_eq!(rt; param.key_time(2), Err(ParamFault::BadIndex));
+    same(&rt, param.key_index(11), Err(ParamFault::NoSuchKey));
+    same(&rt, param.key_time(2), Err(ParamFault::BadIndex));
     let refused = param.set_key(rt.alloc(), 11, ParamValue::Flag(true));
-    assert_eq!(rt; refused, Err(ParamFault::WrongKind));
-    assert_eq!(rt; param.key_count(), 2);
-    assert_eq!(rt; param.key_time(0), Ok(10));
-    assert_eq!(rt; param.key_time(1), Ok(13));
-    assert_eq!(rt; param.value_at(11), 0);
+    same(&rt, refused, Err(ParamFault::WrongKind));
+    same(&rt, param.key_count(), 2);
+    same(&rt, param.key_time(0), Ok(10));
+    same(&rt, param.key_time(1), Ok(13));
+    same(&rt, param.value_at(11), 0);
     Ok(())
 }
 
@@ -80,7 +81,7 @@ fn follows_keys_of_every_kind(rt: HostRuntime) -> Result<(), Fail> {
         param.set_key(rt.alloc(), -3, first)?;
         param.set_key(rt.alloc(), 1, second)?;
         for (frame, value) in (-4..3).zip(values) {
-            assert_eq!(rt; param.value_at(frame), value);
+            same(&rt, param.value_at(frame), value);
         }
     }
     Ok(())
@@ -101,7 +102,7 @@ fn goes_all_the_way(rt: HostRuntime) -> Result<(), Fail> {
         (1073741823, 9223372028264841215),
         (1073741824, i64::MAX),
     ] {
-        assert_eq!(rt; param.value_at(frame), value);
+        same(&rt, param.value_at(frame), value);
     }
     Ok(())
 }
@@ -109,38 +110,41 @@ fn goes_all_the_way(rt: HostRuntime) -> Result<(), Fail> {
 #[test]
 fn sets_and_deletes(rt: HostRuntime) -> Result<(), Fail> {
     let mut param = Param::new(rt.alloc(), small(rt.alloc(), ParamKind::Choice)?)?;
-    assert_eq!(rt; param.def().name.text(), "amount");
-    assert_eq!(rt;
+    same(&rt, param.def().name.text(), "amount");
+    same(
+        &rt,
         (param.plain(), param.is_step(), param.key_count()),
-        (7, false, 0)
+        (7, false, 0),
     );
-    assert_eq!(rt; param.value_at(5), 7);
-    assert_eq!(rt; param.set_value(ParamValue::Choice(20)), Ok(()));
-    assert_eq!(rt;
+    same(&rt, param.value_at(5), 7);
+    same(&rt, param.set_value(ParamValue::Choice(20)), Ok(()));
+    same(
+        &rt,
         param.set_value(ParamValue::Choice(21)),
-        Err(ParamFault::OutOfRange)
+        Err(ParamFault::OutOfRange),
     );
-    assert_eq!(rt;
+    same(
+        &rt,
         param.set_value(ParamValue::Int(21)),
-        Err(ParamFault::WrongKind)
+        Err(ParamFault::WrongKind),
     );
-    assert_eq!(rt; param.plain(), 20);
+    same(&rt, param.plain(), 20);
     param.set_step(true);
     assert!(rt; param.is_step());
 
     for (frame, place, count) in [(4, 3, 1), (2, 5, 2), (4, 6, 2), (9, 1, 3)] {
         param.set_key(rt.alloc(), frame, ParamValue::Choice(place))?;
-        assert_eq!(rt; param.key_count(), count);
-        assert_eq!(rt; param.value_at(frame), i64::from(place));
+        same(&rt, param.key_count(), count);
+        same(&rt, param.value_at(frame), i64::from(place));
     }
-    assert_eq!(rt; param.key_index(9), Ok(2));
-    assert_eq!(rt; param.delete_key(4), Ok(()));
-    assert_eq!(rt; param.delete_key(4), Err(ParamFault::NoSuchKey));
-    assert_eq!(rt; param.key_index(9), Ok(1));
-    assert_eq!(rt; param.value_at(8), 5);
+    same(&rt, param.key_index(9), Ok(2));
+    same(&rt, param.delete_key(4), Ok(()));
+    same(&rt, param.delete_key(4), Err(ParamFault::NoSuchKey));
+    same(&rt, param.key_index(9), Ok(1));
+    same(&rt, param.value_at(8), 5);
     param.delete_all();
-    assert_eq!(rt; param.key_count(), 0);
-    assert_eq!(rt; param.value_at(8), 20);
+    same(&rt, param.key_count(), 0);
+    same(&rt, param.value_at(8), 20);
     Ok(())
 }
 
@@ -158,20 +162,26 @@ fn defines_each_kind(rt: HostRuntime) -> Result<(), Fail> {
         (&flag, "invert", ParamKind::Bool, (0, 1), 1, 0),
         (&choice, "mode", ParamKind::Choice, (0, 1), 1, 2),
     ] {
-        assert_eq!(rt; def.name.text(), name);
-        assert_eq!(rt; def.kind, kind);
-        assert_eq!(rt; (def.least, def.greatest), range);
-        assert_eq!(rt; (def.start, def.choices.items().len()), (start, texts));
+        same(&rt, def.name.text(), name);
+        same(&rt, def.kind, kind);
+        same(&rt, (def.least, def.greatest), range);
+        same(&rt, (def.start, def.choices.items().len()), (start, texts));
     }
-    assert_eq!(rt;
+    same(
+        &rt,
         choice.choices.items().get(1).map(|text| text.text()),
-        Some("plus")
+        Some("plus"),
     );
-    assert_eq!(rt; choice.taken(ParamValue::Choice(1)), Ok(1));
-    assert_eq!(rt;
+    same(&rt, choice.taken(ParamValue::Choice(1)), Ok(1));
+    same(
+        &rt,
         choice.taken(ParamValue::Choice(2)),
-        Err(ParamFault::OutOfRange)
+        Err(ParamFault::OutOfRange),
     );
-    assert_eq!(rt; flag.taken(ParamValue::Int(1)), Err(ParamFault::WrongKind));
+    same(
+        &rt,
+        flag.taken(ParamValue::Int(1)),
+        Err(ParamFault::WrongKind),
+    );
     Ok(())
 }

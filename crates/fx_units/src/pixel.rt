@@ -1,12 +1,18 @@
+use crate::same::same;
 use fx_pixel::{Components, Depth, Pixel};
 
 #[test]
 fn depths_and_components_have_their_numbers(rt: HostRuntime) {
-    assert_eq!(rt; (Depth::Byte.greatest(), Depth::Byte.size()), (255, 1));
-    assert_eq!(rt; (Depth::Short.greatest(), Depth::Short.size()), (65535, 2));
-    assert_eq!(rt;
+    same(&rt, (Depth::Byte.greatest(), Depth::Byte.size()), (255, 1));
+    same(
+        &rt,
+        (Depth::Short.greatest(), Depth::Short.size()),
+        (65535, 2),
+    );
+    same(
+        &rt,
         (Components::Rgba.count(), Components::Alpha.count()),
-        (4, 1)
+        (4, 1),
     );
 }
 
@@ -18,8 +24,8 @@ fn pixels_are_converted(rt: HostRuntime) {
         b: 0,
         a: 0,
     };
-    assert_eq!(rt; Pixel::zero(Components::Rgba), none);
-    assert_eq!(rt; Pixel::zero(Components::Alpha), Pixel::Alpha { a: 0 });
+    same(&rt, Pixel::zero(Components::Rgba), none);
+    same(&rt, Pixel::zero(Components::Alpha), Pixel::Alpha { a: 0 });
     let grey = Pixel::Alpha { a: 128 };
     let repeated = Pixel::Rgba {
         r: 32896,
@@ -27,9 +33,10 @@ fn pixels_are_converted(rt: HostRuntime) {
         b: 32896,
         a: 32896,
     };
-    assert_eq!(rt;
+    same(
+        &rt,
         grey.convert(Depth::Byte, Depth::Short, Components::Rgba),
-        repeated
+        repeated,
     );
     // 128.49.. of 255 goes down, and 128.50.. up.
     for (short, byte) in [
@@ -47,7 +54,8 @@ fn pixels_are_converted(rt: HostRuntime) {
             b: 0,
             a: short,
         };
-        assert_eq!(rt;
+        same(
+            &rt,
             pixel.convert(Depth::Short, Depth::Byte, Components::Alpha),
             Pixel::Alpha { a: byte },
         );

@@ -1,5 +1,6 @@
 ghost use Rattle.std.specs.Prelude.{◌≡◌, ◌+◌, ◌%◌, ◌^◌, [], IfOk, vec_len};
 
+use crate::same::same;
 use fx_base::Memory;
 use fx_outside::{FreePace, Pace};
 use fx_pool::{Draw, DrawSeat, ItemJob, Job, work, work_items};
@@ -208,8 +209,8 @@ fn each_number_is_drawn_once(rt: HostRuntime) -> Result<(), Fail> {
     let alloc = rt.alloc();
     let (draw, mut first) = Draw::new(alloc, 3)?;
     let mut second = draw.split(alloc, &mut first)?;
-    assert_eq!(rt; draw.next(&mut first), Some(0));
-    assert_eq!(rt; draw.next(&mut second), Some(1));
+    same(&rt, draw.next(&mut first), Some(0));
+    same(&rt, draw.next(&mut second), Some(1));
     draw.join(&mut first, second);
     Ok(())
 }
@@ -233,9 +234,9 @@ fn none_comes_past_the_count(rt: HostRuntime) -> Result<(), Fail> {
     let alloc = rt.alloc();
     let (draw, mut seat) = Draw::new(alloc, 3)?;
     let numbers = draw_out(alloc, &draw, &mut seat)?;
-    assert_eq!(rt; numbers.as_slice(), [0, 1, 2].as_slice());
+    same(&rt, numbers.as_slice(), [0, 1, 2].as_slice());
     let (draw, mut seat) = Draw::new(alloc, 0)?;
-    assert_eq!(rt; draw.next(&mut seat), None);
+    same(&rt, draw.next(&mut seat), None);
     Ok(())
 }
 
@@ -244,8 +245,12 @@ fn three_numbers_have_their_outs(rt: HostRuntime) -> Result<(), Fail> {
     let alloc = rt.alloc();
     let seats = empty_seats(alloc, 8)?;
     let worked = work(&rt, alloc, &FreePace, 3, seats, &Notes).map_err(|refused| refused.1)?;
-    assert_eq!(rt; worked.outs.as_slice(), [(0, 0), (1, 1), (2, 2)].as_slice());
-    assert_eq!(rt; worked.seats.len(), 8);
+    same(
+        &rt,
+        worked.outs.as_slice(),
+        [(0, 0), (1, 1), (2, 2)].as_slice(),
+    );
+    same(&rt, worked.seats.len(), 8);
     Ok(())
 }
 
@@ -254,8 +259,8 @@ fn no_number_has_no_out(rt: HostRuntime) -> Result<(), Fail> {
     let alloc = rt.alloc();
     let seats = empty_seats(alloc, 8)?;
     let worked = work(&rt, alloc, &FreePace, 0, seats, &Notes).map_err(|refused| refused.1)?;
-    assert_eq!(rt; worked.outs.len(), 0);
-    assert_eq!(rt; worked.seats.len(), 8);
+    same(&rt, worked.outs.len(), 0);
+    same(&rt, worked.seats.len(), 8);
     Ok(())
 }
 
@@ -268,7 +273,7 @@ fn want_of_memory_hands_the_seats_back(rt: HostRuntime) -> Result<(), Fail> {
     };
     match work(&rt, alloc, &FreePace, 3, seats, &job) {
         Ok(_worked) => assert!(rt; false, "memory was wanting"),
-        Err((seats, _memory)) => assert_eq!(rt; seats.len(), 4),
+        Err((seats, _memory)) => same(&rt, seats.len(), 4),
     }
     Ok(())
 }
@@ -281,9 +286,9 @@ fn each_item_has_one_turn(rt: HostRuntime) -> Result<(), Fail> {
     let worked = work_items(&rt, alloc, &FreePace, items, seats, &AddsIndex).map_err(
         |refused| refused.1,
     )?;
-    assert_eq!(rt; worked.items.as_slice(), [10, 21, 32].as_slice());
-    assert_eq!(rt; worked.outs.as_slice(), [10, 20, 30].as_slice());
-    assert_eq!(rt; worked.seats.len(), 8);
+    same(&rt, worked.items.as_slice(), [10, 21, 32].as_slice());
+    same(&rt, worked.outs.as_slice(), [10, 20, 30].as_slice());
+    same(&rt, worked.seats.len(), 8);
     Ok(())
 }
 
@@ -294,8 +299,8 @@ fn no_item_has_no_turn(rt: HostRuntime) -> Result<(), Fail> {
     let worked = work_items(&rt, alloc, &FreePace, Vec::new(alloc), seats, &AddsIndex).map_err(
         |refused| refused.1,
     )?;
-    assert_eq!(rt; worked.items.len(), 0);
-    assert_eq!(rt; worked.outs.len(), 0);
+    same(&rt, worked.items.len(), 0);
+    same(&rt, worked.outs.len(), 0);
     Ok(())
 }
 
@@ -305,7 +310,11 @@ fn workers_run_beside_each_other(rt: HostRuntime) -> Result<(), Fail> {
     let pace = HoldPace::new();
     let seats = empty_seats(alloc, 2)?;
     let worked = work(&rt, alloc, &pace, 3, seats, &Notes).map_err(|refused| refused.1)?;
-    assert_eq!(rt; worked.outs.as_slice(), [(0, 0), (1, 1), (2, 2)].as_slice());
+    same(
+        &rt,
+        worked.outs.as_slice(),
+        [(0, 0), (1, 1), (2, 2)].as_slice(),
+    );
     assert!(rt; pace.held_both());
     Ok(())
 }
@@ -319,7 +328,7 @@ fn workers_on_items_run_beside_each_other(rt: HostRuntime) -> Result<(), Fail> {
     let worked = work_items(&rt, alloc, &pace, items, seats, &AddsIndex).map_err(
         |refused| refused.1,
     )?;
-    assert_eq!(rt; worked.items.as_slice(), [10, 21, 32].as_slice());
+    same(&rt, worked.items.as_slice(), [10, 21, 32].as_slice());
     assert!(rt; pace.held_both());
     Ok(())
 }

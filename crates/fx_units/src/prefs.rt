@@ -1,3 +1,4 @@
+use crate::same::same;
 use fx_pixel::{Components, Depth};
 use fx_prefs::negotiate;
 
@@ -54,9 +55,13 @@ fn inputs_tell_the_form(rt: HostRuntime) {
         let depths = [(true, true), (true, false), (false, true)];
         for k in 0..3 {
             let (byte, short) = depths[k];
-            assert_eq!(rt; with_inputs(*a, *b, *mask, byte, short, true), wanted[k]);
+            same(
+                &rt,
+                with_inputs(*a, *b, *mask, byte, short, true),
+                wanted[k],
+            );
             let rgba = (wanted[k].0, Components::Rgba);
-            assert_eq!(rt; with_inputs(*a, *b, *mask, byte, short, false), rgba);
+            same(&rt, with_inputs(*a, *b, *mask, byte, short, false), rgba);
         }
     }
 }
@@ -65,35 +70,42 @@ fn inputs_tell_the_form(rt: HostRuntime) {
 fn the_project_tells_where_no_input_does(rt: HostRuntime) {
     for project in [BYTE_RGBA, BYTE_ALPHA, SHORT_RGBA, SHORT_ALPHA] {
         let rgba = (project.0, Components::Rgba);
-        assert_eq!(rt; negotiate(&[], true, true, true, project), project);
-        assert_eq!(rt; negotiate(&[], true, true, false, project), rgba);
-        assert_eq!(rt;
+        same(&rt, negotiate(&[], true, true, true, project), project);
+        same(&rt, negotiate(&[], true, true, false, project), rgba);
+        same(
+            &rt,
             negotiate(&[], true, false, true, project),
-            (Depth::Byte, project.1)
+            (Depth::Byte, project.1),
         );
-        assert_eq!(rt;
+        same(
+            &rt,
             negotiate(&[], false, true, true, project),
-            (Depth::Short, project.1)
+            (Depth::Short, project.1),
         );
         // A mask tells a depth and no components.
         let masked = negotiate(&[told(SHORT_RGBA, true)], true, true, true, project);
-        assert_eq!(rt; masked, (Depth::Short, project.1));
+        same(&rt, masked, (Depth::Short, project.1));
         let masked = negotiate(&[told(BYTE_ALPHA, true)], true, true, true, project);
-        assert_eq!(rt; masked, (Depth::Byte, project.1));
+        same(&rt, masked, (Depth::Byte, project.1));
     }
-    assert_eq!(rt; negotiate(&[], true, true, true, BYTE_ALPHA), BYTE_ALPHA);
+    same(
+        &rt,
+        negotiate(&[], true, true, true, BYTE_ALPHA),
+        BYTE_ALPHA,
+    );
 }
 
 #[test]
 fn one_input_tells_the_form(rt: HostRuntime) {
     for form in [BYTE_RGBA, BYTE_ALPHA, SHORT_RGBA, SHORT_ALPHA] {
         for project in [BYTE_RGBA, SHORT_ALPHA] {
-            assert_eq!(rt;
+            same(
+                &rt,
                 negotiate(&[told(form, false)], true, true, true, project),
-                form
+                form,
             );
         }
     }
     let one = negotiate(&[told(SHORT_RGBA, false)], true, false, true, SHORT_ALPHA);
-    assert_eq!(rt; one, BYTE_RGBA);
+    same(&rt, one, BYTE_RGBA);
 }

@@ -4,6 +4,7 @@ ghost use Rattle.fx_props.specs.declared.value.PropKind.TheVariants as kind;
 ghost use Rattle.fx_props.specs.Property.{IsLawfulDef};
 ghost use Rattle.fx_props.specs.Entries.{AreBlank, HasValues, ShowsFlag, ShowsFrames, ShowsRegion, ShowsText, ShowsTexts, ShowsWindow};
 
+use crate::same::{same, same_at};
 use fx_base::{Fix, Memory, Name, Names, Rect};
 use fx_props::names::{CLIP_FRAMES, CLIP_REGION, CONTEXTS, NAME, REGION, SEQUENCE, TILES, WINDOW};
 use fx_props::{
@@ -79,35 +80,50 @@ fn set(alloc: Global) -> Result<PropSet, Fail> {
 fn refuses_and_stays(rt: HostRuntime) -> Result<(), Fail> {
     let mut set = set(rt.alloc())?;
     let five = Fix::of_whole(5);
-    assert_eq!(rt; set.get_fix("OfxPropTime", 1), Err(PropFault::ErrBadIndex));
-    assert_eq!(rt; set.get_int("OfxPropTime", 0), Err(PropFault::ErrUnknown));
+    same(
+        &rt,
+        set.get_fix("OfxPropTime", 1),
+        Err(PropFault::ErrBadIndex),
+    );
+    same(
+        &rt,
+        set.get_int("OfxPropTime", 0),
+        Err(PropFault::ErrUnknown),
+    );
     let refused = set.set_text(
         rt.alloc(),
         "OfxImageEffectPropContext",
         0,
         "OfxImageEffectContextPaint",
     );
-    assert_eq!(rt; refused, Err(PropFault::ErrValue));
-    assert_eq!(rt; set.get_fix("OfxPropTime", 0), Ok(five));
-    assert_eq!(rt; set.dimension("OfxPropTime"), Ok(1));
-    assert_eq!(rt; set.dimension("OfxImageEffectPropContext"), Ok(0));
+    same(&rt, refused, Err(PropFault::ErrValue));
+    same(&rt, set.get_fix("OfxPropTime", 0), Ok(five));
+    same(&rt, set.dimension("OfxPropTime"), Ok(1));
+    same(&rt, set.dimension("OfxImageEffectPropContext"), Ok(0));
 
-    assert_eq!(rt;
+    same(
+        &rt,
         set.set_fix(rt.alloc(), "OfxPropTime", 0, Fix::of_whole(-2)),
-        Ok(())
+        Ok(()),
     );
-    assert_eq!(rt; set.get_fix("OfxPropTime", 0), Ok(Fix::of_whole(-2)));
-    assert_eq!(rt;
+    same(&rt, set.get_fix("OfxPropTime", 0), Ok(Fix::of_whole(-2)));
+    same(
+        &rt,
         set.set_fix(rt.alloc(), "OfxPropTime", 1, five),
-        Err(PropFault::ErrBadIndex)
+        Err(PropFault::ErrBadIndex),
     );
-    assert_eq!(rt; set.reset(rt.alloc(), "OfxPropTime"), Ok(()));
-    assert_eq!(rt; set.get_fix("OfxPropTime", 0), Ok(five));
-    assert_eq!(rt;
+    same(&rt, set.reset(rt.alloc(), "OfxPropTime"), Ok(()));
+    same(&rt, set.get_fix("OfxPropTime", 0), Ok(five));
+    same(
+        &rt,
         set.reset(rt.alloc(), "OfxPropLabel"),
-        Err(PropFault::ErrUnknown)
+        Err(PropFault::ErrUnknown),
     );
-    assert_eq!(rt; set.dimension("OfxPropLabel"), Err(PropFault::ErrUnknown));
+    same(
+        &rt,
+        set.dimension("OfxPropLabel"),
+        Err(PropFault::ErrUnknown),
+    );
     Ok(())
 }
 
@@ -115,21 +131,22 @@ fn refuses_and_stays(rt: HostRuntime) -> Result<(), Fail> {
 fn keeps_texts_and_ints(rt: HostRuntime) -> Result<(), Fail> {
     let mut set = set(rt.alloc())?;
     let context = "OfxImageEffectPropContext";
-    assert_eq!(rt; set.get_text(context, 0), Err(PropFault::ErrBadIndex));
+    same(&rt, set.get_text(context, 0), Err(PropFault::ErrBadIndex));
     for text in [
         "OfxImageEffectContextFilter",
         "OfxImageEffectContextGeneral",
     ] {
         set.set_text(rt.alloc(), context, 0, text)?;
-        assert_eq!(rt; set.get_text(context, 0).ok().unwrap_or(""), text);
-        assert_eq!(rt; set.dimension(context), Ok(1));
+        same(&rt, set.get_text(context, 0).ok().unwrap_or(""), text);
+        same(&rt, set.dimension(context), Ok(1));
     }
-    assert_eq!(rt;
+    same(
+        &rt,
         set.set_text(rt.alloc(), context, 1, "OfxImageEffectContextFilter"),
-        Err(PropFault::ErrBadIndex)
+        Err(PropFault::ErrBadIndex),
     );
     set.reset(rt.alloc(), context)?;
-    assert_eq!(rt; set.dimension(context), Ok(0));
+    same(&rt, set.dimension(context), Ok(0));
 
     let window = "OfxImageEffectPropRenderWindow";
     for (index, value, answer) in [
@@ -142,18 +159,20 @@ fn keeps_texts_and_ints(rt: HostRuntime) -> Result<(), Fail> {
         (4, 50, Err(PropFault::ErrBadIndex)),
         (5, 50, Err(PropFault::ErrBadIndex)),
     ] {
-        assert_eq!(rt;
+        same_at(
+            &rt,
+            &index,
             set.set_int(rt.alloc(), window, index, value),
             answer,
-            "at {index}"
         );
     }
     for (index, value) in [(0, -1), (1, 20), (2, 30), (3, 40)] {
-        assert_eq!(rt; set.get_int(window, index), Ok(value), "at {index}");
+        same_at(&rt, &index, set.get_int(window, index), Ok(value));
     }
-    assert_eq!(rt;
+    same(
+        &rt,
         set.set_fix(rt.alloc(), window, 0, Fix::of_whole(1)),
-        Err(PropFault::ErrUnknown)
+        Err(PropFault::ErrUnknown),
     );
     Ok(())
 }
@@ -161,8 +180,8 @@ fn keeps_texts_and_ints(rt: HostRuntime) -> Result<(), Fail> {
 #[test]
 fn gives_its_values_away(rt: HostRuntime) -> Result<(), Fail> {
     let list = PropList::of(vec![in rt.alloc(); PropValue::Int(3), PropValue::Int(4)]?);
-    assert_eq!(rt; list.items().len(), 2);
-    assert_eq!(rt; list.into_items().len(), 2);
+    same(&rt, list.items().len(), 2);
+    same(&rt, list.into_items().len(), 2);
     Ok(())
 }
 
@@ -170,11 +189,10 @@ fn gives_its_values_away(rt: HostRuntime) -> Result<(), Fail> {
 fn two_clips(alloc: Global, prefix: &str) -> Result<PropSet, Memory>
     ensures { IfOk result (λ set. AreBlank set prefix.now kind.Fix (codes "A" ∷ codes "B" ∷ [])) }
 {
-    let clips = Names::of(vec![in alloc;
-        Name::of(String::from_str(alloc, "A")?),
-        Name::of(String::from_str(alloc, "B")?),
-    ]?);
-    clip_set_of_blanks(alloc, prefix, PropKind::Fix, &clips)
+    let mut clips = Vec::new(alloc);
+    clips.push(name(alloc, "A")?)?;
+    clips.push(name(alloc, "B")?)?;
+    clip_set_of_blanks(alloc, prefix, PropKind::Fix, &Names::of(clips))
 }
 
 #[test]
@@ -208,14 +226,15 @@ fn regions_and_frames_are_written(rt: HostRuntime) -> Result<(), Fail> {
         ),
     ] {
         for (index, raw) in [(0, raws[0]), (1, raws[1]), (2, raws[2]), (3, raws[3])] {
-            assert_eq!(rt;
+            same_at(
+                &rt,
+                &(&name, &index),
                 set.get_fix(name, index),
                 Ok(Fix { raw }),
-                "{name} at {index}"
             );
         }
     }
-    assert_eq!(rt; frames.dimension("OfxImageClipPropFrameRange_B"), Ok(2));
+    same(&rt, frames.dimension("OfxImageClipPropFrameRange_B"), Ok(2));
     Ok(())
 }
 
@@ -294,12 +313,12 @@ fn frames_set(alloc: Global) -> Result<PropSet, Memory>
 #[test]
 fn what_stands_in_a_set_is_read(rt: HostRuntime) -> Result<(), Fail> {
     let alloc = rt.alloc();
-    assert_eq!(rt; text_at(&text_set(alloc)?, NAME), "Mask");
+    same(&rt, text_at(&text_set(alloc)?, NAME), "Mask");
     assert!(rt; flag_at(&flag_set(alloc)?, TILES));
     let window = window_at(&window_set(alloc)?, WINDOW);
-    assert_eq!(rt; window, Rect::of(-1, 2, 30, 40));
+    same(&rt, window, Rect::of(-1, 2, 30, 40));
     let region = region_at(&region_set(alloc)?, REGION);
-    assert_eq!(rt; region, Rect::of(-2, 0, 3, 1));
+    same(&rt, region, Rect::of(-2, 0, 3, 1));
     Ok(())
 }
 
@@ -307,10 +326,10 @@ fn what_stands_in_a_set_is_read(rt: HostRuntime) -> Result<(), Fail> {
 fn lists_in_a_set_are_read(rt: HostRuntime) -> Result<(), Fail> {
     let alloc = rt.alloc();
     let contexts = texts_at(alloc, &texts_set(alloc)?, CONTEXTS)?.into_items();
-    assert_eq!(rt; contexts.len(), 2);
-    assert_eq!(rt; contexts[0].text(), "OfxImageEffectContextFilter");
-    assert_eq!(rt; contexts[1].text(), "OfxImageEffectContextGeneral");
+    same(&rt, contexts.len(), 2);
+    same(&rt, contexts[0].text(), "OfxImageEffectContextFilter");
+    same(&rt, contexts[1].text(), "OfxImageEffectContextGeneral");
     let frames = frames_at(alloc, &frames_set(alloc)?, SEQUENCE)?;
-    assert_eq!(rt; frames.as_slice(), [(-4, 5)].as_slice());
+    same(&rt, frames.as_slice(), [(-4, 5)].as_slice());
     Ok(())
 }

@@ -1,6 +1,7 @@
 ghost use Rattle.std.specs.Prelude.{IfOk, AllPairs};
 ghost use Rattle.fx_seq.specs.Filling.{IsApart};
 
+use crate::same::same;
 use fx_base::Name;
 use fx_outside::MemoryLibrary;
 use fx_pam::PamFault;
@@ -100,8 +101,8 @@ fn two_frames_are_held(rt: HostRuntime) -> Result<(), Fail> {
         let store = filled.ok().ok_or("not filled")?;
         let first = store.frame(3, -1).ok_or("not held")?;
         let second = store.frame(1, 2).ok_or("not held")?;
-        assert_eq!(rt; first.at(0, 0), FIRST);
-        assert_eq!(rt; second.at(0, 0), pixel);
+        same(&rt, first.at(0, 0), FIRST);
+        same(&rt, second.at(0, 0), pixel);
         for (node, frame) in [(3, 2), (1, -1), (2, -1), (3, 0)] {
             assert!(rt; store.frame(node, frame).is_none());
         }
@@ -126,7 +127,7 @@ fn the_first_fault_is_told(rt: HostRuntime) -> Result<(), Fail> {
     for (names, failing, limit, fault) in table {
         let filled = fill(alloc, names, failing, limit)?;
         let found = filled.err().ok_or("no fault")?;
-        assert_eq!(rt; told(&found), Some(fault));
+        same(&rt, told(&found), Some(fault));
     }
     Ok(())
 }

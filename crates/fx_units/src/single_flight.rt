@@ -6,6 +6,7 @@ ghost use Rattle.std.specs.Map.{remove_entry};
 ghost use Rattle.fx_core.specs.Flight.{Stands};
 ghost use Rattle.fx_core.specs.Answer.{Joins, IsFreshFor};
 
+use crate::same::same;
 use fx_core::{Answer, Core, Flight, Permit, Totals, every_run};
 use std::process::Abort;
 use std::sync::Arc;
@@ -39,8 +40,8 @@ fn fly(rt: &(impl Abort + AllocGlobal), core: &mut Letters, letter: u8, number: 
 {
     match ask(rt, core, letter) {
         Answer::Fly(mut flight) => {
-            assert_eq!(rt; flight.ticket.number, number);
-            assert_eq!(rt; flight.ticket.scene, 7);
+            same(rt, flight.ticket.number, number);
+            same(rt, flight.ticket.scene, 7);
             assert!(rt; !flight.ticket.stamped);
             flight.ticket.stamped = true;
             flight
@@ -64,7 +65,7 @@ fn here(rt: &(impl Abort + AllocGlobal), core: &mut Letters, letter: u8, value: 
     ensures { core.new.flying ≡ core.old.flying }
 {
     match ask(rt, core, letter) {
-        Answer::Here(kept) => assert_eq!(rt; *kept, value),
+        Answer::Here(kept) => same(rt, *kept, value),
         Answer::Busy => panic!(rt; "{letter} flies"),
         Answer::Fly(_flight) => panic!(rt; "{letter} isn't kept"),
     }
@@ -88,21 +89,45 @@ fn finish(rt: &impl Abort, core: Letters, by_hand: Totals)
 {
     let (permit, totals) = core.finish();
     let Permit { scene } = permit;
-    assert_eq!(rt; scene, 7);
-    assert_eq!(rt; totals, by_hand);
+    same(rt, scene, 7);
+    same(rt, totals, by_hand);
+}
+
+// Has what nobody makes yet made under this number: it flies, is asked for once more where it is awaited, and lands.
+fn make(
+    rt: &(impl Abort + AllocGlobal),
+    core: &mut Letters,
+    letter: u8,
+    number: u64,
+    value: u32,
+    is_awaited: bool,
+)
+    requires { core.old.flying ≡ [] }
+    ensures { core.new.flying ≡ [] }
+{
+    let flight = fly(rt, core, letter, number);
+    if is_awaited {
+        busy(rt, core, letter);
+    }
+    land(rt, core, flight, value);
+}
+
+// Has it fly under this number and lets it go.
+fn let_go(rt: &(impl Abort + AllocGlobal), core: &mut Letters, letter: u8, number: u64)
+    requires { core.old.flying ≡ [] }
+    ensures { core.new.flying ≡ [] }
+{
+    let flight = fly(rt, core, letter, number);
+    core.drop_flight(flight);
 }
 
 #[test]
 fn one_is_kept(rt: HostRuntime) {
     let mut core = start(&rt, 1);
-    let a = fly(&rt, &mut core, b'a', 0);
-    busy(&rt, &mut core, b'a');
-    land(&rt, &mut core, a, 10);
+    make(&rt, &mut core, b'a', 0, 10, true);
     here(&rt, &mut core, b'a', 10);
-    let b = fly(&rt, &mut core, b'b', 1);
-    land(&rt, &mut core, b, 20);
-    let a = fly(&rt, &mut core, b'a', 2);
-    core.drop_flight(a);
+    make(&rt, &mut core, b'b', 1, 20, false);
+    let_go(&rt, &mut core, b'a', 2);
     let by_hand = Totals {
         asks: 5,
         hits: 1,
@@ -115,17 +140,23 @@ fn one_is_kept(rt: HostRuntime) {
     finish(&rt, core, by_hand);
 }
 
+// One flies under 1, is asked for once the other has landed under 2, and is let go.
+fn outlasts(rt: &(impl Abort + AllocGlobal), core: &mut Letters, letter: u8, other: u8, value: u32)
+    requires { core.old.flying ≡ [] }
+    ensures { core.new.flying ≡ [] }
+{
+    let flight = fly(rt, core, letter, 1);
+    let second = fly(rt, core, other, 2);
+    land(rt, core, second, value);
+    busy(rt, core, letter);
+    core.drop_flight(flight);
+}
+
 #[test]
 fn none_is_kept(rt: HostRuntime) {
     let mut core = start(&rt, 0);
-    let a = fly(&rt, &mut core, b'a', 0);
-    busy(&rt, &mut core, b'a');
-    land(&rt, &mut core, a, 10);
-    let a = fly(&rt, &mut core, b'a', 1);
-    let b = fly(&rt, &mut core, b'b', 2);
-    land(&rt, &mut core, b, 20);
-    busy(&rt, &mut core, b'a');
-    core.drop_flight(a);
+    make(&rt, &mut core, b'a', 0, 10, true);
+    outlasts(&rt, &mut core, b'a', b'b', 20);
     let by_hand = Totals {
         asks: 5,
         hits: 0,
@@ -141,12 +172,9 @@ fn none_is_kept(rt: HostRuntime) {
 #[test]
 fn two_are_kept(rt: HostRuntime) {
     let mut core = start(&rt, 2);
-    let a = fly(&rt, &mut core, b'a', 0);
-    busy(&rt, &mut core, b'a');
-    land(&rt, &mut core, a, 10);
+    make(&rt, &mut core, b'a', 0, 10, true);
     here(&rt, &mut core, b'a', 10);
-    let b = fly(&rt, &mut core, b'b', 1);
-    land(&rt, &mut core, b, 20);
+    make(&rt, &mut core, b'b', 1, 20, false);
     here(&rt, &mut core, b'a', 10);
     let by_hand = Totals {
         asks: 5,
@@ -165,16 +193,12 @@ fn two_are_kept(rt: HostRuntime) {
 fn the_least_recently_used_goes(rt: HostRuntime) {
     every_run::<u8, u32>();
     let mut core = start(&rt, 2);
-    let a = fly(&rt, &mut core, b'a', 0);
-    land(&rt, &mut core, a, 10);
-    let b = fly(&rt, &mut core, b'b', 1);
-    land(&rt, &mut core, b, 20);
+    make(&rt, &mut core, b'a', 0, 10, false);
+    make(&rt, &mut core, b'b', 1, 20, false);
     here(&rt, &mut core, b'a', 10);
-    let c = fly(&rt, &mut core, b'c', 2);
-    land(&rt, &mut core, c, 30);
+    make(&rt, &mut core, b'c', 2, 30, false);
     here(&rt, &mut core, b'a', 10);
-    let b = fly(&rt, &mut core, b'b', 3);
-    core.drop_flight(b);
+    let_go(&rt, &mut core, b'b', 3);
     let by_hand = Totals {
         asks: 6,
         hits: 2,

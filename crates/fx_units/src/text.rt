@@ -1,3 +1,4 @@
+use crate::same::{same, same_at};
 use fx_pixel::{Components, Depth, Format};
 use fx_text::{
     GraphCode, GraphFault, RawContext, RawScalar, RawValue, RawWork, names_rise,
@@ -300,7 +301,7 @@ fn each_member_is_read_or_refused(rt: HostRuntime) -> Result<(), AllocError> {
     for (old, new, wanted) in CHANGES {
         let text = changed(alloc, old, new)?;
         let answer = told(alloc, text.as_bytes())?;
-        assert_eq!(rt; answer.as_str(), *wanted, "at {new}");
+        same_at(&rt, &new, answer.as_str(), *wanted);
     }
     Ok(())
 }
@@ -322,15 +323,16 @@ fn is_given(value: &RawValue) -> bool {
 fn a_whole_graph_is_read(rt: HostRuntime) -> Result<(), Fail> {
     let graph = read_graph(rt.alloc(), WHOLE.as_bytes(), 256, 4096)?;
     names_rise(&graph);
-    assert_eq!(rt; (graph.format, graph.first, graph.last), (1, 7, 9));
-    assert_eq!(rt; (graph.project.width, graph.project.height), (4, 2));
-    assert_eq!(rt; graph.project.depth, Depth::Short);
-    assert_eq!(rt; graph.project.components, Components::Alpha);
-    assert_eq!(rt;
+    same(&rt, (graph.format, graph.first, graph.last), (1, 7, 9));
+    same(&rt, (graph.project.width, graph.project.height), (4, 2));
+    same(&rt, graph.project.depth, Depth::Short);
+    same(&rt, graph.project.components, Components::Alpha);
+    same(
+        &rt,
         (graph.output.node.text(), graph.output.file.text()),
-        ("b", "o#.pam")
+        ("b", "o#.pam"),
     );
-    assert_eq!(rt; graph.output.format, Format::Rgb);
+    same(&rt, graph.output.format, Format::Rgb);
     for node in graph.nodes.items() {
         match &node.work {
             RawWork::Source {
@@ -341,9 +343,9 @@ fn a_whole_graph_is_read(rt: HostRuntime) -> Result<(), Fail> {
                 depth,
                 components,
             } => {
-                assert_eq!(rt; (node.name.text(), pattern.text()), ("s", "s#.pam"));
-                assert_eq!(rt; (*first, *last, *hold), (3, 5, true));
-                assert_eq!(rt; (*depth, *components), (Depth::Byte, Components::Rgba));
+                same(&rt, (node.name.text(), pattern.text()), ("s", "s#.pam"));
+                same(&rt, (*first, *last, *hold), (3, 5, true));
+                same(&rt, (*depth, *components), (Depth::Byte, Components::Rgba));
             }
             RawWork::Effect {
                 effect,
@@ -351,16 +353,17 @@ fn a_whole_graph_is_read(rt: HostRuntime) -> Result<(), Fail> {
                 clips,
                 params,
             } => {
-                assert_eq!(rt; (node.name.text(), effect.text()), ("b", "blend"));
-                assert_eq!(rt; *context, Some(RawContext::Filter));
-                assert_eq!(rt; clips.items().len(), 2);
-                assert_eq!(rt;
+                same(&rt, (node.name.text(), effect.text()), ("b", "blend"));
+                same(&rt, *context, Some(RawContext::Filter));
+                same(&rt, clips.items().len(), 2);
+                same(
+                    &rt,
                     params
                         .items()
                         .iter()
                         .filter(|param| is_given(&param.value))
                         .count(),
-                    2
+                    2,
                 );
             }
         }
@@ -395,12 +398,12 @@ fn the_first_fault_counts(rt: HostRuntime) -> Result<(), AllocError> {
     let alloc = rt.alloc();
     for (text, wanted) in ORDER {
         let answer = told(alloc, text.as_bytes())?;
-        assert_eq!(rt; answer.as_str(), *wanted, "at {text}");
+        same_at(&rt, &text, answer.as_str(), *wanted);
     }
     let bytes = FIRST.as_bytes();
     for end in 0..bytes.len() {
         let answer = told(alloc, &bytes[..end])?;
-        assert_eq!(rt; answer.as_str(), "G1 ", "at {end}");
+        same_at(&rt, &end, answer.as_str(), "G1 ");
     }
     printed_graph_reads_back();
     Ok(())
@@ -415,7 +418,7 @@ fn lengths_have_limits(rt: HostRuntime) -> Result<(), AllocError> {
     for (name, wanted) in [(name, "2"), (longer, "G3 nodes[0].name")] {
         let text = changed(alloc, "\"name\":\"s\"", name.as_str())?;
         let answer = told(alloc, text.as_bytes())?;
-        assert_eq!(rt; answer.as_str(), wanted);
+        same(&rt, answer.as_str(), wanted);
     }
     let (before, _) = FIRST.split_once("[{").unwrap_or(("", ""));
     for (item, count, wanted) in [
@@ -428,7 +431,7 @@ fn lengths_have_limits(rt: HostRuntime) -> Result<(), AllocError> {
         let nodes = repeated(alloc, "[", item, count, "]}")?;
         let text = format!(in alloc; "{before}{nodes}")?;
         let answer = told(alloc, text.as_bytes())?;
-        assert_eq!(rt; answer.as_str(), wanted, "{count} of {item}");
+        same_at(&rt, &(&count, &item), answer.as_str(), wanted);
     }
     for (item, count, wanted) in [
         ("[0,1]", 1000, "2"),
@@ -438,7 +441,7 @@ fn lengths_have_limits(rt: HostRuntime) -> Result<(), AllocError> {
         let keys = repeated(alloc, "[", item, count, "]")?;
         let text = changed(alloc, r#"[[-5,1],[6,"0.5"]]"#, keys.as_str())?;
         let answer = told(alloc, text.as_bytes())?;
-        assert_eq!(rt; answer.as_str(), wanted, "{count} keys");
+        same_at(&rt, &count, answer.as_str(), wanted);
     }
     Ok(())
 }
@@ -459,13 +462,13 @@ fn deep_values_are_no_json(rt: HostRuntime) -> Result<(), AllocError> {
         let value = format!(in alloc; "\"on\":{value}")?;
         let text = changed(alloc, "\"on\":false", value.as_str())?;
         let answer = told(alloc, text.as_bytes())?;
-        assert_eq!(rt; answer.as_str(), wanted, "{depth} deep");
+        same_at(&rt, &depth, answer.as_str(), wanted);
     }
     let mut open = String::new(alloc);
     for _ in 0..1000 {
         open.push_str("[")?;
     }
     let answer = told(alloc, open.as_bytes())?;
-    assert_eq!(rt; answer.as_str(), "G1 ");
+    same(&rt, answer.as_str(), "G1 ");
     Ok(())
 }

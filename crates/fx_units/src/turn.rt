@@ -3,6 +3,7 @@ ghost use Rattle.std.proofs.Common.{arith, refl};
 ghost use Rattle.fx_turn.specs.Tallies.{zeros};
 ghost use Rattle.fx_turn.specs.Seats.{all_parts};
 
+use crate::same::same;
 use fx_turn::{Fits, Memory, Seat, Turns};
 use std::alloc::Global;
 use std::sync::Wait;
@@ -63,11 +64,11 @@ fn one_value_is_taken_and_given(rt: HostRuntime) -> Result<(), Fail> {
     let values = vec![in alloc; Number { value: 7 }]?;
     let (turns, mut seat) = Turns::new(alloc, 5u32, values).map_err(|e| e.1)?;
     let mut held = turns.take(&rt, &mut seat, 0);
-    assert_eq!(rt; held.value().value, 7);
+    same(&rt, held.value().value, 7);
     *held.value_mut() = Number { value: 8 };
     turns.give(&mut seat, held);
     let values = turns.close(alloc, seat).map_err(|e| e.2)?;
-    assert_eq!(rt; values.as_slice(), [Number { value: 8 }].as_slice());
+    same(&rt, values.as_slice(), [Number { value: 8 }].as_slice());
     Ok(())
 }
 
@@ -100,18 +101,18 @@ fn values_keep_their_slots(rt: HostRuntime) -> Result<(), Fail> {
         Number { value: 30 },
     ]?;
     let (turns, mut seat) = Turns::new(alloc, 5u32, values).map_err(|e| e.1)?;
-    assert_eq!(rt; add_one(&rt, &turns, &mut seat, 0), 10);
-    assert_eq!(rt; add_one(&rt, &turns, &mut seat, 1), 20);
+    same(&rt, add_one(&rt, &turns, &mut seat, 0), 10);
+    same(&rt, add_one(&rt, &turns, &mut seat, 1), 20);
     let (turns, mut seat) = turns.renew(alloc, seat, 6).map_err(|e| e.3)?;
-    assert_eq!(rt; add_one(&rt, &turns, &mut seat, 0), 11);
-    assert_eq!(rt; add_one(&rt, &turns, &mut seat, 2), 30);
+    same(&rt, add_one(&rt, &turns, &mut seat, 0), 11);
+    same(&rt, add_one(&rt, &turns, &mut seat, 2), 30);
     let values = turns.close(alloc, seat).map_err(|e| e.2)?;
     let want = [
         Number { value: 12 },
         Number { value: 21 },
         Number { value: 31 },
     ];
-    assert_eq!(rt; values.as_slice(), want.as_slice());
+    same(&rt, values.as_slice(), want.as_slice());
     Ok(())
 }
 
@@ -147,8 +148,8 @@ fn two_threads_take_turns(rt: HostRuntime) -> Result<(), Fail> {
     );
     turns.join(&mut first, second);
     let values = turns.close(alloc, first).map_err(|e| e.2)?;
-    assert_eq!(rt; values.len(), 1);
-    assert_eq!(rt; values[0].times, 2000);
+    same(&rt, values.len(), 1);
+    same(&rt, values[0].times, 2000);
     Ok(())
 }
 
@@ -197,7 +198,7 @@ fn eight_threads_take_turns(rt: HostRuntime) -> Result<(), Fail> {
     let seats = thread::map_vec(&rt, seats, &|seat| add(&rt, &turns, seat, 1000))?;
     join_all(&turns, &mut first, seats);
     let values = turns.close(alloc, first).map_err(|e| e.2)?;
-    assert_eq!(rt; values.len(), 1);
-    assert_eq!(rt; values[0].times, 8000);
+    same(&rt, values.len(), 1);
+    same(&rt, values[0].times, 8000);
     Ok(())
 }

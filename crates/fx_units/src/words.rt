@@ -1,3 +1,4 @@
+use crate::same::{same, same_at};
 use fx_base::{Memory, Name};
 use fx_pam::PamField;
 use fx_text::{GraphCode, GraphPath};
@@ -125,7 +126,7 @@ fn words_are_an_order_or_usage(rt: HostRuntime) -> Result<(), AllocError> {
     let alloc = rt.alloc();
     for (line, wanted) in LINES {
         let order = ordered(alloc, line)?;
-        assert_eq!(rt; order.as_str(), *wanted, "at {line}");
+        same_at(&rt, &line, order.as_str(), *wanted);
     }
     let none: Vec<String> = Vec::new(alloc);
     assert!(rt; matches!(read_words(alloc, none.as_slice()), Err(WordFault::Usage)));
@@ -185,7 +186,7 @@ fn graph_faults_are_told(rt: HostRuntime) -> Result<(), Memory> {
     for (code, path, wanted) in CODES {
         let path = GraphPath::of(String::from_str(alloc, path)?);
         let told = line(alloc, &RunFault::Graph(*code, path))?;
-        assert_eq!(rt; told.as_slice(), *wanted);
+        same(&rt, told.as_slice(), *wanted);
     }
     Ok(())
 }
@@ -226,7 +227,7 @@ fn frame_faults_are_told(rt: HostRuntime) -> Result<(), Memory> {
     for (fault, wanted) in FRAMES {
         let node = name(alloc, "s")?;
         let told = line(alloc, &RunFault::Frame(node, -3, *fault))?;
-        assert_eq!(rt; told.as_slice(), *wanted);
+        same(&rt, told.as_slice(), *wanted);
     }
     Ok(())
 }
@@ -237,15 +238,15 @@ fn other_faults_are_told(rt: HostRuntime) -> Result<(), Memory> {
     let usage = line(alloc, &RunFault::Usage)?;
     let wanted =
         b">usage: ofxr MODE GRAPH [--first N] [--last N] [--tile N] [--cache N] [--workers N]\n";
-    assert_eq!(rt; usage.as_slice(), wanted.as_slice());
+    same(&rt, usage.as_slice(), wanted.as_slice());
     let read = line(alloc, &RunFault::Read(name(alloc, "g.json")?))?;
-    assert_eq!(rt; read.as_slice(), b">ofxr: read: g.json\n".as_slice());
+    same(&rt, read.as_slice(), b">ofxr: read: g.json\n".as_slice());
     let write = line(alloc, &RunFault::Write(name(alloc, "o0.pam")?))?;
-    assert_eq!(rt; write.as_slice(), b">ofxr: write: o0.pam\n".as_slice());
+    same(&rt, write.as_slice(), b">ofxr: write: o0.pam\n".as_slice());
     let memory = line(alloc, &RunFault::Memory)?;
-    assert_eq!(rt; memory.as_slice(), b">ofxr: memory\n".as_slice());
+    same(&rt, memory.as_slice(), b">ofxr: memory\n".as_slice());
     let report = line(alloc, &RunFault::Report)?;
-    assert_eq!(rt; report.as_slice(), b">ofxr: report\n".as_slice());
+    same(&rt, report.as_slice(), b">ofxr: report\n".as_slice());
     Ok(())
 }
 
@@ -286,7 +287,7 @@ fn reports_are_lines(rt: HostRuntime) -> Result<(), Memory> {
     for (report, wanted) in REPORTS {
         let mut out = Vec::new(alloc);
         report_text(alloc, report, &mut out)?;
-        assert_eq!(rt; out.as_slice(), *wanted);
+        same(&rt, out.as_slice(), *wanted);
     }
     Ok(())
 }

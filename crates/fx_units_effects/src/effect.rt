@@ -3,6 +3,7 @@ ghost use Rattle.fx_base.specs.Rect.{Holds, IsNear, columns, rows};
 ghost use Rattle.fx_pixel.specs.Pixel.{IsOfDepth, components_of};
 ghost use Rattle.fx_pixel.specs.declared.Components.TheVariants.{Rgba as RgbaSamples};
 
+use crate::same::{same, same_at};
 use fx_base::{Memory, Rect};
 use fx_effect::{
     Context, Description, Flags, Inputs, Numbers, Piece, Safety, Step, Steps, Values, clip_set,
@@ -10,6 +11,7 @@ use fx_effect::{
 };
 use fx_image::Image;
 use fx_pixel::{Components, Depth, Pixel};
+use fx_props::PropSet;
 use std::alloc::Global;
 use std::sync::Arc;
 use std::test::Fail;
@@ -43,44 +45,62 @@ const CLEAR: Pixel = Pixel::Rgba {
 };
 
 #[test]
-fn lists_give_back_what_they_hold(rt: HostRuntime) -> Result<(), Fail> {
-    let alloc = rt.alloc();
-    let numbers = Numbers::of(vec![in alloc; -1, 2]?);
-    assert_eq!(rt; numbers.items(), [-1, 2].as_slice());
-    assert_eq!(rt; numbers.into_items().as_slice(), [-1, 2].as_slice());
-    let flags = Flags::of(vec![in alloc; true, false]?);
-    assert_eq!(rt; flags.items(), [true, false].as_slice());
-    assert_eq!(rt; flags.into_items().as_slice(), [true, false].as_slice());
-    let values = Values {
+fn numbers_are_given_back(rt: HostRuntime) -> Result<(), Fail> {
+    let numbers = Numbers::of(vec![in rt.alloc(); -1, 2]?);
+    same(&rt, numbers.items(), [-1, 2].as_slice());
+    same(&rt, numbers.into_items().as_slice(), [-1, 2].as_slice());
+    Ok(())
+}
+
+#[test]
+fn flags_are_given_back(rt: HostRuntime) -> Result<(), Fail> {
+    let flags = Flags::of(vec![in rt.alloc(); true, false]?);
+    same(&rt, flags.items(), [true, false].as_slice());
+    same(&rt, flags.into_items().as_slice(), [true, false].as_slice());
+    Ok(())
+}
+
+// Values at frame 3 of the numbers 7 and -8.
+fn values_of(alloc: Global, connected: bool) -> Result<Values, Memory> {
+    Ok(Values {
         frame: 3,
         numbers: Numbers::of(vec![in alloc; 7, -8]?),
-        connected: Flags::of(vec![in alloc; true]?),
+        connected: Flags::of(vec![in alloc; connected]?),
         project: Rect::of(0, 0, 2, 1),
-    };
-    let others = Values {
-        frame: 3,
-        numbers: Numbers::of(vec![in alloc; 7, -8]?),
-        connected: Flags::of(vec![in alloc; false]?),
-        project: Rect::of(0, 0, 2, 1),
-    };
-    assert_eq!(rt; (values.number(1), values.number(2)), (-8, 0));
+    })
+}
+
+#[test]
+fn values_differ_by_their_flags(rt: HostRuntime) -> Result<(), Fail> {
+    let values = values_of(rt.alloc(), true)?;
+    same(&rt, (values.number(1), values.number(2)), (-8, 0));
+    let others = values_of(rt.alloc(), false)?;
     assert!(rt; values == values && values != others);
-    let step = Step {
-        depth: Depth::Byte,
-        components: Components::Alpha,
-    };
-    let steps = Steps::of(vec![in alloc; step]?);
-    assert_eq!(rt; steps.items(), [step].as_slice());
-    // To bytes as Alpha, and back to short samples as RGBA.
+    Ok(())
+}
+
+// To bytes as Alpha.
+const STEP: Step = Step {
+    depth: Depth::Byte,
+    components: Components::Alpha,
+};
+
+// GREY, once it was a byte.
+const REPEATED: Pixel = Pixel::Rgba {
+    r: 32896,
+    g: 32896,
+    b: 32896,
+    a: 32896,
+};
+
+// And back to short samples as RGBA.
+#[test]
+fn steps_are_taken_and_given_back(rt: HostRuntime) -> Result<(), Fail> {
+    let steps = Steps::of(vec![in rt.alloc(); STEP]?);
+    same(&rt, steps.items(), [STEP].as_slice());
     let back = steps.convert(GREY, Depth::Short, Depth::Short, Components::Rgba);
-    let repeated = Pixel::Rgba {
-        r: 32896,
-        g: 32896,
-        b: 32896,
-        a: 32896,
-    };
-    assert_eq!(rt; back, repeated);
-    assert_eq!(rt; steps.into_items().as_slice(), [step].as_slice());
+    same(&rt, back, REPEATED);
+    same(&rt, steps.into_items().as_slice(), [STEP].as_slice());
     Ok(())
 }
 
@@ -119,73 +139,85 @@ fn rows_are_read_from_pieces(rt: HostRuntime) -> Result<(), Fail> {
     let shown = [
         0, 0, 0, 0, 0, 0, 0, 0, 1, 2, 3, 4, 128, 128, 128, 128, 0, 0, 0, 0,
     ];
-    assert_eq!(rt; row.as_slice(), shown.as_slice());
+    same(&rt, row.as_slice(), shown.as_slice());
     let mut covered = [9; 12];
     inputs.read_row(0, 5, Rect::of(0, 0, 3, 1), 0, &mut covered);
-    assert_eq!(rt; covered.as_slice(), &shown[4..16]);
-    assert_eq!(rt;
+    same(&rt, covered.as_slice(), &shown[4..16]);
+    same(
+        &rt,
         (
             inputs.at(0, 5, 1, 0),
             inputs.at(0, 5, 2, 0),
-            inputs.at(0, 4, 1, 0)
+            inputs.at(0, 4, 1, 0),
         ),
-        (FOUR, BYTE_GREY, CLEAR)
+        (FOUR, BYTE_GREY, CLEAR),
     );
     Ok(())
 }
 
+// The texts of a description, by their names and indices.
+const TEXTS: &[(&str, u32, &str)] = &[
+    ("OfxPropLabel", 0, "Invert"),
+    (
+        "OfxImageEffectPropSupportedContexts",
+        0,
+        "OfxImageEffectContextFilter",
+    ),
+    (
+        "OfxImageEffectPropSupportedContexts",
+        1,
+        "OfxImageEffectContextGeneral",
+    ),
+    (
+        "OfxImageEffectPropSupportedPixelDepths",
+        0,
+        "OfxBitDepthByte",
+    ),
+    (
+        "OfxImageEffectPropSupportedPixelDepths",
+        1,
+        "OfxBitDepthShort",
+    ),
+    (
+        "OfxImageEffectPluginRenderThreadSafety",
+        0,
+        "OfxImageEffectRenderFullySafe",
+    ),
+];
+
+const INVERT: Description<'static> = Description {
+    label: "Invert",
+    contexts: &[Context::Filter, Context::General],
+    depths: &[Depth::Byte, Depth::Short],
+    temporal: false,
+    tiles: true,
+    safety: Safety::FullySafe,
+};
+
+fn text_in<'a>(set: &'a PropSet, name: &str, index: u32) -> &'a str {
+    set.get_text(name, index).ok().unwrap_or("")
+}
+
 #[test]
 fn a_filter_describes_itself(rt: HostRuntime) -> Result<(), Fail> {
-    let alloc = rt.alloc();
-    let mut set = descriptor(alloc)?;
-    let description = Description {
-        label: "Invert",
-        contexts: &[Context::Filter, Context::General],
-        depths: &[Depth::Byte, Depth::Short],
-        temporal: false,
-        tiles: true,
-        safety: Safety::FullySafe,
-    };
-    description.write(alloc, &mut set)?;
-    for (name, index, text) in [
-        ("OfxPropLabel", 0, "Invert"),
-        (
-            "OfxImageEffectPropSupportedContexts",
-            0,
-            "OfxImageEffectContextFilter",
-        ),
-        (
-            "OfxImageEffectPropSupportedContexts",
-            1,
-            "OfxImageEffectContextGeneral",
-        ),
-        (
-            "OfxImageEffectPropSupportedPixelDepths",
-            0,
-            "OfxBitDepthByte",
-        ),
-        (
-            "OfxImageEffectPropSupportedPixelDepths",
-            1,
-            "OfxBitDepthShort",
-        ),
-        (
-            "OfxImageEffectPluginRenderThreadSafety",
-            0,
-            "OfxImageEffectRenderFullySafe",
-        ),
-    ] {
-        assert_eq!(rt; set.get_text(name, index).ok().unwrap_or(""), text);
+    let mut set = descriptor(rt.alloc())?;
+    INVERT.write(rt.alloc(), &mut set)?;
+    for &(name, index, text) in TEXTS {
+        same_at(&rt, &name, text_in(&set, name, index), text);
     }
-    assert_eq!(rt;
-        set.get_int("OfxImageEffectPropTemporalClipAccess", 0),
-        Ok(0)
-    );
-    assert_eq!(rt; set.get_int("OfxImageEffectPropSupportsTiles", 0), Ok(1));
-    let clip = clip_set(alloc, "Mask", true, &[Components::Alpha])?;
-    assert_eq!(rt; clip.get_text("OfxPropName", 0).ok().unwrap_or(""), "Mask");
-    assert_eq!(rt; clip.get_int("OfxImageClipPropOptional", 0), Ok(1));
-    let components = clip.get_text("OfxImageEffectPropSupportedComponents", 0);
-    assert_eq!(rt; components.ok().unwrap_or(""), "OfxImageComponentAlpha");
+    let temporal = set.get_int("OfxImageEffectPropTemporalClipAccess", 0);
+    same(&rt, temporal, Ok(0));
+    let tiles = set.get_int("OfxImageEffectPropSupportsTiles", 0);
+    same(&rt, tiles, Ok(1));
+    Ok(())
+}
+
+#[test]
+fn a_clip_is_described(rt: HostRuntime) -> Result<(), Fail> {
+    let clip = clip_set(rt.alloc(), "Mask", true, &[Components::Alpha])?;
+    same(&rt, text_in(&clip, "OfxPropName", 0), "Mask");
+    same(&rt, clip.get_int("OfxImageClipPropOptional", 0), Ok(1));
+    let components = text_in(&clip, "OfxImageEffectPropSupportedComponents", 0);
+    same(&rt, components, "OfxImageComponentAlpha");
     Ok(())
 }

@@ -5,3 +5,5 @@
 mod actions;
 #[cfg(test)]
 mod effect;
+#[cfg(test)]
+mod same;

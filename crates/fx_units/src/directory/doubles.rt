@@ -4,6 +4,7 @@ ghost use Rattle.std.specs.Arc.{arc_value};
 ghost use Rattle.fx_core.specs.Answer.{IsFreshFor, Joins};
 ghost use Rattle.fx_turn.specs.Seats.{all_parts};
 
+use crate::same::same;
 use fx_core::{Answer, Flight, Permit, Totals};
 use fx_directory::{DirSeat, Directory, Suits};
 use std::process::Abort;
@@ -76,8 +77,8 @@ pub(crate) fn fly<R: Abort + Wait + AllocGlobal>(
 {
     match ask(rt, doubles, seat, key) {
         Answer::Fly(mut flight) => {
-            assert_eq!(rt; flight.ticket.number, number);
-            assert_eq!(rt; flight.ticket.scene, 7);
+            same(rt, flight.ticket.number, number);
+            same(rt, flight.ticket.scene, 7);
             assert!(rt; !flight.ticket.stamped);
             flight.ticket.stamped = true;
             flight
@@ -116,7 +117,7 @@ pub(crate) fn here<R: Abort + Wait + AllocGlobal>(
     ensures aloft { seat.new.aloft ≡ seat.old.aloft }
 {
     match ask(rt, doubles, seat, key) {
-        Answer::Here(kept) => assert_eq!(rt; kept.number, number),
+        Answer::Here(kept) => same(rt, kept.number, number),
         Answer::Busy => panic!(rt; "{key} flies"),
         Answer::Fly(_flight) => panic!(rt; "{key} isn't kept"),
     }
@@ -160,7 +161,7 @@ pub(crate) fn close(rt: &(impl Abort + AllocGlobal), doubles: Doubles, seat: Dou
 {
     match doubles.close(rt.alloc(), seat) {
         Ok((permit, totals)) => {
-            assert_eq!(rt; permit.scene, 7);
+            same(rt, permit.scene, 7);
             totals
         }
         Err(_) => panic!(rt; "no memory"),

@@ -1,6 +1,7 @@
 //! One script at two capacities, worked by hand: ask for 1 twice, land it, ask for 1, ask for 2, land it, ask
 //! for 1, and drop what still flies. Then a directory that goes on under another name.
 use crate::directory::doubles::{busy, close, fly, here, land, let_go, start};
+use crate::same::same;
 use fx_core::Totals;
 
 #[test]
@@ -23,7 +24,7 @@ fn one_is_kept(rt: HostRuntime) {
         dropped: 1,
         evicted: 1,
     };
-    assert_eq!(rt; close(&rt, doubles, seat), by_hand);
+    same(&rt, close(&rt, doubles, seat), by_hand);
 }
 
 // What landed isn't kept, so that the fourth ask flies too.
@@ -46,7 +47,7 @@ fn none_is_kept(rt: HostRuntime) {
         dropped: 1,
         evicted: 0,
     };
-    assert_eq!(rt; close(&rt, doubles, seat), by_hand);
+    same(&rt, close(&rt, doubles, seat), by_hand);
 }
 
 #[test]
@@ -67,5 +68,5 @@ fn what_is_kept_stays_under_another_name(rt: HostRuntime) {
         dropped: 0,
         evicted: 0,
     };
-    assert_eq!(rt; close(&rt, doubles, seat), by_hand);
+    same(&rt, close(&rt, doubles, seat), by_hand);
 }

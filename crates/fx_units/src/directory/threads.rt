@@ -4,6 +4,7 @@ ghost use Rattle.std.specs.Arc.{arc_value};
 ghost use Rattle.fx_units.specs.DirectoryAskers.{IsIdle};
 
 use crate::directory::doubles::{Double, DoubleSeat, Doubles, close, fly, land, start};
+use crate::same::same;
 use fx_base::Memory;
 use fx_core::{Answer, Flight, Totals};
 use std::alloc::Global;
@@ -189,9 +190,9 @@ fn four_threads_ask_at_random(rt: HostRuntime) -> Result<(), Fail> {
     )?;
     let noted = join_all(&doubles, &mut first, askers);
     let totals = close(&rt, doubles, first);
-    assert_eq!(rt; totals.asks, 1000);
+    same(&rt, totals.asks, 1000);
     let evicted = totals.landed.saturating_sub(3);
-    assert_eq!(rt; totals, Totals { evicted, ..noted });
+    same(&rt, totals, Totals { evicted, ..noted });
     Ok(())
 }
 
@@ -242,7 +243,7 @@ fn two_threads_have_one_flight(rt: HostRuntime) -> Result<(), Fail> {
         dropped: 0,
         evicted: 0,
     };
-    assert_eq!(rt; one_flight_for_all(&rt, 2)?, by_hand);
+    same(&rt, one_flight_for_all(&rt, 2)?, by_hand);
     Ok(())
 }
 
@@ -257,6 +258,6 @@ fn eight_threads_have_one_flight(rt: HostRuntime) -> Result<(), Fail> {
         dropped: 0,
         evicted: 0,
     };
-    assert_eq!(rt; one_flight_for_all(&rt, 8)?, by_hand);
+    same(&rt, one_flight_for_all(&rt, 8)?, by_hand);
     Ok(())
 }

@@ -7,6 +7,7 @@ mod effect;
 mod fetching;
 mod notes;
 
+use crate::same::{same, same_at};
 use crate::tile::counting::course::is_lawful;
 use crate::tile::counting::effect::Counted;
 use crate::tile::counting::notes::Notes;
@@ -207,12 +208,12 @@ fn rendered<'a, R: Threads + Wait + Sync>(
 
 // Each pixel of the picture is that of the source at its place.
 fn shows_the_source<R: Abort>(rt: &R, picture: &Image) {
-    assert_eq!(rt; picture.rect(), Rect::of(0, 0, 8, 8));
+    same(rt, picture.rect(), Rect::of(0, 0, 8, 8));
     for k in 0..SIDE * SIDE {
         let (x, y) = (k % 8, k / 8);
         let [r, g, b, a] = samples(x, y).map(u16::from);
         let pixel = picture.at(i64::from(x), i64::from(y));
-        assert_eq!(rt; pixel, Pixel::Rgba { r, g, b, a }, "at {x} {y}");
+        same_at(rt, &(&x, &y), pixel, Pixel::Rgba { r, g, b, a });
     }
 }
 
@@ -235,15 +236,15 @@ fn are_called<R: Threads + Wait + Abort + Sync>(
     let Outcome { made, totals } = by_four(rt, alloc, plugins)?;
     let (picture, count) = made?;
     shows_the_source(rt, &picture);
-    assert_eq!(rt; count, TOTAL);
-    assert_eq!(rt; plugins.calls(), count.landed);
-    assert_eq!(rt; totals.landed, count.landed);
+    same(rt, count, TOTAL);
+    same(rt, plugins.calls(), count.landed);
+    same(rt, totals.landed, count.landed);
     for notes in [&plugins.single, &plugins.instance, &plugins.fully] {
-        assert_eq!(rt; notes.calls(), 32);
+        same(rt, notes.calls(), 32);
     }
     assert!(rt; plugins.are_lawful(alloc)?);
-    assert_eq!(rt; plugins.single.most_at_once(), 1);
-    assert_eq!(rt; plugins.instance.most_at_once(), 1);
+    same(rt, plugins.single.most_at_once(), 1);
+    same(rt, plugins.instance.most_at_once(), 1);
     assert!(rt; plugins.fully.was_joined());
     Ok(())
 }
@@ -264,9 +265,13 @@ fn lacks_memory<R: Threads + Wait + Abort + Sync>(
     plugins.single.lack_memory();
     let Outcome { made, totals } = by_four(rt, alloc, plugins)?;
     assert!(rt; made.is_err());
-    assert_eq!(rt; totals.dropped, 6);
-    assert_eq!(rt; totals.flights, totals.landed.wrapping_add(totals.dropped));
-    assert_eq!(rt; plugins.calls(), totals.landed);
+    same(rt, totals.dropped, 6);
+    same(
+        rt,
+        totals.flights,
+        totals.landed.wrapping_add(totals.dropped),
+    );
+    same(rt, plugins.calls(), totals.landed);
     assert!(rt; plugins.are_lawful(alloc)?);
     Ok(())
 }

@@ -1,4 +1,5 @@
 //! Renders of nodes that have gates: what they read is there before the gate is held.
+use crate::same::same;
 use crate::tile::counting::effect::Counted;
 use crate::tile::counting::{A_WHILE, AT_FIRST, Outcome, Plugins, rendered, shows_the_source};
 use fx_base::Memory;
@@ -62,15 +63,16 @@ fn inputs_meet<R: Threads + Wait + Abort + Sync>(
     let (picture, count) = made?;
     assert!(rt; plugins.fully.was_joined(), "under {gated}");
     shows_the_source(rt, &picture);
-    assert_eq!(rt; count, TOTAL);
-    assert_eq!(rt; totals.landed, count.landed);
-    assert_eq!(rt; plugins.fully.calls(), 16);
-    assert_eq!(rt;
+    same(rt, count, TOTAL);
+    same(rt, totals.landed, count.landed);
+    same(rt, plugins.fully.calls(), 16);
+    same(
+        rt,
         plugins
             .single
             .most_at_once()
             .max(plugins.instance.most_at_once()),
-        1
+        1,
     );
     Ok(())
 }

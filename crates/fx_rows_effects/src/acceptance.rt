@@ -1,5 +1,6 @@
 //! Graph files that are read and accepted over the effects of the program: how many nodes they have, or the code and
 //! the path of their first fault.
+use crate::same::{same, same_at};
 use fx_effect::Context;
 use fx_graph::{Graph, Node, Work, accept};
 use fx_pixel::{Components, Depth};
@@ -421,7 +422,7 @@ fn nodes_are_accepted_or_refused(rt: HostRuntime) -> Result<(), AllocError> {
         )?;
         let text = file_of(alloc, "z", "o#.pam", nodes.as_str())?;
         let answer = told(alloc, text.as_str())?;
-        assert_eq!(rt; answer.as_str(), *wanted, "at {nodes}");
+        same_at(&rt, &nodes, answer.as_str(), *wanted);
     }
     Ok(())
 }
@@ -508,7 +509,7 @@ fn the_output_is_accepted_or_refused_last(rt: HostRuntime) -> Result<(), AllocEr
     for (node, file, nodes, wanted) in OUTPUTS {
         let text = file_of(alloc, node, file, nodes)?;
         let answer = told(alloc, text.as_str())?;
-        assert_eq!(rt; answer.as_str(), *wanted, "at {text}");
+        same_at(&rt, &text, answer.as_str(), *wanted);
     }
     Ok(())
 }
@@ -542,12 +543,13 @@ fn forms_are_negotiated(rt: HostRuntime) -> Result<(), Fail> {
     let alloc = rt.alloc();
     let text = file_of(alloc, "z", "o#.pam", FORMED)?;
     let graph = graph_of(alloc, text.as_str()).ok().ok_or("refused")?;
-    assert_eq!(rt; graph.nodes.len(), FORMS.len());
+    same(&rt, graph.nodes.len(), FORMS.len());
     for (at, (name, depth, components)) in FORMS.iter().enumerate() {
         let node = graph.nodes.get(at).ok_or("no node")?;
-        assert_eq!(rt;
+        same(
+            &rt,
             (node.name.text(), node.depth, node.components),
-            (*name, *depth, *components)
+            (*name, *depth, *components),
         );
     }
     Ok(())
@@ -602,11 +604,11 @@ fn a_graph_is_made(rt: HostRuntime) -> Result<(), Fail> {
     let alloc = rt.alloc();
     let text = file_of(alloc, "z", "o.##.pam", MADE)?;
     let graph = graph_of(alloc, text.as_str()).ok().ok_or("refused")?;
-    assert_eq!(rt; (graph.output, graph.first, graph.last), (1, 0, 9));
-    assert_eq!(rt; graph.file.name(alloc, 8)?.text(), "o.08.pam");
-    assert_eq!(rt; (graph.project.x2, graph.project.y2), (4, 2));
-    assert_eq!(rt; graph.nodes.len(), 4);
+    same(&rt, (graph.output, graph.first, graph.last), (1, 0, 9));
+    same(&rt, graph.file.name(alloc, 8)?.text(), "o.08.pam");
+    same(&rt, (graph.project.x2, graph.project.y2), (4, 2));
+    same(&rt, graph.nodes.len(), 4);
     assert!(rt; graph.nodes.iter().any(is_blur));
-    assert_eq!(rt; numbers_at(alloc, &graph, 4)?.as_slice(), NUMBERS);
+    same(&rt, numbers_at(alloc, &graph, 4)?.as_slice(), NUMBERS);
     Ok(())
 }

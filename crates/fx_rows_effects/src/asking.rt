@@ -10,8 +10,9 @@ ghost use Rattle.fx_pixel.specs.declared.Components.TheVariants.{Rgba};
 ghost use Rattle.fx_effect.specs.Shape.{IsLawful, IsLawfulIn, clip_names, optional_flags, shown_components, supports};
 ghost use Rattle.fx_effect.specs.Asked.{AreRegions, IsWindow, MayRender};
 ghost use Rattle.fx_shipped.specs.Shipped.{meaning_of};
-ghost use Rattle.fx_rows.specs.Asked.{IsSmallWindow};
+ghost use Rattle.fx_rows_effects.specs.Asked.{IsSmallWindow};
 
+use crate::same::{same, same_at};
 use fx_actions::{frames_needed, identity, region_of_definition, regions_of_interest};
 use fx_base::{Memory, Name, Names, Rect};
 use fx_core::Ticket;
@@ -171,7 +172,7 @@ fn rect_of(bounds: &Bounds) -> Rect {
 fn describes(rt: &impl Abort, alloc: Global, effect: Shipped, row: &Row<'_>) -> Result<(), Fail> {
     let mut set = descriptor(alloc)?;
     effect.describe(alloc, &mut set)?;
-    assert_eq!(rt; set.get_text("OfxPropLabel", 0)?, row.label);
+    same(rt, set.get_text("OfxPropLabel", 0)?, row.label);
     texts(
         rt,
         &set,
@@ -186,17 +187,17 @@ fn describes(rt: &impl Abort, alloc: Global, effect: Shipped, row: &Row<'_>) -> 
     )?;
     let temporal = set.get_int("OfxImageEffectPropTemporalClipAccess", 0)?;
     let tiles = set.get_int("OfxImageEffectPropSupportsTiles", 0)?;
-    assert_eq!(rt; (temporal, tiles), (row.temporal, 1), "{}", row.label);
+    same_at(rt, &row.label, (temporal, tiles), (row.temporal, 1));
     let safety = set.get_text("OfxImageEffectPluginRenderThreadSafety", 0)?;
-    assert_eq!(rt; safety, row.safety, "{}", row.label);
+    same_at(rt, &row.label, safety, row.safety);
     Ok(())
 }
 
 // The property has these texts and no others.
 fn texts(rt: &impl Abort, set: &PropSet, name: &str, wanted: &[&str]) -> Result<(), Fail> {
-    assert_eq!(rt; set.dimension(name)? as usize, wanted.len(), "{name}");
+    same_at(rt, &name, set.dimension(name)? as usize, wanted.len());
     for (index, text) in wanted.iter().enumerate() {
-        assert_eq!(rt; set.get_text(name, index as u32)?, *text, "{name}");
+        same_at(rt, &name, set.get_text(name, index as u32)?, *text);
     }
     Ok(())
 }
@@ -214,16 +215,11 @@ fn describes_in(
     let mut defs = Vec::new(alloc);
     effect.describe_in_context(alloc, context, &mut sets, &mut defs)?;
     let lengths = (sets.len(), defs.len());
-    assert_eq!(rt;
-        lengths,
-        (row.clips.len(), row.params.len()),
-        "{}",
-        row.label
-    );
+    same_at(rt, &row.label, lengths, (row.clips.len(), row.params.len()));
     for (set, clip) in sets.iter().zip(row.clips) {
-        assert_eq!(rt; set.get_text("OfxPropName", 0)?, clip.name);
+        same(rt, set.get_text("OfxPropName", 0)?, clip.name);
         let optional = set.get_int("OfxImageClipPropOptional", 0)?;
-        assert_eq!(rt; optional, clip.optional, "{}", clip.name);
+        same_at(rt, &clip.name, optional, clip.optional);
         texts(
             rt,
             set,
@@ -238,23 +234,23 @@ fn describes_in(
 }
 
 fn same_parameter(rt: &impl Abort, def: &ParamDef, wanted: &Parameter) -> Result<(), Fail> {
-    assert_eq!(rt; def.name.text(), wanted.name);
-    assert_eq!(rt; def.kind, wanted.kind, "{}", wanted.name);
+    same(rt, def.name.text(), wanted.name);
+    same_at(rt, &wanted.name, def.kind, wanted.kind);
     let numbers = (def.least, def.greatest, def.start);
-    assert_eq!(rt;
+    same_at(
+        rt,
+        &wanted.name,
         numbers,
         (wanted.least, wanted.greatest, wanted.start),
-        "{}",
-        wanted.name
     );
-    assert_eq!(rt;
+    same_at(
+        rt,
+        &wanted.name,
         def.choices.items().len(),
         wanted.choices.len(),
-        "{}",
-        wanted.name
     );
     for (choice, text) in def.choices.items().iter().zip(wanted.choices) {
-        assert_eq!(rt; choice.text(), *text);
+        same(rt, choice.text(), *text);
     }
     Ok(())
 }
@@ -360,16 +356,16 @@ fn answers_of(
 }
 
 fn same_answers(rt: &impl Abort, found: &Answers, row: &Row<'_>) -> Result<(), Fail> {
-    assert_eq!(rt; found.region, row.region, "{}", row.label);
-    assert_eq!(rt; found.interest.len(), row.interest.len(), "{}", row.label);
+    same_at(rt, &row.label, found.region, row.region);
+    same_at(rt, &row.label, found.interest.len(), row.interest.len());
     for (region, wanted) in found.interest.iter().zip(row.interest) {
-        assert_eq!(rt; *region, rect_of(wanted), "{}", row.label);
+        same_at(rt, &row.label, *region, rect_of(wanted));
     }
-    assert_eq!(rt; found.frames.len(), row.frames.len(), "{}", row.label);
+    same_at(rt, &row.label, found.frames.len(), row.frames.len());
     for (spans, wanted) in found.frames.iter().zip(row.frames) {
-        assert_eq!(rt; spans.as_slice(), *wanted, "{}", row.label);
+        same_at(rt, &row.label, spans.as_slice(), *wanted);
     }
-    assert_eq!(rt; found.identity, row.identity, "{}", row.label);
+    same_at(rt, &row.label, found.identity, row.identity);
     Ok(())
 }
 
@@ -527,7 +523,7 @@ fn same_pixels(rt: &impl Abort, image: &Image, wanted: &[[u16; 4]]) -> Result<()
         for x in rect.x1..rect.x2 {
             let samples = left.next().copied().unwrap_or([0, 0, 0, 0]);
             let pixel = pixel_of(image.depth(), image.components(), &samples);
-            assert_eq!(rt; image.at(x, y), pixel, "{x} {y}");
+            same_at(rt, &(&x, &y), image.at(x, y), pixel);
         }
     }
     Ok(())

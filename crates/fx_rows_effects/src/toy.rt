@@ -2,7 +2,7 @@
 ghost use Rattle.std.specs.Prelude.{◌≡◌, Some, None, codes, if◌then◌else◌, refl};
 ghost use Rattle.std.specs.Str.{bytes_eq};
 ghost use Rattle.fx_pixel.specs.Pixel.{zero};
-ghost use Rattle.fx_rows.specs.Toy.{toy, toy_laws, few_toys};
+ghost use Rattle.fx_rows_effects.specs.Toy.{toy, toy_laws, few_toys};
 
 use fx_base::{Fix, Memory, Rect};
 use fx_core::Ticket;

@@ -2,6 +2,7 @@
 ghost use Rattle.std.specs.Prelude.{◌≡◌, ◌<◌, ◌^◌};
 ghost use Rattle.fx_effect.specs.declared.action.Context.TheVariants as context;
 
+use crate::same::same;
 use crate::toy::Toy;
 use fx_base::{Memory, Rect};
 use fx_core::Ticket;
@@ -90,11 +91,11 @@ fn actions_come_in_order(rt: HostRuntime) -> Result<(), Fail> {
     };
     let (image, stamped) = one_renders(&rt, rt.alloc(), effect)?;
     // loaded, described, and in its context; created; begun from 4 to 9; rendered; ended; destroyed; unloaded
-    assert_eq!(rt; notes.load(Ordering::SeqCst), 1234549674989);
+    same(&rt, notes.load(Ordering::SeqCst), 1234549674989);
     assert!(rt; stamped);
     // Column 0 is left of the window, and column 2 in it.
-    assert_eq!(rt; image.at(0, 1), GREY);
-    assert_eq!(rt; image.at(2, 0), CLEAR);
+    same(&rt, image.at(0, 1), GREY);
+    same(&rt, image.at(2, 0), CLEAR);
     Ok(())
 }
 
@@ -106,7 +107,7 @@ fn instances_stand_before_sequences_begin(rt: HostRuntime) -> Result<(), Fail> {
     };
     Running::start(rt.alloc(), effect, &[used_by(8), used_by(9)], 4, 9)?.finish();
     // Both are created, both begin; both end, both are destroyed.
-    assert_eq!(rt; notes.load(Ordering::SeqCst), 12344549549749749889);
+    same(&rt, notes.load(Ordering::SeqCst), 12344549549749749889);
     Ok(())
 }
 
@@ -118,7 +119,7 @@ fn an_effect_without_instances_is_described(rt: HostRuntime) -> Result<(), Fail>
     };
     Running::start(rt.alloc(), effect, &[], 4, 9)?.finish();
     // loaded, described, unloaded
-    assert_eq!(rt; notes.load(Ordering::SeqCst), 129);
+    same(&rt, notes.load(Ordering::SeqCst), 129);
     Ok(())
 }
 
@@ -149,12 +150,12 @@ fn gate_of<E: Catalogue + Drop>(alloc: Global, name: &str, node: u32) -> Result<
 #[test]
 fn gates_are_the_plugins_or_the_instances(rt: HostRuntime) -> Result<(), Fail> {
     let alloc = rt.alloc();
-    assert_eq!(rt; gate_of::<Toy<'_>>(alloc, "toy", 0)?, Some(3));
-    assert_eq!(rt; gate_of::<Toy<'_>>(alloc, "toy", 9)?, Some(3));
-    assert_eq!(rt; gate_of::<Toy<'_>>(alloc, "nobody", 9)?, None);
+    same(&rt, gate_of::<Toy<'_>>(alloc, "toy", 0)?, Some(3));
+    same(&rt, gate_of::<Toy<'_>>(alloc, "toy", 9)?, Some(3));
+    same(&rt, gate_of::<Toy<'_>>(alloc, "nobody", 9)?, None);
     // The number of an unsafe effect, and 64 plus the node of one whose instances are safe.
-    assert_eq!(rt; gate_of::<Shipped>(alloc, "frameblend", 9)?, Some(19));
-    assert_eq!(rt; gate_of::<Shipped>(alloc, "boxblur", 9)?, Some(73));
-    assert_eq!(rt; gate_of::<Shipped>(alloc, "solid", 9)?, None);
+    same(&rt, gate_of::<Shipped>(alloc, "frameblend", 9)?, Some(19));
+    same(&rt, gate_of::<Shipped>(alloc, "boxblur", 9)?, Some(73));
+    same(&rt, gate_of::<Shipped>(alloc, "solid", 9)?, None);
     Ok(())
 }

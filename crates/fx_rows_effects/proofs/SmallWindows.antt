@@ -8,7 +8,7 @@ use Rattle.fx_pixel.specs.declared.Depth.{Depth}
 use Rattle.fx_pixel.specs.declared.Depth.TheVariants.{Byte, Short}
 use Rattle.fx_pixel.specs.declared.Components.TheVariants.{Rgba}
 use Rattle.fx_image.specs.Stored.{pixel_size}
-use Rattle.fx_rows.specs.Asked.{IsSmallWindow}
+use Rattle.fx_rows_effects.specs.Asked.{IsSmallWindow}
 
 few_between : (a b : ℤ) → negsuc 63 ≤ℤ a → b ≤ℤ pos 64 → int_gap a b ≤ 128
 few_between (pos a) (pos b) left right = omega (arith, ints, right)

@@ -1,5 +1,5 @@
 use Rattle.std.proofs.Common.{◌≡◌}
-use Rattle.fx_rows.proofs.asking.inputs_of.Given as goal
+use Rattle.fx_rows_effects.proofs.asking.inputs_of.Given as goal
 
 abbrev pub invariant-loop-frame : goal.invariant-loop-frame
 invariant-loop-frame l =
