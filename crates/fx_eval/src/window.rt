@@ -207,5 +207,5 @@ fn row_bytes_of(region: Rect, depth: Depth, components: Components) -> u32
     ensures value { result ≡ columns region * pixel_size depth components }
     ensures small { result ≤ 32768 }
 {
-    (region.x2 - region.x1) as u32 * components.count() * depth.size()
+    region.width() as u32 * components.count() * depth.size()
 }
