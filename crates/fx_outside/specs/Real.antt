@@ -1,8 +1,13 @@
--- What clauses see of a standard stream.
+-- What clauses see of the files that are read, and of a standard stream.
 use Rattle.std.specs.Prelude.{ℕ}
+use Rattle.fx_outside.specs.declared.real.FileLibrary.{FileLibrary}
 use Rattle.fx_outside.specs.declared.real.StdSink.{StdSink}
 
--- what it writes to
+-- how many bytes of a file are a fault
+abbrev pub too_many : {R S T : Type 0} → FileLibrary R S T → ℕ
+too_many library = library.too_many
+
+-- what a stream writes to
 abbrev pub stream : {W : Type 0} → StdSink W → W
 stream sink = sink.writer
 

@@ -13,6 +13,6 @@ mod traits;
 
 pub use fault::{FetchFault, PutFault};
 pub use memory::{MemoryDepot, MemoryLibrary, MemorySink};
-pub use real::{FileDepot, FileLibrary, StdSink, read_all};
+pub use real::{FileDepot, FileLibrary, StdSink};
 pub use sure::{SureDepot, SureLibrary, SureSink};
 pub use traits::{Depot, FreePace, Library, Pace, Sink};

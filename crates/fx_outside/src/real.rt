@@ -3,10 +3,10 @@
 //!
 //! `Memory` comes from copying the name and from opening alone. Once a file is open or a byte was taken,
 //! whatever goes wrong is a fault: it is `Failed`, and counted.
-ghost use Rattle.std.specs.Prelude.{◌≡◌, ◌≤◌, ◌<◌, ◌^◌, None, [], IfOk, IfErr, IfSome, OnOk, OnErr, IsErrOf, vec_len};
+ghost use Rattle.std.specs.Prelude.{◌≡◌, ◌≤◌, ◌<◌, ◌+◌, ◌^◌, None, Some, [], IfOk, IfErr, IfSome, OnOk, OnErr, IsErrOf, vec_len};
 ghost use Rattle.std.specs.Io.KnownBytes.{Appends};
 ghost use Rattle.fx_outside.specs.Outside.{HasRisen};
-ghost use Rattle.fx_outside.specs.Real.{stream, stream_faults};
+ghost use Rattle.fx_outside.specs.Real.{too_many, stream, stream_faults};
 ghost use Rattle.fx_outside.specs.Tally.{one_more};
 
 use crate::{Depot, FetchFault, Library, PutFault, Sink};
@@ -16,7 +16,7 @@ use std::io::{ErrorKind, Read, Write};
 use std::rt::Files;
 use std::{fs, io};
 
-// The longest file that is read, in bytes.
+// The longest file that is read, in bytes, where no less is said.
 const LONGEST: u64 = 1 << 32;
 
 // How many calls failed, and the name of the last that did.
@@ -50,39 +50,40 @@ fn is_memory(e: &io::Error) -> bool {
     e.kind() == ErrorKind::OutOfMemory
 }
 
-/// All that the reader gives. More than so many bytes are a fault, and so is whatever goes wrong.
-pub fn read_all<F: Read + Drop>(
-    alloc: Global,
-    reader: F,
-    longest: u64,
-) -> Result<Vec<u8>, FetchFault>
-    requires { longest < 2 ^ 63 }
+// All that the reader gives. So many bytes or more are a fault, and so is whatever goes wrong.
+fn read_all<F: Read + Drop>(alloc: Global, reader: F, too_many: u64) -> Result<Vec<u8>, FetchFault>
     ensures all { IfOk result (λ bytes. IfSome (F.remaining reader) (λ given. bytes.items ≡ given)) }
-    ensures fits { IfOk result (λ bytes. vec_len bytes ≤ longest) }
+    ensures fits { IfOk result (λ bytes. vec_len bytes < too_many) }
     ensures failed { IfErr result (λ fault. fault ≡ FetchFault.Failed) }
 {
     let mut bytes = Vec::new(alloc);
-    // One byte more shows that there are too many.
-    match reader.take(longest + 1).read_to_end(&mut bytes) {
-        Ok(_) if bytes.len() as u64 <= longest => Ok(bytes),
+    // Asking for as many as are too many shows whether there are.
+    match reader.take(too_many).read_to_end(&mut bytes) {
+        Ok(_) if (bytes.len() as u64) < too_many => Ok(bytes),
         _ => Err(FetchFault::Failed),
     }
 }
 
-/// Writes all the bytes. Whatever goes wrong is a fault.
-pub fn write_all<W: Write>(writer: &mut W, bytes: &[u8]) -> Result<(), PutFault>
+// Writes all the bytes. Whatever goes wrong is a fault.
+fn write_all<W: Write>(writer: &mut W, bytes: &[u8]) -> Result<(), PutFault>
     ensures all { OnOk result (Appends (W.contents writer.old) (W.contents writer.new) bytes.now) }
     ensures failed { IfErr result (λ fault. fault ≡ PutFault.Failed) }
 {
     writer.write_all(bytes).map_err(|_| PutFault::Failed)
 }
 
-// Reads the file of this name, which comes back where that fails.
-fn read_file<R: Files>(rt: &R, alloc: Global, name: Name) -> Result<Vec<u8>, (Name, FetchFault)>
-    ensures { IfErr result (λ e. e.0 ≡ name) }
+// Reads the file of this name, which comes back where that fails. So many bytes or more are a fault.
+fn read_file<R: Files>(
+    rt: &R,
+    alloc: Global,
+    name: Name,
+    too_many: u64,
+) -> Result<Vec<u8>, (Name, FetchFault)>
+    ensures fits { IfOk result (λ bytes. vec_len bytes < too_many) }
+    ensures named { IfErr result (λ e. e.0 ≡ name) }
 {
     let read = match fs::open(rt, name.text()) {
-        Ok(file) => read_all(alloc, file, LONGEST),
+        Ok(file) => read_all(alloc, file, too_many),
         Err(e) if is_memory(&e) => Err(FetchFault::Memory),
         Err(_) => Err(FetchFault::Failed),
     };
@@ -111,16 +112,32 @@ fn write_file<R: Files>(rt: &R, name: Name, bytes: &[u8]) -> Result<(), (Name, P
 #[derive(Drop)]
 pub struct FileLibrary<'r, R: Files> {
     rt: &'r R,
+    // How many bytes of a file are a fault.
+    too_many: u64,
     faults: Faults,
 }
 
 impl<'r, R: Files> FileLibrary<'r, R> {
     /// No fault yet.
     pub fn new(rt: &'r R, alloc: Global) -> FileLibrary<'r, R>
-        ensures { ⟦<FileLibrary<'r, R> as Library>⟧.faults result ≡ 0 }
+        ensures limit { too_many result ≡ 2 ^ 32 + 1 }
+        ensures none { ⟦<FileLibrary<'r, R> as Library>⟧.faults result ≡ 0 }
     {
         FileLibrary {
             rt,
+            too_many: LONGEST + 1,
+            faults: Faults::none(alloc),
+        }
+    }
+
+    /// As `new`, but a file of more than `longest` bytes is a fault already.
+    pub fn within(rt: &'r R, alloc: Global, longest: u32) -> FileLibrary<'r, R>
+        ensures limit { too_many result ≡ longest + 1 }
+        ensures none { ⟦<FileLibrary<'r, R> as Library>⟧.faults result ≡ 0 }
+    {
+        FileLibrary {
+            rt,
+            too_many: u64::from(longest) + 1,
             faults: Faults::none(alloc),
         }
     }
@@ -135,9 +152,18 @@ impl<'r, R: Files> Library for FileLibrary<'r, R> {
 
     ghost last = { λ l. l.faults.last };
 
-    fn fetch(&mut self, alloc: Global, name: &str) -> Result<Vec<u8>, FetchFault> {
+    fn fetch(&mut self, alloc: Global, name: &str) -> Result<Vec<u8>, FetchFault>
+        ensures fits { IfOk result (λ bytes. vec_len bytes < too_many self.old) }
+        ensures limit_stays { too_many self.new ≡ too_many self.old }
+        ensures bytes { ⊥ → IfOk result (λ bytes. None ≡ Some bytes.items) }
+        ensures later { self.old.faults.count ≤ self.new.faults.count }
+        ensures failed { IsErrOf result FetchFault.Failed → HasRisen self.old.faults.count self.new.faults.count }
+        ensures named { IsErrOf result FetchFault.Failed → self.new.faults.last ≡ name.now }
+        ensures last_stays { (IsErrOf result FetchFault.Failed → ⊥) → self.new.faults.last ≡ self.old.faults.last }
+        ensures count_stays { (IsErrOf result FetchFault.Failed → ⊥) → self.new.faults.count ≡ self.old.faults.count }
+    {
         let copy = Name::of(String::from_str(alloc, name)?);
-        match read_file(self.rt, alloc, copy) {
+        match read_file(self.rt, alloc, copy, self.too_many) {
             Ok(bytes) => Ok(bytes),
             Err((_, FetchFault::Memory)) => Err(FetchFault::Memory),
             Err((read, FetchFault::Failed)) => {

@@ -2,7 +2,7 @@ use crate::same::{same, same_at};
 use fx_base::Name;
 use fx_outside::{
     Depot, FetchFault, FileDepot, FileLibrary, FreePace, Library, MemoryDepot, MemoryLibrary,
-    MemorySink, Pace, PutFault, Sink, StdSink, SureDepot, SureLibrary, SureSink, read_all,
+    MemorySink, Pace, PutFault, Sink, StdSink, SureDepot, SureLibrary, SureSink,
 };
 use std::alloc::{AllocError, Global};
 use std::test::Fail;
@@ -155,9 +155,18 @@ fn real_files_are_written_and_read(rt: HostRuntime) -> Result<(), Fail> {
 }
 
 #[test]
-fn a_reader_is_read_up_to_the_longest(rt: HostRuntime) {
-    for (longest, wanted) in [(3, Some(3)), (4, Some(3)), (2, None)] {
-        let read = read_all(rt.alloc(), b"abc".as_slice(), longest);
-        same_at(&rt, &longest, read.ok().map(|bytes| bytes.len()), wanted);
+fn a_file_is_read_up_to_the_longest(rt: HostRuntime) -> Result<(), Fail> {
+    let alloc = rt.alloc();
+    FileDepot::new(&rt, alloc).put(alloc, "fx_outside_limit.bin", b"abc")?;
+    for (longest, wanted) in [
+        (3, Ok(3)),
+        (4, Ok(3)),
+        (u32::MAX, Ok(3)),
+        (2, Err(FetchFault::Failed)),
+        (0, Err(FetchFault::Failed)),
+    ] {
+        let read = FileLibrary::within(&rt, alloc, longest).fetch(alloc, "fx_outside_limit.bin");
+        same_at(&rt, &longest, read.map(|bytes| bytes.len()), wanted);
     }
+    Ok(())
 }
