@@ -1,4 +1,5 @@
-//! The unit tests of fx_tile: frames by workers over effects that note and count their calls.
+//! The unit tests of fx_tile and of a scene: frames by workers over effects that note and count their calls, and the keys
+//! of their scene.
 #![tactic(auto)]
 
 #[cfg(test)]

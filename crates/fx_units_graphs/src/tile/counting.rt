@@ -6,6 +6,7 @@ mod course;
 mod effect;
 mod fetching;
 mod notes;
+mod scene;
 
 use crate::same::{same, same_at};
 use crate::tile::counting::course::is_lawful;
