@@ -1,13 +1,14 @@
 #!/usr/bin/env bash
-# frames.sh: what a render of HD frames costs: 24 frames of 1,920 by 1,080 pixels, r, g, b and a in bytes. By one worker
-# it renders one invert and five, a graph of seven effects up to each of its nodes (what one node adds is its share), and
-# the whole graph in tiles of four sides; and the whole graph by one, two and four workers. It prints microseconds a frame
-# and the peak of memory. The frames are read from and written to files in memory. It works in a folder of its own there.
+# frames.sh [RUNS [FRAMES]]: what a render of HD frames costs, each the best of 3 runs or of RUNS: 24 frames, or FRAMES, of
+# 1,920 by 1,080 pixels, r, g, b and a in bytes. By one worker it renders one invert and five, a graph of seven effects up
+# to each of its nodes (what one node adds is its share), and the whole graph in tiles of four sides; and the whole graph by
+# one, two and four workers. It prints microseconds a frame and the peak of memory. The frames are read from and written to
+# files in memory. It works in a folder of its own there.
 set -eu
 here=$(cd "$(dirname "${BASH_SOURCE[0]}")/.." && pwd)
 program=$here/crates/ofxr/out/ofxr
-frames=24
 runs=${1:-3}
+frames=${2:-24}
 
 if [ ! -x "$program" ]; then
   echo "frames.sh: build the program first: rt run, in crates/ofxr" >&2
