@@ -2,3 +2,4 @@ mod Slope
 mod KeyLemmas
 pub mod ValueLemmas
 mod ParamLemmas
+mod DivideLemmas

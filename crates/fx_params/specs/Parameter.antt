@@ -1,6 +1,6 @@
 -- A parameter and its value over the frames.
-use Rattle.std.specs.Prelude.{◌≡◌, ℕ, ◌+◌, ◌-◌, ℤ, pos, negsuc, ◌+ℤ◌, ◌-ℤ◌, ◌*ℤ◌, ◌≤ℤ◌, ◌<ℤ◌, Bool, true, false, ◌||◌, List, [], ◌∷◌, length, slice_get, slice_index_or, ◌==◌, All, Some, if◌then◌else◌}
-use Rattle.std.specs.Int.{int_div_euclid}
+use Rattle.std.specs.Prelude.{◌≡◌, ℕ, ◌+◌, ◌-◌, ◌*◌, ℤ, pos, negsuc, ◌+ℤ◌, ◌-ℤ◌, ◌*ℤ◌, ◌≤ℤ◌, ◌<ℤ◌, Bool, true, false, ◌||◌, List, [], ◌∷◌, map, length, slice_get, slice_index_or, ◌==◌, All, Some, if◌then◌else◌}
+use Rattle.std.specs.Int.{int_div_euclid, int_max}
 use Rattle.std.specs.Int.Signed.{lt_z}
 use Rattle.fx_base.specs.Rect.{IsFrame}
 use Rattle.fx_params.specs.declared.def.ParamKind.{ParamKind}
@@ -76,3 +76,20 @@ pub record IsSound (p : Parameter) : Type 0 where
   pub frames : All (λ key. IsFrame key.frame) p.keys
   pub values : All (λ key. IsWithin p.def key.value) p.keys
   pub plain : IsWithin p.def p.plain
+
+-- ---- another scale
+
+-- v / q to the nearest, halves up
+abbrev pub divided : ℕ → ℤ → ℤ
+divided q v = int_div_euclid ((pos 2 *ℤ v) +ℤ pos q) (pos (2 * q))
+
+-- the same, and the least at least
+abbrev pub divided_from : ℤ → ℕ → ℤ → ℤ
+divided_from least q v = int_max (divided q v) least
+
+abbrev pub with_value : (ℤ → ℤ) → Key → Key
+with_value f key = record key { value = f key.value }
+
+-- each value is made anew; no key comes or goes
+abbrev pub with_values : (ℤ → ℤ) → Parameter → Parameter
+with_values f p = record p { plain = f p.plain; keys = map (with_value f) p.keys }

@@ -1,11 +1,11 @@
 //! A parameter with its value and its keys.
-ghost use Rattle.std.specs.Prelude.{◌≡◌, ◌+◌, ℤ, pos, negsuc, ◌≤ℤ◌, All, [], length, slice_get, position, IfOk, IfErr, OnOk, OnErr, IsOk, IsOkUnless, MatchOption};
+ghost use Rattle.std.specs.Prelude.{◌≡◌, ◌+◌, ◌<◌, ℤ, pos, negsuc, ◌≤ℤ◌, All, [], length, map, slice_get, position, IfOk, IfErr, OnOk, OnErr, IsOk, IsOkUnless, MatchOption};
 ghost use Rattle.std.specs.Option.{ok_or, option_map};
 ghost use Rattle.std.specs.Ordering.{int_eq};
 ghost use Rattle.fx_params.specs.Value.{number_of, refusal, IsWithin};
 ghost use Rattle.fx_params.specs.Keys.{IsRising, key_at, ChangesKey, with_key, without_key, IsAt, IsGapFor, IsPassed};
 ghost use Rattle.fx_base.specs.Rect.{IsFrame};
-ghost use Rattle.fx_params.specs.Parameter.{made, steps, value_at, keyed_value, value_before, value_after, IsValueAt, IsSound};
+ghost use Rattle.fx_params.specs.Parameter.{made, steps, value_at, keyed_value, value_before, value_after, IsValueAt, IsSound, divided, divided_from, with_value, with_values};
 
 use crate::key::Key;
 use crate::{ParamDef, ParamFault, ParamKind, ParamValue};
@@ -107,6 +107,18 @@ impl Param {
         self.step = step;
     }
 
+    /// Divides the value and the value of each key, to the nearest and halves up. Where that is below the definition's
+    /// least, it is the least.
+    pub fn divide(&mut self, by: u32)
+        requires some { 0 < by }
+        requires range { pos 0 ≤ℤ self.old.def.greatest }
+        ensures { self.new ≡ with_values (divided_from self.old.def.least by) self.old }
+    {
+        let least = self.def.least;
+        self.plain = divided_from(least, by, self.plain);
+        divide_each(&mut self.keys, least, by);
+    }
+
     /// The number of keys.
     pub fn key_count(&self) -> u32
         ensures count { result ≡ length self.now.keys }
@@ -176,6 +188,43 @@ impl Param {
     {
         self.step || self.def.kind.steps()
     }
+}
+
+// Divides the value of each key.
+fn divide_each(keys: &mut Vec<Key>, least: i64, by: u32)
+    requires { 0 < by }
+    ensures { keys.new.items ≡ map (with_value (divided_from least by)) keys.old.items }
+{
+    for key in keys.iter_mut() {
+        divide_key(key, least, by);
+    }
+}
+
+fn divide_key(key: &mut Key, least: i64, by: u32)
+    requires { 0 < by }
+    ensures { key.new ≡ with_value (divided_from least by) key.old }
+{
+    key.value = divided_from(least, by, key.value);
+}
+
+// A value divided, to the nearest and halves up, and the least at least.
+fn divided_from(least: i64, by: u32, value: i64) -> i64
+    requires { 0 < by }
+    ensures { result ≡ divided_from least by value }
+{
+    let near = divided(value, by) as i64;
+    near.max(least)
+}
+
+// The same in wide numbers, without a least.
+fn divided(value: i64, by: u32) -> i128
+    requires { 0 < by }
+    ensures value { result ≡ divided by value }
+    ensures low { negsuc 9223372036854775807 ≤ℤ result }
+    ensures high { result ≤ℤ pos 9223372036854775807 }
+{
+    let by = i128::from(by);
+    (2 * i128::from(value) + by).div_euclid(2 * by)
 }
 
 // Where the key at the frame stands, or where it would go.
