@@ -2,6 +2,10 @@
 use Rattle.std.specs.Prelude.{ℕ, ◌+◌, ◌-◌, ◌^◌, min, List, [], Bool, ◌==◌}
 use Rattle.std.specs.List.{list_any}
 
+-- so many more, where a `u64` has room for them
+abbrev pub so_many_more : ℕ → ℕ → ℕ
+so_many_more more n = min (n + more) (2 ^ 64 - 1)
+
 -- one more, where a `u64` has room for it
 abbrev pub one_more : ℕ → ℕ
 one_more n = min (n + 1) (2 ^ 64 - 1)

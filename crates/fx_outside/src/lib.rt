@@ -10,6 +10,7 @@ mod real;
 mod sure;
 mod tally;
 mod traits;
+mod watched;
 
 pub use fault::{FetchFault, PutFault};
 pub use memory::{MemoryDepot, MemoryLibrary, MemorySink};

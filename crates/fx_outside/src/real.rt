@@ -1,17 +1,20 @@
 //! The outside for real: files by their paths from the working folder, and the standard streams. They
 //! tell nothing of what they hold, and count their faults. This is the edge that is trusted.
 //!
-//! `Memory` comes from copying the name and from opening alone. Once a file is open or a byte was taken,
-//! whatever goes wrong is a fault: it is `Failed`, and counted.
-ghost use Rattle.std.specs.Prelude.{◌≡◌, ◌≤◌, ◌<◌, ◌+◌, ◌^◌, None, Some, [], IfOk, IfErr, IfSome, OnOk, OnErr, IsErrOf, vec_len};
+//! A fetch leaves nothing behind, so it answers `Memory` wherever memory is wanting, and `Failed` only where opening or
+//! reading failed or the file is too long. A put and a write answer `Memory` only before they touch the outside: once a
+//! file is open or a byte was taken, whatever goes wrong is a fault. Each fault is counted.
+ghost use Rattle.std.specs.Prelude.{◌≡◌, ◌≤◌, ◌<◌, ◌+◌, ◌^◌, ◌⊎◌, None, Some, [], IfOk, IfErr, IfSome, OnOk, OnErr, IsErrOf, vec_len};
 ghost use Rattle.std.specs.Io.KnownBytes.{Appends};
 ghost use Rattle.fx_outside.specs.Outside.{HasRisen};
-ghost use Rattle.fx_outside.specs.Real.{too_many, stream, stream_faults};
+ghost use Rattle.fx_outside.specs.Real.{GivenByOne, too_many, stream, stream_faults};
 ghost use Rattle.fx_outside.specs.Tally.{one_more};
 
+use crate::watched::Watched;
 use crate::{Depot, FetchFault, Library, PutFault, Sink};
 use fx_base::Name;
 use std::alloc::Global;
+use std::fs::OpenFile;
 use std::io::{ErrorKind, Read, Write};
 use std::rt::Files;
 use std::{fs, io};
@@ -50,17 +53,45 @@ fn is_memory(e: &io::Error) -> bool {
     e.kind() == ErrorKind::OutOfMemory
 }
 
-// All that the reader gives. So many bytes or more are a fault, and so is whatever goes wrong.
-fn read_all<F: Read + Drop>(alloc: Global, reader: F, too_many: u64) -> Result<Vec<u8>, FetchFault>
-    ensures all { IfOk result (λ bytes. IfSome (F.remaining reader) (λ given. bytes.items ≡ given)) }
+// All that the reader gives. It fails only where a read failed or the reader gave so many bytes or more, so it is Ok
+// wherever neither is so and memory is not wanting. Where `length` is how many bytes there are, no byte is moved.
+fn read_all<F: Read + Drop>(
+    alloc: Global,
+    reader: &mut Watched<F>,
+    length: usize,
+    too_many: u64,
+) -> Result<Vec<u8>, FetchFault>
+    ensures all { IfOk result (λ bytes. IfSome (F.remaining reader.old.reader) (λ given. bytes.items ≡ given)) }
     ensures fits { IfOk result (λ bytes. vec_len bytes < too_many) }
-    ensures failed { IfErr result (λ fault. fault ≡ FetchFault.Failed) }
+    ensures failed { IsErrOf result FetchFault.Failed → (1 ≤ reader.new.failed) ⊎ (too_many ≤ reader.new.given) }
 {
-    let mut bytes = Vec::new(alloc);
+    let mut bytes = room_for(alloc, length);
     // Asking for as many as are too many shows whether there are.
-    match reader.take(too_many).read_to_end(&mut bytes) {
+    let read = (&mut *reader).take(too_many).read_to_end(&mut bytes);
+    match read {
         Ok(_) if (bytes.len() as u64) < too_many => Ok(bytes),
-        _ => Err(FetchFault::Failed),
+        _ if 0 < reader.failed() => Err(FetchFault::Failed),
+        _ if too_many <= reader.given() => Err(FetchFault::Failed),
+        _ => Err(FetchFault::Memory),
+    }
+}
+
+// An empty vector with room for so many bytes and one, by which a read that gives nothing needs no more room. Where
+// there is no such room it grows as it is filled.
+fn room_for(alloc: Global, length: usize) -> Vec<u8>
+    ensures { result.items ≡ [] }
+{
+    match Vec::with_capacity(alloc, length.saturating_add(1)) {
+        Ok(bytes) => bytes,
+        Err(_) => Vec::new(alloc),
+    }
+}
+
+// How long an open file says that it is. It serves to make room at once, and for nothing else.
+fn length_of<F: OpenFile>(file: &F) -> usize {
+    match file.metadata() {
+        Ok(data) => usize::try_from(data.len()).unwrap_or(0),
+        Err(_) => 0,
     }
 }
 
@@ -79,11 +110,15 @@ fn read_file<R: Files>(
     name: Name,
     too_many: u64,
 ) -> Result<Vec<u8>, (Name, FetchFault)>
+    ensures all { IfOk result (λ bytes. GivenByOne R.File.remaining bytes.items) }
     ensures fits { IfOk result (λ bytes. vec_len bytes < too_many) }
     ensures named { IfErr result (λ e. e.0 ≡ name) }
 {
     let read = match fs::open(rt, name.text()) {
-        Ok(file) => read_all(alloc, file, too_many),
+        Ok(file) => {
+            let length = length_of(&file).min(too_many as usize);
+            read_all(alloc, &mut Watched::new(file), length, too_many)
+        }
         Err(e) if is_memory(&e) => Err(FetchFault::Memory),
         Err(_) => Err(FetchFault::Failed),
     };
@@ -153,6 +188,7 @@ impl<'r, R: Files> Library for FileLibrary<'r, R> {
     ghost last = { λ l. l.faults.last };
 
     fn fetch(&mut self, alloc: Global, name: &str) -> Result<Vec<u8>, FetchFault>
+        ensures read { IfOk result (λ bytes. GivenByOne R.File.remaining bytes.items) }
         ensures fits { IfOk result (λ bytes. vec_len bytes < too_many self.old) }
         ensures limit_stays { too_many self.new ≡ too_many self.old }
         ensures bytes { ⊥ → IfOk result (λ bytes. None ≡ Some bytes.items) }
