@@ -1,9 +1,9 @@
 -- The pixels of an image, by the bytes of its rows.
-use Rattle.std.proofs.Common.{◌≡◌, ◌≤◌, ◌<◌, inl, inr, ℕ, ◌+◌, ◌*◌, ◌/◌, ◌^◌, ℤ, pos, negsuc, ◌+ℤ◌, ◌-ℤ◌, ◌≤ℤ◌, ◌<ℤ◌, Bool, true, false, replicate, slice_index, refl, ap, arith, ◌∙◌, FitsSigned, w64, to_z, of_z, List}
+use Rattle.std.proofs.Common.{◌≡◌, ◌≤◌, ◌<◌, inl, inr, ℕ, ◌+◌, ◌*◌, ◌/◌, ◌^◌, ℤ, pos, negsuc, ◌+ℤ◌, ◌-ℤ◌, ◌≤ℤ◌, ◌<ℤ◌, Bool, true, false, replicate, slice_index, take, drop, refl, sym, ap, arith, ◌∙◌, FitsSigned, w64, to_z, of_z, List}
 use Rattle.std.specs.Int.{int_gap}
 use Rattle.std.proofs.lemmas.Int.{ints, to_z-of_z}
 use Rattle.std.proofs.lemmas.List.{places}
-use Rattle.std.proofs.Math.Nat.{mul-le-mul_right}
+use Rattle.std.proofs.Math.Nat.{mul-le-mul_right, mul_assoc}
 use Rattle.fx_base.specs.Bounds.{Bounds, IsRect}
 use Rattle.fx_base.specs.Rect.{within, IsWithin, IsNear, columns, rows}
 use Rattle.fx_pixel.specs.declared.Depth.{Depth}
@@ -14,7 +14,7 @@ use Rattle.fx_pixel.specs.Pixel.{zero, components_of, IsOfDepth}
 use Rattle.fx_image.specs.Image.{PixelsFit}
 use Rattle.fx_image.specs.Rows.{row_of, block_of, start_of, AreBytes}
 use Rattle.fx_image.specs.Stored.{Stored, IsStored, image_of, pixel_size, pixel_in, shown}
-use Rattle.fx_image.specs.Runs.{IsRun, place_of, bytes_of, run_of, ShowsPixels}
+use Rattle.fx_image.specs.Runs.{IsRun, place_of, bytes_of, run_of, ShowsPixels, ShowsRows}
 use Rattle.fx_image.proofs.RowsLaws.{rows_apart}
 use Rattle.fx_image.proofs.PixelLaws.{pixel_of_run, pixel_fits, pixel_components, run_of_bytes}
 
@@ -71,6 +71,21 @@ zeros_shown s none x y = go (within s.rect x y) refl
         let place = place_from s.rect x y is in
         let low : int_gap s.rect.y1 y < rows s.rect = gap_below s.rect.y1 y s.rect.y2 place.bottom place.top in
         rw (is, none (int_gap s.rect.y1 y) low) (zero_pixel s.depth s.components s.raster.pitch (int_gap s.rect.x1 x))
+
+-- an image whose rows follow one another shows them
+pub rows_shown : (s : Stored) (bytes : List ℕ) → s.raster.pitch ≡ columns s.rect * pixel_size s.depth s.components
+    → ((y : ℕ) → y < rows s.rect → row_of s.raster y ≡ take s.raster.pitch (drop (y * s.raster.pitch) bytes)) → ShowsRows s bytes
+rows_shown s bytes narrow each x y inside =
+    let place = place_from s.rect x y inside in
+    let r = int_gap s.rect.y1 y in
+    let i = int_gap s.rect.x1 x in
+    let n = columns s.rect in
+    let size = pixel_size s.depth s.components in
+    let row = each r (gap_below s.rect.y1 y s.rect.y2 place.bottom place.top) in
+    let room : i * size + size ≤ n * size = rows_apart i n size (gap_below s.rect.x1 x s.rect.x2 place.left place.right) in
+    let from : r * (n * size) ≡ (r * n) * size = sym (mul_assoc r n size) in
+    let whole : row_of s.raster r ≡ take (n * size) (drop ((r * n) * size) bytes) = row ∙ ap (λ p. take p (drop (r * p) bytes)) narrow ∙ ap (λ k. take (n * size) (drop k bytes)) from in
+    rw (inside, whole) (pixel_of_run s.depth s.components bytes (n * size) (r * n) i room)
 
 pub run_here : (s : Stored) (x y : ℤ) → within s.rect x y ≡ true → IsRun s x y 1
 run_here s x y h =

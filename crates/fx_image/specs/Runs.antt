@@ -1,5 +1,5 @@
 -- Runs of pixels in a row of an image.
-use Rattle.std.specs.Prelude.{◌≡◌, ℤ, ℕ, pos, ◌+ℤ◌, ◌*◌, ◌≤ℤ◌, ◌<ℤ◌, List, take, drop}
+use Rattle.std.specs.Prelude.{◌≡◌, ℤ, ℕ, pos, ◌+ℤ◌, ◌+◌, ◌*◌, ◌≤ℤ◌, ◌<ℤ◌, List, take, drop}
 use Rattle.std.specs.Int.{int_gap}
 use Rattle.fx_image.specs.Rows.{row_of}
 use Rattle.fx_base.specs.Bounds.{Bounds}
@@ -33,3 +33,9 @@ row_size s rect = columns rect * pixel_size s.depth s.components
 abbrev pub ShowsPixels : Stored → Bounds → ℤ → List ℕ → Type 0
 ShowsPixels s rect y bytes =
     (x : ℤ) → Holds rect x y → pixel_in s.depth s.components bytes (int_gap rect.x1 x) ≡ shown s x y
+
+-- the bytes show the image's pixels row by row from the bottom, each row from the left
+abbrev pub ShowsRows : Stored → List ℕ → Type 0
+ShowsRows s bytes =
+    (x y : ℤ) → Holds s.rect x y
+    → shown s x y ≡ pixel_in s.depth s.components bytes (int_gap s.rect.y1 y * columns s.rect + int_gap s.rect.x1 x)

@@ -1,12 +1,12 @@
 //! An image: a rectangle of pixels of one depth and components.
-ghost use Rattle.std.specs.Prelude.{◌≡◌, ◌≤◌, ◌<◌, ◌+◌, ◌*◌, ◌^◌, ℤ, ◌≤ℤ◌, ◌<ℤ◌, IfOk, length};
+ghost use Rattle.std.specs.Prelude.{◌≡◌, ◌≤◌, ◌<◌, ◌+◌, ◌*◌, ◌^◌, ℤ, ◌≤ℤ◌, ◌<ℤ◌, IfOk, length, vec_len};
 ghost use Rattle.std.specs.Int.{int_gap};
 ghost use Rattle.fx_base.specs.Rect.{Holds, IsWithin, columns, rows, IsNear};
 ghost use Rattle.fx_pixel.specs.Pixel.{zero, size, components_of, IsOfDepth};
 ghost use Rattle.fx_image.specs.Rows.{HasRows};
 ghost use Rattle.fx_image.specs.Image.{PixelsFit};
 ghost use Rattle.fx_image.specs.Stored.{IsStored, image_of, pixel_size, pixel_in, shown};
-ghost use Rattle.fx_image.specs.Runs.{IsRun, run_of, row_size, ShowsPixels};
+ghost use Rattle.fx_image.specs.Runs.{IsRun, run_of, row_size, ShowsPixels, ShowsRows};
 
 use crate::rows::Rows;
 use crate::samples::{pixel, pixel_size, set_pixel};
@@ -55,6 +55,34 @@ impl Image {
         ensures zero { IfOk result (λ image. (x y : ℤ) → shown image x y ≡ zero components) }
     {
         let rows = Rows::new(alloc, row_bytes as usize, rows_in(rect))?;
+        Ok(Image {
+            rect,
+            depth,
+            components,
+            rows,
+        })
+    }
+
+    /// An image of these rows, which follow one another from the bottom without padding. It copies none.
+    pub fn of_rows(
+        alloc: Global,
+        rect: Rect,
+        depth: Depth,
+        components: Components,
+        bytes: Vec<u8>,
+    ) -> Result<Image, Memory>
+        requires near { IsNear rect }
+        requires some { 0 < rows rect }
+        requires long { vec_len bytes ≡ rows rect * (columns rect * pixel_size depth components) }
+        requires small { vec_len bytes ≤ 2 ^ 31 }
+        ensures rect { IfOk result (λ image. image.rect ≡ rect) }
+        ensures depth { IfOk result (λ image. image.depth ≡ depth) }
+        ensures components { IfOk result (λ image. image.components ≡ components) }
+        ensures narrow { IfOk result (λ image. image.raster.pitch ≡ row_size image rect) }
+        ensures pixels { IfOk result (λ image. ShowsRows image bytes.items) }
+    {
+        let pitch = columns_in(rect) * pixel_size(depth, components);
+        let rows = Rows::of_bytes(alloc, pitch, rows_in(rect), bytes)?;
         Ok(Image {
             rect,
             depth,

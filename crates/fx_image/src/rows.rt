@@ -1,6 +1,6 @@
 //! Rows of bytes, kept in blocks of whole rows: a tile or a source frame is one block, and a frame that
 //! workers write has a block for each band, so that a band is moved without copying a pixel.
-ghost use Rattle.std.specs.Prelude.{◌≡◌, ◌≤◌, ◌<◌, ◌+◌, ◌-◌, ◌*◌, ◌^◌, ℕ, ◌/◌, ◌%◌, IfOk, length, take, drop, slice_index, replicate};
+ghost use Rattle.std.specs.Prelude.{◌≡◌, ◌≤◌, ◌<◌, ◌+◌, ◌-◌, ◌*◌, ◌^◌, ℕ, ◌/◌, ◌%◌, IfOk, length, take, drop, slice_index, replicate, vec_len};
 ghost use Rattle.std.specs.Borrow.{sem};
 ghost use Rattle.fx_image.specs.Rows.{Raster, row_of, HasRows, AreBytes, AreBlocks, HaveRows, no_rows};
 ghost use Rattle.fx_image.specs.RowsLending.{LendsBytes, LendsRun};
@@ -104,6 +104,30 @@ impl Rows {
             pitch,
             height,
             step,
+            blocks,
+        })
+    }
+
+    /// Rows that follow one another in these bytes, in one block. It copies none.
+    pub fn of_bytes(
+        alloc: Global,
+        pitch: usize,
+        height: usize,
+        bytes: Vec<u8>,
+    ) -> Result<Rows, AllocError>
+        requires some { 0 < height }
+        requires small { height * pitch < 2 ^ 32 }
+        requires long { vec_len bytes ≡ height * pitch }
+        ensures pitch { IfOk result (λ s. s.pitch ≡ pitch) }
+        ensures height { IfOk result (λ s. s.height ≡ height) }
+        ensures rows { IfOk result (λ s. (y : ℕ) → y < height → row_of s y ≡ take pitch (drop (y * pitch) bytes.items)) }
+    {
+        let mut blocks = Vec::new(alloc);
+        blocks.push(Block { bytes })?;
+        Ok(Rows {
+            pitch,
+            height,
+            step: height,
             blocks,
         })
     }

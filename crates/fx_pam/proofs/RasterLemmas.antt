@@ -1,18 +1,20 @@
 -- The samples and pixels of a raster, and those of its rows.
-use Rattle.std.proofs.Common.{◌≡◌, ◌≤◌, ◌<◌, ℕ, zero, suc, ◌+◌, ◌-◌, ◌*◌, ◌==◌, if◌then◌else◌, Bool, true, false, nat_lt, nat_eq, List, length, slice_index, None, refl, sym, ap, subst, ◌≢◌, ◌∙◌, arith, rules}
-use Rattle.std.proofs.lemmas.Bool.{le-ltb}
+use Rattle.std.proofs.Common.{◌≡◌, ◌≤◌, ◌<◌, ℕ, zero, suc, ◌+◌, ◌-◌, ◌*◌, ◌==◌, if◌then◌else◌, Bool, true, false, nat_lt, nat_eq, List, ◌++◌, length, take, drop, slice_index, None, refl, sym, ap, subst, ◌≢◌, ◌⊎◌, inl, inr, ◌∙◌, arith, rules}
+use Rattle.std.proofs.lemmas.Bool.{le-ltb, cases_lt}
 use Rattle.std.proofs.lemmas.Bool.Decides.{nat_tests}
-use Rattle.std.proofs.lemmas.List.{places}
+use Rattle.std.proofs.lemmas.List.{places, same_lists}
 use Rattle.std.proofs.lemmas.Nat.{mul-add-lt}
-use Rattle.std.proofs.Math.Nat.{mul-le-mul_right, mul_comm}
+use Rattle.std.proofs.Math.Nat.{mul-le-mul_right, mul_assoc, mul_comm}
+use Rattle.fx_pixel.specs.declared.Components.TheVariants as components
 use Rattle.fx_pixel.specs.declared.Depth.{Depth}
 use Rattle.fx_pixel.specs.declared.Depth.TheVariants.{Byte, Short}
 use Rattle.fx_pixel.specs.declared.Pixel.TheVariants.{Rgba}
 use Rattle.fx_pixel.specs.Pixel.{greatest, size}
-use Rattle.fx_image.specs.Stored.{sample_in}
-use Rattle.fx_image.proofs.PixelLaws.{sample_of_run}
+use Rattle.fx_image.specs.Stored.{sample_in, pixel_in, pixel_size}
+use Rattle.fx_image.proofs.PixelLaws.{sample_of_run, pixel_of_run}
+use Rattle.fx_image.proofs.RowsLaws.{rows_apart}
 use Rattle.fx_pam.specs.Reading.{Header, depth_of, sample_count, raster_length, sample_at, scaled, pixel_of, first_above}
-use Rattle.fx_pam.specs.Raster.{IsWhole, row_length, row_at}
+use Rattle.fx_pam.specs.Raster.{IsPlain, IsWhole, RiseTo, row_length, row_at}
 use Rattle.fx_pam.proofs.ReadingLaws.{sample_size-is}
 
 -- the search goes on behind a sample that isn't above the greatest
@@ -96,3 +98,49 @@ one-more P c here below k low = by (nat_eq k c) refl
     by : (b : Bool) → nat_eq k c ≡ b → P k
     by true same = let e : k ≡ c = grind (arith, nat_tests) in subst P (sym e) here
     by false other = below k (grind (arith, nat_tests)) (grind (arith, nat_tests))
+
+front-of : (xs ys : List ℕ) → take (length xs) (drop 0 (xs ++ ys)) ≡ xs
+front-of xs ys = same_lists _ _ (search (rules, places)) (λ k d h. grind (arith, places))
+
+behind-of : (xs ys : List ℕ) → take (length ys) (drop (length xs) (xs ++ ys)) ≡ ys
+behind-of xs ys = same_lists _ _ (search (rules, places)) (λ k d h. grind (arith, places))
+
+module _ (depth : Depth) (xs ys : List ℕ) where
+  -- a pixel of the bytes in front
+  pub pixel-front : (i : ℕ) → i * pixel_size depth components.Rgba + pixel_size depth components.Rgba ≤ length xs → pixel_in depth components.Rgba (xs ++ ys) i ≡ pixel_in depth components.Rgba xs i
+  pixel-front i room =
+      let none : 0 * pixel_size depth components.Rgba ≡ 0 = omega arith in
+      let first = ap (λ k. take (length xs) (drop k (xs ++ ys))) none ∙ front-of xs ys in
+      let same : 0 + i ≡ i = omega arith in
+      sym (ap (λ bytes. pixel_in depth components.Rgba bytes i) (sym first) ∙ pixel_of_run depth components.Rgba (xs ++ ys) (length xs) 0 i room ∙ ap (pixel_in depth components.Rgba (xs ++ ys)) same)
+
+  -- a pixel of the bytes behind
+  pub pixel-behind : (from i : ℕ) → length xs ≡ from * pixel_size depth components.Rgba → i * pixel_size depth components.Rgba + pixel_size depth components.Rgba ≤ length ys
+      → pixel_in depth components.Rgba (xs ++ ys) (from + i) ≡ pixel_in depth components.Rgba ys i
+  pixel-behind from i long room =
+      sym (ap (λ bytes. pixel_in depth components.Rgba bytes i) (sym (behind-of xs ys)) ∙ ap (λ k. pixel_in depth components.Rgba (take (length ys) (drop k (xs ++ ys))) i) long ∙ pixel_of_run depth components.Rgba (xs ++ ys) (length ys) from i room)
+
+-- a row of a plain raster has the bytes of its pixels
+pub plain-row : (h : Header) → IsPlain h → row_length h ≡ h.width * pixel_size (depth_of h) components.Rgba
+plain-row h is = row_length-is h ∙ ap (λ n. (h.width * n) * size (depth_of h)) is.four ∙ mul_assoc h.width 4 (size (depth_of h))
+
+pub one-row-more : (y n : ℕ) → y * n + n ≡ (y + 1) * n
+one-row-more y n = omega arith
+
+-- rows that rise, and the next one
+pub rise-next : (h : Header) (y : ℕ) (rows row : List ℕ) → IsPlain h → length rows ≡ y * row_length h → length row ≡ row_length h → RiseTo h y rows
+    → ((c : ℕ) → c < h.width → pixel_in (depth_of h) components.Rgba row c ≡ pixel_of h (h.height - 1 - y) c) → RiseTo h (y + 1) (rows ++ row)
+rise-next h y rows row is long wide risen next r c low left = by (cases_lt r y)
+  where
+    by : (r < y) ⊎ (y ≤ r) → pixel_in (depth_of h) components.Rgba (rows ++ row) (r * h.width + c) ≡ pixel_of h (h.height - 1 - r) c
+    by (inl before) =
+        let size = pixel_size (depth_of h) components.Rgba in
+        let there : r * h.width + c < y * h.width = omega (arith, mul-add-lt r h.width c y before left) in
+        let all : length rows ≡ (y * h.width) * size = long ∙ ap (λ n. y * n) (plain-row h is) ∙ sym (mul_assoc y h.width size) in
+        pixel-front (depth_of h) rows row (r * h.width + c) (rw all (rows_apart (r * h.width + c) (y * h.width) size there)) ∙ risen r c before left
+    by (inr behind) =
+        let size = pixel_size (depth_of h) components.Rgba in
+        let here : r ≡ y = omega arith in
+        let all : length rows ≡ (y * h.width) * size = long ∙ ap (λ n. y * n) (plain-row h is) ∙ sym (mul_assoc y h.width size) in
+        let fits : c * size + size ≤ length row = rw (wide, plain-row h is) (rows_apart c h.width size left) in
+        rw here (pixel-behind (depth_of h) rows row (y * h.width) c all fits ∙ next c left)

@@ -1,10 +1,12 @@
 -- Rasters that can be read, and their rows.
-use Rattle.std.specs.Prelude.{◌≡◌, ℕ, ◌<◌, ◌≤◌, ◌-◌, ◌*◌, ℤ, pos, length, take, drop}
+use Rattle.std.specs.Prelude.{◌≡◌, ℕ, ◌<◌, ◌≤◌, ◌+◌, ◌-◌, ◌*◌, ℤ, pos, List, length, take, drop}
 use Rattle.std.specs.Int.{int_gap}
 use Rattle.fx_base.specs.Rect.{Holds}
 use Rattle.fx_pixel.specs.declared.Components.TheVariants as components
 use Rattle.fx_pixel.specs.declared.Pixel.{Pixel}
+use Rattle.fx_pixel.specs.Pixel.{greatest}
 use Rattle.fx_image.specs.Image.{Image, pixel_at}
+use Rattle.fx_image.specs.Stored.{pixel_in}
 use Rattle.fx_pam.specs.Reading.{Header, depth_of, sample_size, sample_count, raster_length, sample_at, pixel_of}
 
 -- sides up to `side`, one to four samples a pixel, and a greatest sample from 1 to 65535
@@ -19,6 +21,11 @@ pub record IsWhole (side : ℕ) (h : Header) : Type 0 where
   pub ranged : IsRanged side h
   pub long : raster_length h ≤ length h.behind
   pub low : (i : ℕ) → i < sample_count h → sample_at h i ≤ h.maxval
+
+-- four samples a pixel, of which the greatest is the depth's: the bytes of a row are the image's
+pub record IsPlain (h : Header) : Type 0 where
+  pub four : h.depth ≡ 4
+  pub greatest : h.maxval ≡ greatest (depth_of h)
 
 -- how many bytes a row of the file has
 abbrev pub row_length : Header → ℕ
@@ -38,3 +45,9 @@ pub record IsImageOf (h : Header) (image : Image) : Type 0 where
   pub depth : image.depth ≡ depth_of h
   pub components : image.components ≡ components.Rgba
   pub pixels : (x y : ℤ) → Holds image.rect x y → pixel_at image x y ≡ pixel_from_bottom h x y
+
+-- the bytes are those of the file's last rows, the last one first, as the image has them
+abbrev pub RiseTo : Header → ℕ → List ℕ → Type 0
+RiseTo h count bytes =
+    (y c : ℕ) → y < count → c < h.width
+    → pixel_in (depth_of h) components.Rgba bytes (y * h.width + c) ≡ pixel_of h (h.height - 1 - y) c

@@ -1,19 +1,21 @@
 //! The raster of a PAM file: rows from the top, each pixel from the left, a short sample with the more
 //! significant byte first.
-ghost use Rattle.std.specs.Prelude.{◌≡◌, ◌≤◌, ◌<◌, ◌+◌, ◌*◌, ℕ, pos, length, OnOk, IfErr, None, Some};
+ghost use Rattle.std.specs.Prelude.{◌≡◌, ◌≤◌, ◌<◌, ◌+◌, ◌*◌, ℕ, pos, length, vec_len, OnOk, IfOk, IfErr, None, Some};
 ghost use Rattle.fx_base.specs.declared.limits.TheConstants.{MOST_SIDE};
 ghost use Rattle.fx_pixel.specs.Pixel.{greatest, components_of, IsOfDepth};
 ghost use Rattle.fx_pixel.specs.declared.Components.TheVariants.{Rgba as RgbaSamples};
 ghost use Rattle.fx_image.specs.Stored.{pixel_size, pixel_in};
 ghost use Rattle.fx_image.specs.Part.{IsPart, SamePart, IsWritten};
 ghost use Rattle.fx_pam.specs.Reading.{header_with, depth_of, sample_count, raster_length, sample_at, scaled, pixel_of, first_above, sample_fault, raster_fault};
-ghost use Rattle.fx_pam.specs.Raster.{IsRanged, IsWhole, row_length, row_at, pixel_from_bottom};
+ghost use Rattle.fx_pam.specs.Raster.{IsPlain, IsRanged, IsWhole, RiseTo, row_length, row_at, pixel_from_bottom};
 
 use crate::PamFault;
 use crate::numbers::HeaderNumbers;
+use fx_base::Memory;
 use fx_image::Part;
 use fx_image::samples::{are_bytes, sample, set_pixel};
 use fx_pixel::Pixel;
+use std::alloc::Global;
 
 /// The first fault of a raster: bytes that are wanting, or a sample above the greatest.
 pub fn check_raster(numbers: HeaderNumbers, bytes: &[u8]) -> Result<(), PamFault>
@@ -51,6 +53,31 @@ fn check_samples(numbers: HeaderNumbers, bytes: &[u8]) -> Result<(), PamFault>
     }
     Ok(())
 }
+
+/// The rows of a raster whose bytes are the image's as they stand, the last row first.
+pub fn rows_upward(alloc: Global, numbers: HeaderNumbers, bytes: &[u8]) -> Result<Vec<u8>, Memory>
+    requires whole { IsWhole MOST_SIDE (header_with numbers bytes.now) }
+    requires plain { IsPlain (header_with numbers bytes.now) }
+    ensures len { IfOk result (λ rows. vec_len rows ≡ numbers.height * row_length (header_with numbers bytes.now)) }
+    ensures rows { let h = header_with numbers bytes.now in IfOk result (λ rows. RiseTo h numbers.height rows.items) }
+{
+    let height = numbers.height as usize;
+    let mut rows = Vec::with_capacity(alloc, height * numbers.row_length())?;
+    for y in 0..height {
+        let row = file_row(numbers, bytes, height - 1 - y);
+        shows_row(numbers, row);
+        rows.extend_from_slice(row)?;
+    }
+    Ok(rows)
+}
+
+// Such a row has the bytes of the image's pixels. It computes nothing.
+fn shows_row(numbers: HeaderNumbers, source: &[u8])
+    requires whole { IsWhole MOST_SIDE (header_with (record numbers { height = 1 }) source.now) }
+    requires plain { IsPlain (header_with numbers source.now) }
+    ensures { let h = header_with numbers source.now in
+        (c : ℕ) → c < numbers.width → pixel_in (depth_of h) RgbaSamples source.now c ≡ pixel_of h 0 c }
+{}
 
 /// Fills an image with the rows of a raster, the last one at the bottom.
 pub fn fill(numbers: HeaderNumbers, bytes: &[u8], out: &mut Part<'_>)

@@ -1,5 +1,5 @@
 //! From the bytes of a file to its image.
-ghost use Rattle.std.specs.Prelude.{◌≡◌, ◌≢◌, ◌≤◌, ◌<◌, ◌*◌, pos, IfOk, IfErr, None, Some};
+ghost use Rattle.std.specs.Prelude.{◌≡◌, ◌≢◌, ◌≤◌, ◌<◌, ◌*◌, pos, [], IfOk, IfErr, None, Some};
 ghost use Rattle.fx_base.specs.declared.limits.TheConstants.{MOST_SIDE};
 ghost use Rattle.fx_pixel.specs.declared.Components.TheVariants.{Rgba as RgbaSamples};
 ghost use Rattle.fx_image.specs.Stored.{SameFrame, image_of};
@@ -7,12 +7,12 @@ ghost use Rattle.fx_image.specs.Runs.{row_size};
 ghost use Rattle.fx_pam.specs.declared.fault.PamFault.TheVariants.{Memory as OutOfMemory};
 ghost use Rattle.fx_pam.specs.Header.{Reads};
 ghost use Rattle.fx_pam.specs.Reading.{header_in, header_with, depth_of, raster_fault, pam_fault, IsPam};
-ghost use Rattle.fx_pam.specs.Raster.{IsRanged, IsWhole, IsImageOf};
+ghost use Rattle.fx_pam.specs.Raster.{IsPlain, IsRanged, IsWhole, IsImageOf};
 
 use crate::PamFault;
 use crate::header::read_header;
 use crate::numbers::HeaderNumbers;
-use crate::raster::{check_raster, fill};
+use crate::raster::{check_raster, fill, rows_upward};
 use fx_base::Rect;
 use fx_image::Image;
 use fx_pixel::Components;
@@ -63,12 +63,48 @@ fn image_of(alloc: Global, numbers: HeaderNumbers, raster: &[u8]) -> Result<Imag
     ensures narrow { IfOk result (λ image. image.raster.pitch ≡ row_size image image.rect) }
     ensures memory { IfErr result (λ e. e ≡ OutOfMemory) }
 {
-    let rect = Rect::of(0, 0, i64::from(numbers.width), i64::from(numbers.height));
+    if numbers.depth == 4 && numbers.keeps_samples() {
+        plain_image(alloc, numbers, raster)
+    } else {
+        made_image(alloc, numbers, raster)
+    }
+}
+
+// The image of a raster whose bytes are the image's: its rows are copied, and nothing else is written.
+fn plain_image(alloc: Global, numbers: HeaderNumbers, raster: &[u8]) -> Result<Image, PamFault>
+    requires whole { IsWhole MOST_SIDE (header_with numbers raster.now) }
+    requires plain { IsPlain (header_with numbers raster.now) }
+    ensures image { IfOk result (λ image. IsImageOf (header_with numbers raster.now) (image_of image)) }
+    ensures narrow { IfOk result (λ image. image.raster.pitch ≡ row_size image image.rect) }
+    ensures memory { IfErr result (λ e. e ≡ OutOfMemory) }
+{
+    let rows = rows_upward(alloc, numbers, raster)?;
+    let rect = rect_of(numbers);
+    let depth = numbers.sample_depth();
+    Ok(Image::of_rows(alloc, rect, depth, Components::Rgba, rows)?)
+}
+
+// The image of any raster, each pixel from its samples.
+fn made_image(alloc: Global, numbers: HeaderNumbers, raster: &[u8]) -> Result<Image, PamFault>
+    requires { IsWhole MOST_SIDE (header_with numbers raster.now) }
+    ensures image { IfOk result (λ image. IsImageOf (header_with numbers raster.now) (image_of image)) }
+    ensures narrow { IfOk result (λ image. image.raster.pitch ≡ row_size image image.rect) }
+    ensures memory { IfErr result (λ e. e ≡ OutOfMemory) }
+{
+    let rect = rect_of(numbers);
     let depth = numbers.sample_depth();
     let row_bytes = numbers.width * 4 * depth.size();
     let mut image = Image::new(alloc, rect, depth, Components::Rgba, row_bytes)?;
     fill_image(numbers, raster, &mut image);
     Ok(image)
+}
+
+// The rectangle from (0, 0) on.
+fn rect_of(numbers: HeaderNumbers) -> Rect
+    requires { IsRanged MOST_SIDE (header_with numbers []) }
+    ensures { result ≡ record { x1 = pos 0; y1 = pos 0; x2 = pos numbers.width; y2 = pos numbers.height } }
+{
+    Rect::of(0, 0, i64::from(numbers.width), i64::from(numbers.height))
 }
 
 fn fill_image(numbers: HeaderNumbers, raster: &[u8], image: &mut Image)
