@@ -9,6 +9,7 @@ use fx_base::Memory;
 use fx_turn::{Seat, Turns};
 use std::alloc::Global;
 use std::marker::Model;
+use std::rt::Clock;
 use std::sync::Wait;
 
 /// A row of gates. All its seats have 2^32 parts together.
@@ -65,7 +66,7 @@ impl Gates {
     }
 
     /// Holds a gate, with its workspace. Waits while another seat has it.
-    pub fn hold<R: Wait>(&self, rt: &R, seat: &mut GateSeat, gate: u32) -> Hold
+    pub fn hold<R: Wait + Clock>(&self, rt: &R, seat: &mut GateSeat, gate: u32) -> Hold
         requires gate { gate < self.now.gates }
         requires row { seat.old.row ≡ self.now }
         requires free { seat.old.turn ≡ None }

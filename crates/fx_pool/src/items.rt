@@ -10,6 +10,7 @@ use crate::worker::{Worker, collect, set_up};
 use fx_base::Memory;
 use fx_outside::Pace;
 use std::alloc::Global;
+use std::rt::Clock;
 use std::sync::Wait;
 use std::thread;
 use std::thread::Threads;
@@ -30,7 +31,7 @@ pub struct WorkedItems<S, I, T> {
 /// calls `pace.before_draw` with its number before it draws an item. Where no thread can be made the
 /// workers run one after another. `Memory` comes where memory is wanting, once all workers have ended, and
 /// hands the seats back; the items are then let go.
-pub fn work_items<R: Threads + Wait + Sync, I: Send + Drop, J: ItemJob<I>, P: Pace>(
+pub fn work_items<R: Threads + Wait + Clock + Sync, I: Send + Drop, J: ItemJob<I>, P: Pace>(
     rt: &R,
     alloc: Global,
     pace: &P,
@@ -108,7 +109,7 @@ fn apart<I: Drop, T: Drop>(
 }
 
 // Draws items and does the job for each, until none is left or memory is wanting.
-fn run<R: Wait, I: Send + Drop, J: ItemJob<I>, P: Pace>(
+fn run<R: Wait + Clock, I: Send + Drop, J: ItemJob<I>, P: Pace>(
     rt: &R,
     alloc: Global,
     pace: &P,
@@ -143,7 +144,7 @@ fn run<R: Wait, I: Send + Drop, J: ItemJob<I>, P: Pace>(
 }
 
 // Runs all workers beside each other.
-fn run_all<R: Threads + Wait + Sync, I: Send + Drop, J: ItemJob<I>, P: Pace>(
+fn run_all<R: Threads + Wait + Clock + Sync, I: Send + Drop, J: ItemJob<I>, P: Pace>(
     rt: &R,
     alloc: Global,
     pace: &P,

@@ -4,6 +4,7 @@ ghost use Rattle.fx_pool.specs.Weights.{plus};
 
 use fx_base::Memory;
 use std::alloc::Global;
+use std::rt::Clock;
 use std::sync::Wait;
 
 /// A job for numbers. It says which seats fit it, which numbers it takes, which outs are right for a
@@ -32,7 +33,7 @@ pub trait Job: Sync {
 
     /// Does the job for the number `index`. The seat fits afterwards too, at `Memory` as well, which
     /// comes where memory is wanting.
-    fn turn<R: Wait>(
+    fn turn<R: Wait + Clock>(
         &self,
         rt: &R,
         alloc: Global,
@@ -73,7 +74,7 @@ pub trait ItemJob<I>: Sync {
 
     /// Does the job for the item with this index. The seat fits afterwards too, at `Memory` as well,
     /// which comes where memory is wanting.
-    fn turn<R: Wait>(
+    fn turn<R: Wait + Clock>(
         &self,
         rt: &R,
         alloc: Global,

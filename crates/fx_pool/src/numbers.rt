@@ -9,6 +9,7 @@ use crate::worker::{Worker, collect, set_up};
 use fx_base::Memory;
 use fx_outside::Pace;
 use std::alloc::Global;
+use std::rt::Clock;
 use std::sync::Wait;
 use std::thread;
 use std::thread::Threads;
@@ -26,7 +27,7 @@ pub struct Worked<S, T> {
 /// worker calls `pace.before_draw` with its number before each draw. Where no thread can be made the
 /// workers run one after another. `Memory` comes where memory is wanting, once all workers have ended, and
 /// hands the seats back.
-pub fn work<R: Threads + Wait + Sync, J: Job, P: Pace>(
+pub fn work<R: Threads + Wait + Clock + Sync, J: Job, P: Pace>(
     rt: &R,
     alloc: Global,
     pace: &P,
@@ -63,7 +64,7 @@ pub fn work<R: Threads + Wait + Sync, J: Job, P: Pace>(
 }
 
 // Draws numbers and does the job for each, until none is left or memory is wanting.
-fn run<R: Wait, J: Job, P: Pace>(
+fn run<R: Wait + Clock, J: Job, P: Pace>(
     rt: &R,
     alloc: Global,
     pace: &P,
@@ -97,7 +98,7 @@ fn run<R: Wait, J: Job, P: Pace>(
 }
 
 // Runs all workers beside each other.
-fn run_all<R: Threads + Wait + Sync, J: Job, P: Pace>(
+fn run_all<R: Threads + Wait + Clock + Sync, J: Job, P: Pace>(
     rt: &R,
     alloc: Global,
     pace: &P,

@@ -11,12 +11,13 @@ use crate::fits::Fits;
 use crate::held::Held;
 use crate::kept::Kept;
 use crate::memory::Memory;
+use crate::pause::Pause;
 use crate::rule::{Gives, OnePart, Origin, Slots, Start, Takes, Token};
 use crate::seat::Seat;
 use std::alloc::Global;
 use std::marker::Model;
+use std::rt::Clock;
 use std::sync::Wait;
-use std::thread;
 
 /// A row of slots, each with a value and a lock. All its seats have 2^32 parts together.
 #[derive(Drop)]
@@ -131,7 +132,7 @@ impl<N: Drop, V: Fits<N>> Turns<N, V> {
 impl<N, V: Fits<N>> Turns<N, V> {
     /// Takes the turn of a slot, and its value. Waits while another seat has the turn. What the seat has
     /// of tally and claims is in the value.
-    pub fn take<R: Wait>(&self, rt: &R, seat: &mut Seat<N, V>, slot: u32) -> Held<V>
+    pub fn take<R: Wait + Clock>(&self, rt: &R, seat: &mut Seat<N, V>, slot: u32) -> Held<V>
         requires slot { slot < self.now.slots }
         requires row { seat.old.row ≡ self.now }
         requires free { seat.old.turn ≡ None }
@@ -202,7 +203,7 @@ impl<N, V: Fits<N>> Turns<N, V> {
 }
 
 // Tries until the word was 0, and lets others run between two tries.
-fn win<R: Wait, N, V: Fits<N>>(
+fn win<R: Wait + Clock, N, V: Fits<N>>(
     slots: &Slots<N, V>,
     rt: &R,
     token: &mut Token<N, V, V::Mark>,
@@ -215,11 +216,12 @@ fn win<R: Wait, N, V: Fits<N>>(
     ensures row { token.new.table_id ≡ token.old.table_id }
     ensures won { Won V.fits V.tally V.claims place token.old.me.0 token.new.me }
 {
+    let mut pause = Pause::new();
     for _ in rt.forever() {
         if slots.shared.compare_exchange::<Takes>(token, place, 0, 1) == 0 {
             return;
         }
-        thread::yield_now();
+        pause.wait(rt);
     }
     unreachable!()
 }
