@@ -23,6 +23,10 @@ pub record DirSeatState (N K : Type 0) : Type 0 where
   pub aloft : List (ℕ × K)
   pub made : Made
 
+-- where the directory may keep nothing, nothing was found kept through the seat
+abbrev pub FindsNone : {N K : Type 0} → DirSeatState N K → Type 0
+FindsNone s = s.row.capacity ≡ 0 → s.made.hits ≡ 0
+
 abbrev pub nothing_made : Made
 nothing_made = record { asks = 0; hits = 0; busies = 0; flights = 0; landed = 0; dropped = 0 }
 

@@ -19,6 +19,7 @@ use fx_turn::Turns;
 use std::alloc::Global;
 use std::hash::Hash;
 use std::marker::Model;
+use std::rt::Clock;
 use std::sync::{Arc, Wait};
 
 /// A core that many threads ask, one at a time.
@@ -79,7 +80,7 @@ impl<N: Drop, K: Eq + Hash + Drop, V: Suits<N, K> + Drop> Directory<N, K, V> {
     /// Where the key flies the answer is `Busy`: of the seat's own flights the clause says so. Else the asker
     /// is to make the value, and its flight joins the seat's. Where memory is wanting nothing was asked.
     /// Once 2^62 asks were counted the call doesn't return.
-    pub fn ask<R: Wait>(
+    pub fn ask<R: Wait + Clock>(
         &self,
         rt: &R,
         alloc: Global,
@@ -106,7 +107,7 @@ impl<N: Drop, K: Eq + Hash + Drop, V: Suits<N, K> + Drop> Directory<N, K, V> {
     /// Lands what was made under a flight of the seat, in one turn: the flight ends, and the value is kept as
     /// the most recently used. Where memory is wanting, which needs a capacity above 0, both come back and the
     /// flight still stands.
-    pub fn land<R: Wait>(
+    pub fn land<R: Wait + Clock>(
         &self,
         rt: &R,
         alloc: Global,
@@ -131,7 +132,12 @@ impl<N: Drop, K: Eq + Hash + Drop, V: Suits<N, K> + Drop> Directory<N, K, V> {
     }
 
     /// Drops a flight of the seat, in one turn: it ends, and nothing is kept of it.
-    pub fn drop_flight<R: Wait>(&self, rt: &R, seat: &mut DirSeat<N, K, V>, flight: Flight<K>)
+    pub fn drop_flight<R: Wait + Clock>(
+        &self,
+        rt: &R,
+        seat: &mut DirSeat<N, K, V>,
+        flight: Flight<K>,
+    )
         requires row { seat.old.row ≡ self.now }
         requires own { Stands seat.old.aloft flight }
         ensures row { (seat.new.row ≡ seat.old.row) × (seat.new.parts ≡ seat.old.parts) }

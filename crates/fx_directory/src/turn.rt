@@ -19,10 +19,11 @@ use fx_core::{Answer, Core, Flight, Permit};
 use fx_turn::{Held, Seat, Turns};
 use std::alloc::Global;
 use std::hash::Hash;
+use std::rt::Clock;
 use std::sync::{Arc, Wait};
 
 // Takes the turn. One that finds all asks made is no event: it is given back as it was, and taken again.
-fn take_with_room<R: Wait, N, K: Eq + Hash + Drop, V: Suits<N, K> + Drop>(
+fn take_with_room<R: Wait + Clock, N, K: Eq + Hash + Drop, V: Suits<N, K> + Drop>(
     turns: &Turns<Home<N>, Guarded<K, V>>,
     rt: &R,
     seat: &mut Seat<Home<N>, Guarded<K, V>>,
@@ -48,7 +49,7 @@ fn take_with_room<R: Wait, N, K: Eq + Hash + Drop, V: Suits<N, K> + Drop>(
 }
 
 // Asks for a key in one turn.
-pub(crate) fn ask<R: Wait, N, K: Eq + Hash + Drop, V: Suits<N, K> + Drop>(
+pub(crate) fn ask<R: Wait + Clock, N, K: Eq + Hash + Drop, V: Suits<N, K> + Drop>(
     turns: &Turns<Home<N>, Guarded<K, V>>,
     rt: &R,
     alloc: Global,
@@ -77,7 +78,7 @@ pub(crate) fn ask<R: Wait, N, K: Eq + Hash + Drop, V: Suits<N, K> + Drop>(
 }
 
 // Lands a flight of the seat in one turn.
-pub(crate) fn land<R: Wait, N, K: Eq + Hash + Drop, V: Suits<N, K> + Drop>(
+pub(crate) fn land<R: Wait + Clock, N, K: Eq + Hash + Drop, V: Suits<N, K> + Drop>(
     turns: &Turns<Home<N>, Guarded<K, V>>,
     rt: &R,
     alloc: Global,
@@ -108,7 +109,7 @@ pub(crate) fn land<R: Wait, N, K: Eq + Hash + Drop, V: Suits<N, K> + Drop>(
 }
 
 // Drops a flight of the seat in one turn.
-pub(crate) fn drop_flight<R: Wait, N, K: Eq + Hash + Drop, V: Suits<N, K> + Drop>(
+pub(crate) fn drop_flight<R: Wait + Clock, N, K: Eq + Hash + Drop, V: Suits<N, K> + Drop>(
     turns: &Turns<Home<N>, Guarded<K, V>>,
     rt: &R,
     seat: &mut Seat<Home<N>, Guarded<K, V>>,
