@@ -24,7 +24,7 @@ converted_fits from (s ∷ through) depth c p is = converted_fits s.depth throug
 
 image_fits : (piece : Piece) → IsPiece piece → PixelsFit (image_of (piece_image piece))
 image_fits (Frame view through) is = is.fit
-image_fits (Tile image through) is = is
+image_fits (Tile image cut through) is = is.fit
 
 first_of : (p : Placed) (pieces : List Placed) (depth : Depth) (c : Components) (t : Tap) → IsPiece p.piece → Fits depth c (first_pixel depth c (map given_piece pieces) t) → (b : Bool) → holds_tap (given_piece p) t ≡ b → Fits depth c (first_pixel depth c (map given_piece (p ∷ pieces)) t)
 first_of p pieces depth c t is rest true has = rw has (converted_fits (piece_image p.piece).depth (given_piece p).through depth c _ ((image_fits p.piece is).depth t.x t.y))

@@ -1,10 +1,11 @@
 -- Rows and places of rectangles, and the first piece that has a place.
-use Rattle.std.proofs.Common.{◌≡◌, ◌≤◌, ◌<◌, ℕ, ◌+◌, ◌-◌, ◌*◌, inl, inr, ℤ, pos, negsuc, ◌+ℤ◌, ◌≤ℤ◌, ◌<ℤ◌, Bool, true, false, ◌&&◌, List, [], ◌∷◌, map, length, take, drop, refl, sym, ap, arith, ◌∙◌, w64, to_z, of_z, FitsSigned, get_or, Option, Some, None}
+use Rattle.std.proofs.Common.{◌≡◌, ◌≤◌, ◌<◌, ℕ, ◌+◌, ◌-◌, ◌*◌, ◌⊎◌, inl, inr, zero, suc, ℤ, pos, negsuc, ◌+ℤ◌, ◌≤ℤ◌, ◌<ℤ◌, Bool, true, false, ◌&&◌, if◌then◌else◌, List, [], ◌∷◌, map, length, take, drop, refl, sym, ap, subst, arith, ◌∙◌, w64, to_z, of_z, FitsSigned, get_or, Option, Some, None}
 use Rattle.std.specs.Prelude.{IfSome}
 use Rattle.std.specs.Int.{int_gap}
 use Rattle.std.specs.Int.Signed.{le_z, lt_z}
 use Rattle.std.proofs.lemmas.Int.{ints, to_z-of_z}
 use Rattle.std.proofs.lemmas.List.{length-take, length-drop, drop_more}
+use Rattle.std.proofs.lemmas.List.Elements.{All-head, All-tail}
 use Rattle.std.proofs.Math.Nat.{mul-le-mul_right}
 use Rattle.fx_base.specs.Bounds.{Bounds, IsRect}
 use Rattle.fx_base.specs.Rect.{Holds, within, columns}
@@ -14,13 +15,13 @@ use Rattle.fx_pixel.specs.declared.Depth.TheVariants.{Byte, Short}
 use Rattle.fx_pixel.specs.declared.Components.TheVariants as components
 use Rattle.fx_pixel.specs.declared.Pixel.{Pixel}
 use Rattle.fx_pixel.specs.declared.Pixel.TheVariants.{Rgba, Alpha}
-use Rattle.fx_pixel.specs.Pixel.{zero, components_of, convert}
+use Rattle.fx_pixel.specs.Pixel.{zero as zero_pixel, components_of, convert}
 use Rattle.fx_image.specs.Stored.{Stored, pixel_size, pixel_in, shown}
 use Rattle.fx_image.proofs.PixelLaws.{pixel_of_run, pixel_components}
 use Rattle.fx_image.proofs.RowsLaws.{rows_apart}
 use Rattle.fx_image.proofs.ImageLaws.{gap_below, gap_up_to, gap_split, place_from, place_to}
 use Rattle.fx_effect.specs.Tap.{Tap, tap}
-use Rattle.fx_effect.specs.Given.{is_for, holds_tap, image_pixel, piece_pixel, first_pixel}
+use Rattle.fx_effect.specs.Given.{Keep, AreOne, converted, is_for, holds_tap, image_pixel, piece_pixel, first_pixel}
 use Rattle.fx_effect.specs.Rows.{ShowsRow}
 use Rattle.fx_effect.specs.Placed.{CoversRow, IsPieceRow, piece_rect, given_piece}
 use Rattle.fx_effect.specs.declared.steps.Step.{Step}
@@ -109,7 +110,46 @@ same_pixel Byte (Alpha a) = refl
 same_pixel Short (Rgba r g b a) = refl
 same_pixel Short (Alpha a) = refl
 
-components_zero : (c : Components) → components_of (zero c) ≡ c
+pub kept_through : (d : Depth) (p : Pixel) (steps : List Step) → Keep d (components_of p) steps → converted d steps d (components_of p) p ≡ p
+kept_through d p [] keep = same_pixel d p
+kept_through d p (s ∷ steps) keep =
+    let k = components_of p in
+    let first = All-head (λ (z : Step). (z.depth ≡ d) × (z.components ≡ k)) s steps keep in
+    let rest = kept_through d p steps (All-tail (λ (z : Step). (z.depth ≡ d) × (z.components ≡ k)) s steps keep) in
+    let here : converted s.depth steps d k (convert d s.depth s.components p) ≡ converted d steps d k (convert d d k p) =
+    (λ i. converted (first.0 i) steps d k (convert d (first.0 i) (first.1 i) p)) in
+    here ∙ ap (converted d steps d k) (same_pixel d p) ∙ rest
+
+components_converted : (from to : Depth) (c : Components) (p : Pixel) → components_of (convert from to c p) ≡ c
+components_converted from to components.Rgba (Rgba r g b a) = refl
+components_converted from to components.Rgba (Alpha a) = refl
+components_converted from to components.Alpha (Rgba r g b a) = refl
+components_converted from to components.Alpha (Alpha a) = refl
+
+-- conversions to what a last one gives
+all_last : (from to : Depth) (c : Components) (p : Pixel) (steps : List Step) → Keep to c steps → converted from steps to c p ≡ convert from to c p
+all_last from to c p [] keep = refl
+all_last from to c p (s ∷ steps) keep =
+    let first = All-head (λ (z : Step). (z.depth ≡ to) × (z.components ≡ c)) s steps keep in
+    let rest = All-tail (λ (z : Step). (z.depth ≡ to) × (z.components ≡ c)) s steps keep in
+    let q = convert from to c p in
+    let here : converted s.depth steps to c (convert from s.depth s.components p) ≡ converted to steps to c q =
+    (λ i. converted (first.0 i) steps to c (convert from (first.0 i) (first.1 i) p)) in
+    here ∙ subst (λ (k : Components). Keep to k steps → converted to steps to k q ≡ q) (components_converted from to c p) (kept_through to q steps) rest
+
+-- conversions of which some keep the pixel, and those behind convert to what the last one gives
+pub one_conversion : (from : Depth) (seen : Components) (to : Depth) (c : Components) (n : ℕ) (steps : List Step) → Keep from seen (take n steps) → Keep to c (drop n steps) → AreOne from seen to c steps
+one_conversion from seen to c zero steps first rest p is = all_last from to c p steps rest
+one_conversion from seen to c (suc n) [] first rest p is = refl
+one_conversion from seen to c (suc n) (s ∷ steps) first rest p is =
+    let head = All-head (λ (z : Step). (z.depth ≡ from) × (z.components ≡ seen)) s (take n steps) first in
+    let tail = All-tail (λ (z : Step). (z.depth ≡ from) × (z.components ≡ seen)) s (take n steps) first in
+    let here : converted s.depth steps to c (convert from s.depth s.components p) ≡ converted from steps to c (convert from from seen p) =
+    (λ i. converted (head.0 i) steps to c (convert from (head.0 i) (head.1 i) p)) in
+    let same : convert from from seen p ≡ p = ap (λ k. convert from from k p) (sym is) ∙ same_pixel from p in
+    here ∙ ap (converted from steps to c) same ∙ one_conversion from seen to c n steps tail rest p is
+
+components_zero : (c : Components) → components_of (zero_pixel c) ≡ c
 components_zero components.Rgba = refl
 components_zero components.Alpha = refl
 
@@ -120,9 +160,11 @@ components_shown s x y = go (within s.rect x y) refl
     go true is = rw is (pixel_components s.depth s.components _ _)
     go false is = rw is (components_zero s.components)
 
-pub not_converted : (depth : Depth) (c : Components) (s : Stored) (through : List Step) (x y : ℤ) → s.depth ≡ depth → s.components ≡ c → through ≡ [] → image_pixel depth c s through x y ≡ shown s x y
-not_converted depth c s through x y deep samples none =
-    rw (none, ← deep, ← samples) (ap (λ k. convert s.depth s.depth k (shown s x y)) (sym (components_shown s x y)) ∙ same_pixel s.depth (shown s x y))
+pub not_converted : (depth : Depth) (c : Components) (s : Stored) (through : List Step) (x y : ℤ) → s.depth ≡ depth → s.components ≡ c → Keep s.depth s.components through → image_pixel depth c s through x y ≡ shown s x y
+not_converted depth c s through x y deep samples keep =
+    let p = shown s x y in
+    rw (← deep, ← samples)
+    (subst (λ (k : Components). Keep s.depth k through → converted s.depth through s.depth k p ≡ p) (components_shown s x y) (kept_through s.depth p through) keep)
 
 -- ---- the first piece that has a place
 
@@ -133,6 +175,38 @@ first_here depth c pieces i p t low e h = rw (drop_more pieces i p low, ← e, h
 pub first_next : (depth : Depth) (c : Components) (pieces : List Placed) (i : ℕ) (p : Placed) (t : Tap) → i < length pieces → p ≡ get_or pieces i p → holds_tap (given_piece p) t ≡ false
     → first_pixel depth c (map given_piece (drop (i + 1) pieces)) t ≡ first_pixel depth c (map given_piece (drop i pieces)) t
 first_next depth c pieces i p t low e h = rw (drop_more pieces i p low, ← e, h) refl
+
+-- pieces that don't have the place, before some others and behind them, are not seen there
+pub first_of_near : (depth : Depth) (c : Components) (pieces : List Placed) (from count : ℕ) (t : Tap)
+    → ((j : ℕ) (d : Placed) → j < length pieces → (j < from) ⊎ (from + count ≤ j) → holds_tap (given_piece (get_or pieces j d)) t ≡ false)
+    → first_pixel depth c (map given_piece (take count (drop from pieces))) t ≡ first_pixel depth c (map given_piece pieces) t
+first_of_near depth c [] zero zero t apart = refl
+first_of_near depth c [] zero (suc n) t apart = refl
+first_of_near depth c [] (suc k) zero t apart = refl
+first_of_near depth c [] (suc k) (suc n) t apart = refl
+first_of_near depth c (p ∷ pieces) zero zero t apart =
+    let rest = first_of_near depth c pieces zero zero t (λ j d low out. apart (suc j) d (omega (arith, low)) (inr (omega arith))) in
+    rw (apart 0 p (omega arith) (inr (omega arith))) rest
+first_of_near depth c (p ∷ pieces) zero (suc n) t apart =
+    let rest = first_of_near depth c pieces zero n t (λ j d low out. apart (suc j) d (omega (arith, low)) (later j out)) in
+    go (holds_tap (given_piece p) t) rest
+  where
+    later : (j : ℕ) → (j < 0) ⊎ (0 + n ≤ j) → (suc j < 0) ⊎ (0 + suc n ≤ suc j)
+    later j (inl low) = absurd (omega (arith, low))
+    later j (inr high) = inr (omega (arith, high))
+
+    go : (b : Bool) → first_pixel depth c (map given_piece (take n pieces)) t ≡ first_pixel depth c (map given_piece pieces) t
+        → (if b then piece_pixel depth c (given_piece p) t.x t.y else first_pixel depth c (map given_piece (take n pieces)) t)
+        ≡ (if b then piece_pixel depth c (given_piece p) t.x t.y else first_pixel depth c (map given_piece pieces) t)
+    go true rest = refl
+    go false rest = rest
+first_of_near depth c (p ∷ pieces) (suc k) n t apart =
+    let rest = first_of_near depth c pieces k n t (λ j d low out. apart (suc j) d (omega (arith, low)) (later j out)) in
+    rw (apart 0 p (omega arith) (inl (omega arith))) rest
+  where
+    later : (j : ℕ) → (j < k) ⊎ (k + n ≤ j) → (suc j < suc k) ⊎ (suc k + n ≤ suc j)
+    later j (inl low) = inl (omega (arith, low))
+    later j (inr high) = inr (omega (arith, high))
 
 -- ---- where the bytes of a row lie
 

@@ -1,5 +1,5 @@
 -- Rows of bytes into which a run of pixels was copied.
-use Rattle.std.proofs.Common.{◌≡◌, ◌≤◌, ◌<◌, ◌⊎◌, inl, inr, ℕ, ◌+◌, ◌*◌, ℤ, pos, ◌+ℤ◌, ◌≤ℤ◌, ◌<ℤ◌, Bool, true, false, ◌&&◌, if◌then◌else◌, List, [], ◌∷◌, zero, suc, length, drop, refl, sym, ap, rules, arith, ◌∙◌, w64, to_z, of_z, Fits, FitsSigned, get_or, map}
+use Rattle.std.proofs.Common.{◌≡◌, ◌≢◌, ◌≤◌, ◌<◌, ◌⊎◌, inl, inr, ℕ, ◌+◌, ◌*◌, ℤ, pos, ◌+ℤ◌, ◌≤ℤ◌, ◌<ℤ◌, Bool, true, false, ◌&&◌, if◌then◌else◌, List, [], ◌∷◌, zero, suc, length, drop, refl, sym, ap, rules, arith, ◌∙◌, w64, to_z, of_z, Fits, FitsSigned, get_or, map}
 use Rattle.std.specs.Prelude.{slice_index}
 use Rattle.std.specs.Int.{int_gap}
 use Rattle.std.proofs.lemmas.Int.{ints, to_z-of_z, by_lt_z}
@@ -14,8 +14,7 @@ use Rattle.fx_pixel.specs.declared.Pixel.{Pixel}
 use Rattle.fx_image.proofs.ImageLaws.{gap_is, gap_below, gap_up_to, gap_split, place_from, place_to, inside_from}
 use Rattle.std.specs.Int.Signed.{le_z, lt_z}
 use Rattle.fx_effect.specs.Tap.{Tap}
-use Rattle.fx_effect.specs.Given.{GivenPiece, holds_tap, piece_pixel, first_pixel, any_holds, pixel_over, converted}
-use Rattle.fx_effect.specs.declared.steps.Step.{Step}
+use Rattle.fx_effect.specs.Given.{GivenPiece, holds_tap, piece_pixel, first_pixel, any_holds, pixel_over}
 use Rattle.fx_pixel.specs.Pixel.{convert, zero as zero_pixel}
 use Rattle.fx_effect.specs.declared.piece.Placed.{Placed}
 use Rattle.fx_effect.proofs.PieceLaws.{same_pixel}
@@ -206,8 +205,13 @@ any_here (q ∷ pieces) (suc i) p t low e has = go (holds_tap (given_piece q) t)
     go true rest = refl
     go false rest = rest
 
+-- a pixel beside a run is none of the run
+pub beside_run : (first count i j : ℕ) → i < count → (j < first) ⊎ (first + count ≤ j) → j ≢ first + i
+beside_run first count i j low (inl before) e = absurd (omega arith)
+beside_run first count i j low (inr behind) e = absurd (omega arith)
+
 -- a run from which nothing is converted
-pub run_kept : (d : Depth) (c : Components) (from : Depth) (seen : Components) (through : List Step) (bytes : List ℕ) (i : ℕ) → from ≡ d → seen ≡ c → through ≡ []
-    → converted from through d c (pixel_in from seen bytes i) ≡ pixel_in d c bytes i
-run_kept d c from seen through bytes i deep samples none =
-    rw (none, deep, samples) (ap (λ k. convert d d k (pixel_in d c bytes i)) (sym (pixel_components d c bytes i)) ∙ same_pixel d (pixel_in d c bytes i))
+pub run_kept : (d : Depth) (c : Components) (from : Depth) (seen : Components) (bytes : List ℕ) (i : ℕ) → from ≡ d → seen ≡ c
+    → convert from d c (pixel_in from seen bytes i) ≡ pixel_in d c bytes i
+run_kept d c from seen bytes i deep samples =
+    rw (deep, samples) (ap (λ k. convert d d k (pixel_in d c bytes i)) (sym (pixel_components d c bytes i)) ∙ same_pixel d (pixel_in d c bytes i))

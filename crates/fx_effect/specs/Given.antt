@@ -1,6 +1,6 @@
 -- What an effect may read: pieces that stand for a clip at a frame, all shown at one depth and each clip with its
 -- components.
-use Rattle.std.specs.Prelude.{◌≡◌, ◌<◌, ℕ, ℤ, Bool, true, false, ◌&&◌, List, [], ◌∷◌, length, nat_eq, slice_index_or, if◌then◌else◌}
+use Rattle.std.specs.Prelude.{◌≡◌, ◌<◌, ℕ, ℤ, Bool, true, false, ◌&&◌, List, [], ◌∷◌, length, nat_eq, slice_index_or, if◌then◌else◌, All}
 use Rattle.std.specs.Ordering.{int_eq}
 use Rattle.fx_base.specs.Bounds.{Bounds}
 use Rattle.fx_base.specs.Rect.{within}
@@ -31,6 +31,14 @@ pub record Given : Type 0 where
 abbrev pub converted : Depth → List Step → Depth → Components → Pixel → Pixel
 converted from [] to c p = convert from to c p
 converted from (s ∷ steps) to c p = converted s.depth steps to c (convert from s.depth s.components p)
+
+-- each of the conversions leaves pixels of this depth and these components as they are
+abbrev pub Keep : Depth → Components → List Step → Type 0
+Keep d c steps = All (λ s. (s.depth ≡ d) × (s.components ≡ c)) steps
+
+-- of pixels of this depth and these components, they and a last one make what the last one alone makes
+abbrev pub AreOne : Depth → Components → Depth → Components → List Step → Type 0
+AreOne from seen to c steps = (p : Pixel) → components_of p ≡ seen → converted from steps to c p ≡ convert from to c p
 
 -- whether the piece stands for this clip at this frame
 abbrev pub is_for : GivenPiece → ℕ → ℤ → Bool

@@ -16,5 +16,7 @@ pub mod DefaultLaws
 pub mod ShapeLaws
 pub mod ShapeTests
 pub mod Source
+pub mod SourceLaws
 pub mod Generator
 pub mod Local
+pub mod PairLaws

@@ -1,11 +1,11 @@
 -- The numbers of lawful values lie in the ranges of their parameters.
-use Rattle.std.specs.Prelude.{ℕ, ◌<◌, ℤ, pos, ◌≤ℤ◌, List, [], ◌∷◌, length, slice_index_or}
+use Rattle.std.specs.Prelude.{ℕ, ◌≤◌, ◌<◌, ℤ, pos, negsuc, ◌≤ℤ◌, List, [], ◌∷◌, length, slice_index_or}
 use Rattle.std.specs.List.{AllZip}
 use Rattle.std.proofs.Common.{zero, suc, arith}
 use Rattle.std.proofs.lemmas.Int.{ints}
 use Rattle.fx_params.specs.declared.def.ParamDef.{ParamDef}
 use Rattle.fx_effect.specs.Shape.{InRange}
-use Rattle.fx_effect.specs.Numbers.{number}
+use Rattle.fx_effect.specs.Numbers.{number, natural}
 use Rattle.fx_effect.specs.declared.values.Values.{Values}
 
 within_at : (defs : List ParamDef) (numbers : List ℤ) (k : ℕ) (d : ParamDef) → AllZip InRange defs numbers
@@ -31,3 +31,7 @@ between def n within = record { above = grind (arith, ints); below = grind (arit
 pub number_between : (defs : List ParamDef) (v : Values) (k : ℕ) (d : ParamDef) → AllZip InRange defs v.numbers
     → k < length defs → Between (slice_index_or defs k d).least (slice_index_or defs k d).greatest (number v k)
 number_between defs v k d all low = between (slice_index_or defs k d) (number v k) (number_within defs v k d all low)
+
+pub natural_up_to : (n : ℤ) (most : ℕ) → n ≤ℤ pos most → natural n ≤ most
+natural_up_to (pos n) most below = omega (arith, ints)
+natural_up_to (negsuc n) most below = omega arith

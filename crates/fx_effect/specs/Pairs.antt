@@ -1,8 +1,11 @@
--- Pixels that are made of the pixels of two clips at their own place.
-use Rattle.std.specs.Prelude.{ℤ}
+-- Pixels that are made of the pixels of two clips at their own place, and the hull of both clips' regions.
+use Rattle.std.specs.Prelude.{ℤ, List}
+use Rattle.fx_base.specs.Bounds.{Bounds}
+use Rattle.fx_base.specs.Rect.{hull}
 use Rattle.fx_pixel.specs.declared.Depth.{Depth}
 use Rattle.fx_pixel.specs.declared.Components.{Components}
 use Rattle.fx_pixel.specs.declared.Pixel.{Pixel}
+use Rattle.fx_props.specs.Entries.{region_of}
 use Rattle.fx_effect.specs.declared.pairs.Reading.{Reading}
 use Rattle.fx_effect.specs.Given.{Given, row_pixel, ShowsClip}
 
@@ -15,3 +18,7 @@ pub record ShowsPair (given : Given) (first second : Reading) (depth : Depth) (c
 abbrev pub pair_pixel : (Pixel → Pixel → Pixel) → Given → Reading → Reading → ℤ → ℤ → Pixel
 pair_pixel of given first second x y =
     of (row_pixel given first.clip first.frame x y) (row_pixel given second.clip second.frame x y)
+
+-- the hull of the regions of the first two clips
+abbrev pub both_regions : List Bounds → Bounds
+both_regions regions = hull (region_of regions 0) (region_of regions 1)

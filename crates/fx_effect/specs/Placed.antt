@@ -3,7 +3,7 @@ use Rattle.std.specs.Prelude.{◌≡◌, ◌&&◌, ℕ, ◌*◌, ℤ, ◌≤ℤ�
 use Rattle.std.specs.List.{All}
 use Rattle.std.specs.Arc.{arc_value}
 use Rattle.fx_base.specs.Bounds.{Bounds}
-use Rattle.fx_base.specs.Rect.{within, columns}
+use Rattle.fx_base.specs.Rect.{IsWithin, within, columns}
 use Rattle.fx_pixel.specs.declared.Depth.{Depth}
 use Rattle.fx_pixel.specs.declared.Components.{Components}
 use Rattle.fx_pixel.specs.declared.Pixel.{Pixel}
@@ -17,23 +17,28 @@ use Rattle.fx_effect.specs.declared.piece.Piece.{Piece}
 use Rattle.fx_effect.specs.declared.piece.Piece.TheVariants.{Frame, Tile}
 use Rattle.fx_effect.specs.declared.piece.Placed.{Placed}
 
--- the rectangle of a shared image is the whole of it
+-- of a shared image it is the cut
 abbrev pub piece_rect : Piece → Bounds
 piece_rect (Frame view through) = view.rect
-piece_rect (Tile image through) = (arc_value image).rect
+piece_rect (Tile image cut through) = cut
 
 abbrev pub piece_image : Piece → Stored
 piece_image (Frame view through) = view.image.now
-piece_image (Tile image through) = arc_value image
+piece_image (Tile image cut through) = arc_value image
 
 abbrev pub piece_steps : Piece → List Step
 piece_steps (Frame view through) = through
-piece_steps (Tile image through) = through
+piece_steps (Tile image cut through) = through
+
+-- the cut lies in a shared image, whose pixels are of its depth and components
+pub record IsCutOf (image : Stored) (cut : Bounds) : Type 0 where
+  pub within : IsWithin cut image.rect
+  pub fit : PixelsFit (image_of image)
 
 -- its rectangle lies in its image, whose pixels are of its depth and components
 abbrev pub IsPiece : Piece → Type 0
 IsPiece (Frame view through) = IsView view
-IsPiece (Tile image through) = PixelsFit (image_of (arc_value image))
+IsPiece (Tile image cut through) = IsCutOf (arc_value image) cut
 
 -- the piece, where it stands for a clip at a frame
 abbrev pub piece_at : ℕ → ℤ → Piece → GivenPiece

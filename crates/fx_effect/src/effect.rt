@@ -221,6 +221,10 @@ pub trait Catalogue: ImageEffect + Sized {
     fn safety(&self) -> Safety
         ensures { result ≡ (Self.meaning self.now).shape.safety };
 
+    /// Whether it renders parts of an image, as `describe` writes it.
+    fn supports_tiles(&self) -> bool
+        ensures { result ≡ (Self.meaning self.now).shape.tiles };
+
     ghost one_name: { (a b : Self) → number_of a ≡ number_of b → called a ≡ called b };
 
     ghost one_meaning: { (a b : Self) → number_of a ≡ number_of b → Self.meaning a ≡ Self.meaning b };

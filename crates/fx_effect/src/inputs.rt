@@ -107,12 +107,37 @@ impl<'a> Inputs<'a> {
         ensures { let c = clip_components self.now clip in
             ShowsRow self.now.depth c rect y (row_pixel self.now clip frame) row.new }
     {
-        match self.row(clip, frame, rect, y) {
+        let components = self.components[clip as usize];
+        let pieces = near_row(self.pieces.as_slice(), clip, frame, rect, y);
+        match row_in_pieces(pieces, self.depth, components, clip, frame, rect, y) {
             Some(bytes) => row.copy_from_slice(bytes),
+            None => read_pieces(pieces, self.depth, components, clip, frame, rect, y, row),
+        }
+    }
+
+    /// The bytes of row y of the rectangle, each pixel what `at` gives: lent where one piece has the whole
+    /// row and converts nothing, and else written into these bytes.
+    pub fn lend_row<'s>(
+        &'s self,
+        clip: u32,
+        frame: i64,
+        rect: Rect,
+        y: i64,
+        bytes: &'s mut [u8],
+    ) -> &'s [u8]
+        requires clip { clip < length self.now.components }
+        requires row { IsLine self.now.depth (clip_components self.now clip) rect y bytes.old }
+        ensures long { length result.now ≡ length bytes.old }
+        ensures shows { let c = clip_components self.now clip in
+            ShowsRow self.now.depth c rect y (row_pixel self.now clip frame) result.now }
+    {
+        let components = self.components[clip as usize];
+        let pieces = near_row(self.pieces.as_slice(), clip, frame, rect, y);
+        match row_in_pieces(pieces, self.depth, components, clip, frame, rect, y) {
+            Some(lent) => lent,
             None => {
-                let components = self.components[clip as usize];
-                let pieces = self.pieces.as_slice();
-                read_pieces(pieces, self.depth, components, clip, frame, rect, y, row);
+                read_pieces(pieces, self.depth, components, clip, frame, rect, y, bytes);
+                bytes
             }
         }
     }
@@ -127,7 +152,7 @@ impl<'a> Inputs<'a> {
             IfSome result (λ bytes. ShowsRow self.now.depth c rect y (row_pixel self.now clip frame) bytes.now) }
     {
         let components = self.components[clip as usize];
-        let pieces = self.pieces.as_slice();
+        let pieces = near_row(self.pieces.as_slice(), clip, frame, rect, y);
         row_in_pieces(pieces, self.depth, components, clip, frame, rect, y)
     }
 }
@@ -168,6 +193,34 @@ fn pieces_fit(pieces: &[Placed<'_>])
         IsOfDepth depth p × (components_of p ≡ c) }
 {
     let _len = pieces.len();
+}
+
+// The pieces from the first that has a place of row y of the rectangle to the last one: each is asked this
+// before anything else, so that of many pieces those of other rows cost little.
+fn near_row<'s, 'a>(
+    pieces: &'s [Placed<'a>],
+    clip: u32,
+    frame: i64,
+    rect: Rect,
+    y: i64,
+) -> &'s [Placed<'a>]
+    requires { ArePlaced pieces.now }
+    ensures placed { ArePlaced result.now }
+    ensures pixels { (depth : Depths) (c : Samples) (x : ℤ) → Holds rect x y
+        → pieces_pixel depth c (map given_piece result.now) clip frame x y
+        ≡ pieces_pixel depth c (map given_piece pieces.now) clip frame x y }
+{
+    let mut from = 0;
+    let mut to = 0;
+    for i in 0..pieces.len() {
+        if pieces[i].meets(clip, frame, rect, y) {
+            if to == 0 {
+                from = i;
+            }
+            to = i + 1;
+        }
+    }
+    &pieces[from..to]
 }
 
 fn row_in_pieces<'s>(

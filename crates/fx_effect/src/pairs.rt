@@ -116,9 +116,10 @@ impl<'a, 'b, K: PairKernel> RowKernel for PairRows<'a, 'b, K> {
     ) {
         let (first, second) = (self.first, self.second);
         self.inputs.read_row(first.clip, first.frame, rect, y, row);
-        self.inputs
-            .read_row(second.clip, second.frame, rect, y, bytes);
-        pair_row(self.kernel, depth, components, bytes, row);
+        let other = self
+            .inputs
+            .lend_row(second.clip, second.frame, rect, y, bytes);
+        pair_row(self.kernel, depth, components, other, row);
     }
 }
 

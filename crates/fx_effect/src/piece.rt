@@ -23,9 +23,16 @@ use std::sync::Arc;
 #[derive(Drop)]
 pub enum Piece<'a> {
     /// A rectangle of an image that is lent, whose pixels go through these conversions first.
-    Frame { view: View<'a>, through: Steps },
-    /// A whole image that is shared, in the same way.
-    Tile { image: Arc<Image>, through: Steps },
+    Frame {
+        view: View<'a>,
+        through: Steps,
+    },
+    /// A rectangle of an image that is shared, in the same way.
+    Tile {
+        image: Arc<Image>,
+        cut: Rect,
+        through: Steps,
+    },
 }
 
 impl<'a> Piece<'a> {
@@ -34,7 +41,11 @@ impl<'a> Piece<'a> {
     {
         match self {
             Piece::Frame { view, through: _ } => view.rect(),
-            Piece::Tile { image, through: _ } => image.rect(),
+            Piece::Tile {
+                image: _,
+                cut,
+                through: _,
+            } => *cut,
         }
     }
 }
@@ -93,8 +104,12 @@ impl<'a> Placed<'a> {
     {
         match &self.piece {
             Piece::Frame { view, through } => pixel_of(view, through, depth, components, x, y),
-            Piece::Tile { image, through } => {
-                let view = image.view(image.rect());
+            Piece::Tile {
+                image,
+                cut,
+                through,
+            } => {
+                let view = image.view(*cut);
                 pixel_of(&view, through, depth, components, x, y)
             }
         }
@@ -161,8 +176,12 @@ impl<'a> Placed<'a> {
             Piece::Frame { view, through } => {
                 paint_view(view, through, depth, components, rect, both, y, row);
             }
-            Piece::Tile { image, through } => {
-                let view = image.view(image.rect());
+            Piece::Tile {
+                image,
+                cut,
+                through,
+            } => {
+                let view = image.view(*cut);
                 paint_view(&view, through, depth, components, rect, both, y, row);
             }
         }
@@ -184,6 +203,7 @@ impl<'a> Placed<'a> {
             Piece::Frame { view, through } => frame_row(view, through, depth, components, rect, y),
             Piece::Tile {
                 image: _,
+                cut: _,
                 through: _,
             } => None,
         }
@@ -258,7 +278,7 @@ fn frame_row<'s>(
 {
     if view.depth() == depth
         && view.components() == components
-        && through.items().is_empty()
+        && through.keep(depth, components)
         && covers_row(view.rect(), rect, y)
     {
         Some(row_within(view, rect, y))

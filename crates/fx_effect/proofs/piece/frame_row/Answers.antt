@@ -1,7 +1,8 @@
-use Rattle.std.proofs.Common.{◌≡◌, length, refl, sym, ◌∙◌, rules, w64, FitsSigned}
+use Rattle.std.proofs.Common.{◌≡◌, refl, sym, ◌∙◌, rules, w64, FitsSigned}
 use Rattle.std.proofs.lemmas.Int.{to_z-of_z}
 use Rattle.fx_effect.specs.Placed.{CoversRow}
-use Rattle.fx_effect.proofs.PieceLaws.{nil_of, not_converted}
+use Rattle.fx_effect.specs.Given.{Keep}
+use Rattle.fx_effect.proofs.PieceLaws.{not_converted}
 use Rattle.fx_effect.proofs.piece.frame_row.Goals as goal
 
 pub returns-then-covers_row : goal.returns-then-covers_row
@@ -9,8 +10,8 @@ returns-then-covers_row c =
     let image = c.args.view.now.image.now in
     let deep : image.depth ≡ c.args.depth = search rules in
     let samples : image.components ≡ c.args.components = search rules in
-    let few : length c.args.through.now ≡ 0 = search rules in
-    let none = nil_of c.args.through.now few in
+    let kept : Keep c.args.depth c.args.components c.args.through.now = search rules in
+    let none : Keep image.depth image.components c.args.through.now = rw (deep, samples) kept in
     let covers : CoversRow c.args.view.now.rect c.args.rect c.args.y = search rules in
     let row : FitsSigned w64 c.args.y = c.ranges.y in
     let pixels = simp to_z-of_z at c.row_within.ensures.pixels in

@@ -1,8 +1,8 @@
-use Rattle.std.proofs.Common.{◌≢◌, ◌<◌, ◌≤◌, ◌⊎◌, inl, inr, ◌+◌, ℕ, length, ap, below_more, arith, ◌∙◌, rules}
+use Rattle.std.proofs.Common.{◌≢◌, ◌+◌, length, ap, below_more, arith, ◌∙◌, rules}
 use Rattle.fx_image.specs.Stored.{pixel_size}
 use Rattle.fx_image.proofs.RowsLaws.{rows_apart}
 use Rattle.fx_effect.specs.Given.{converted}
-use Rattle.fx_effect.proofs.RunLaws.{few_pixels, few_fit, run_room}
+use Rattle.fx_effect.proofs.RunLaws.{few_pixels, few_fit, run_room, beside_run}
 use Rattle.fx_effect.proofs.runs.convert_each.Goals as goal
 
 pub pixel-p-requires : goal.pixel-p-requires
@@ -26,9 +26,5 @@ loop-i-preserved c =
       painted = below_more _ _
           (λ k low. let other : c.args.first + k ≢ c.args.first + i = λ e. absurd (omega arith) in others (c.args.first + k) other ∙ c.loop-i.invariant.painted k low)
           (there ∙ c.convert-q.ensures.value ∙ ap (converted c.args.from c.args.through.now c.args.depth c.args.components) c.pixel-p.ensures.value);
-      others = λ j out. others j (apart c.args.first c.args.count i j c.loop-i-test.true out) ∙ c.loop-i.invariant.others j out;
+      others = λ j out. others j (beside_run c.args.first c.args.count i j c.loop-i-test.true out) ∙ c.loop-i.invariant.others j out;
     }
-  where
-    apart : (first count i j : ℕ) → i < count → (j < first) ⊎ (first + count ≤ j) → j ≢ first + i
-    apart first count i j low (inl before) e = absurd (omega arith)
-    apart first count i j low (inr behind) e = absurd (omega arith)

@@ -1,11 +1,9 @@
-use Rattle.std.proofs.Common.{◌≡◌, length, sym, ◌∙◌, rules}
-use Rattle.fx_effect.proofs.PieceLaws.{nil_of}
-use Rattle.fx_effect.proofs.RunLaws.{run_kept}
+use Rattle.std.proofs.Common.{sym, ◌∙◌}
+use Rattle.fx_image.specs.Stored.{pixel_in}
+use Rattle.fx_image.proofs.PixelLaws.{pixel_components}
 use Rattle.fx_effect.proofs.runs.write_run.Goals as goal
 
-pub returns-then-is_empty-clause-painted : goal.returns-then-is_empty-clause-painted
-returns-then-is_empty-clause-painted c i low =
-    let deep : c.args.from ≡ c.args.depth = search rules in
-    let samples : c.args.seen ≡ c.args.components = search rules in
-    let few : length c.args.through.now ≡ 0 = search rules in
-    c.copy_pixels.ensures.copied i low ∙ sym (run_kept c.args.depth c.args.components c.args.from c.args.seen c.args.through.now c.args.source.now i deep samples (nil_of c.args.through.now few))
+pub returns-then-are_one-clause-painted : goal.returns-then-are_one-clause-painted
+returns-then-are_one-clause-painted c i low =
+    let p = pixel_in c.args.from c.args.seen c.args.source.now i in
+    c.turn_run.ensures.painted i low ∙ sym (c.are_one.ensures c.if-are_one.true p (pixel_components c.args.from c.args.seen c.args.source.now i))

@@ -1,5 +1,4 @@
-use Rattle.std.proofs.Common.{◌≡◌, ◌∙◌, ap, subst, if◌then◌else◌, w64, FitsSigned}
-use Rattle.std.specs.Arc.{arc_value}
+use Rattle.std.proofs.Common.{◌≡◌, ◌∙◌, subst, if◌then◌else◌, w64, FitsSigned}
 use Rattle.std.specs.Int.{int_gap}
 use Rattle.std.proofs.lemmas.Int.{to_z-of_z}
 use Rattle.fx_base.specs.Bounds.{Bounds}
@@ -21,4 +20,4 @@ returns-in-Tile c x inside =
     λ s r. pixel_in d k c.paint_view-in-Tile.new.row i ≡ (if within r x c.args.y then image_pixel d k s c.in-Tile.through x c.args.y else pixel_in d k c.args.row.now i) in
     let painted : P c.view-view.result.image.now c.view-view.result.rect = (simp to_z-of_z at c.paint_view-in-Tile.ensures) x inside in
     rw c.in-Tile.is
-    (subst (λ s. P s (arc_value c.in-Tile.image).rect) (c.view-view.ensures.value ∙ c.deref.ensures) (subst (P c.view-view.result.image.now) (c.view-view.ensures.rect ∙ c.rect.ensures ∙ ap (λ (s : Stored). s.rect) c.deref-in-Tile.ensures) painted))
+    (subst (λ s. P s c.in-Tile.cut) (c.view-view.ensures.value ∙ c.deref.ensures) (subst (P c.view-view.result.image.now) c.view-view.ensures.rect painted))
