@@ -1,4 +1,4 @@
--- A range of frames that is rendered in pieces.
+-- A range of frames that is rendered in stretches.
 use Rattle.std.proofs.Common.{◌≡◌, ◌≤◌, inl, inr, ◌⊎◌, ℕ, ℤ, pos, negsuc, ◌≤ℤ◌, Bool, true, false, nat_eq, List, [], ◌∷◌, Option, Some, refl, sym, ap, subst, ◌∙◌, arith}
 use Rattle.std.specs.Ordering.{int_eq}
 use Rattle.std.proofs.lemmas.Bool.{and_parts, false≢true}
@@ -27,7 +27,7 @@ use Rattle.fx_scene.proofs.WantLemmas.{contains_of}
 use Rattle.fx_shipped.specs.Shipped.{meaning_of}
 use Rattle.fx_app.specs.Graphs.{Graph, frame_count}
 use Rattle.fx_app.specs.Files.{AreImages, IsFileOf, file_name, file_text}
-use Rattle.fx_app.specs.Split.{ArePieces, HasRun, HaveRun, IsIn, Piece, PiecesMakeWhole, PiecesWantNoMore}
+use Rattle.fx_app.specs.Split.{AreStretches, HasRun, HaveRun, IsIn, Stretch, StretchesMakeWhole, StretchesWantNoMore}
 use Rattle.fx_app.specs.declared.graph.TheConstants.{GRAPH_SIDE}
 use Rattle.fx_app.proofs.SplitFiles.{IsOf, hit, miss, seek}
 use Rattle.fx_app.proofs.SplitImages.{frame_image, same_image}
@@ -40,7 +40,7 @@ natural : (a b : ℕ) (t : ℤ) → pos a ≤ℤ t → t ≤ℤ pos b → (k : �
 natural a b (pos k) low high = (k, refl, omega (arith, ints, low), omega (arith, ints, high))
 natural a b (negsuc k) low high = absurd (omega (arith, ints, low))
 
-reached_more : (nodes : Nodes) (output : ℕ) (whole p : Piece) → ((t : ℕ) → IsIn p t → IsIn whole t) → (n : ℕ) (t : ℤ)
+reached_more : (nodes : Nodes) (output : ℕ) (whole p : Stretch) → ((t : ℕ) → IsIn p t → IsIn whole t) → (n : ℕ) (t : ℤ)
     → IsReached nodes output (pos p.first) (pos p.last) n t → IsReached nodes output (pos whole.first) (pos whole.last) n t
 reached_more nodes output whole p inside n t reached s closed =
     reached s (record { start = λ u low high. start u low high; reads = closed.reads })
@@ -54,12 +54,12 @@ reached_more nodes output whole p inside n t reached s closed =
         let same = k.1 in
         closed.start u (omega (arith, ints, same, from)) (omega (arith, ints, same, to))
 
-pub wanted_more : (nodes : Nodes) (output : ℕ) (whole p : Piece) → ((t : ℕ) → IsIn p t → IsIn whole t) → (n : ℕ) (f : ℤ)
+pub wanted_more : (nodes : Nodes) (output : ℕ) (whole p : Stretch) → ((t : ℕ) → IsIn p t → IsIn whole t) → (n : ℕ) (f : ℤ)
     → IsWanted nodes output (pos p.first) (pos p.last) n f → IsWanted nodes output (pos whole.first) (pos whole.last) n f
 wanted_more nodes output whole p inside n f wanted =
     record { at = wanted.at; reached = reached_more nodes output whole p inside n wanted.at wanted.reached; shows = wanted.shows }
 
-pub want_no_more : (g : Graph) → PiecesWantNoMore g
+pub want_no_more : (g : Graph) → StretchesWantNoMore g
 want_no_more g whole p wanted some inside all of w listed =
     all.frames.all w.node w.frame (wanted_more (graph_nodes meaning_of g no_images) g.output whole p inside w.node w.frame (of.frames.only w listed))
 
@@ -143,16 +143,16 @@ same_file library name other a b same p q =
     (subst (λ (o : Option Image). scene.AreSame (Some p.image) o) (sym q.is)
     (same_image q.file.bytes GRAPH_SIDE p.image q.image (subst (λ bs. IsPam bs GRAPH_SIDE p.image) bytes p.file.reads) q.file.reads))
 
--- ---- runs over pieces of a whole
+-- ---- runs over stretches of a whole
 
-module _ (g : Graph) (one : runs g.file ≡ 1) (depend : PicturesDependOnWanted meaning_of g) (library : Files) (whole : Piece)
+module _ (g : Graph) (one : runs g.file ≡ 1) (depend : PicturesDependOnWanted meaning_of g) (library : Files) (whole : Stretch)
     (few : whole.last ≤ LAST_FRAME) where
-  -- a frame's file in a run over a piece is that in a run over the whole
+  -- a frame's file in a run over a stretch is that in a run over the whole
   module _ (start end : Files) (all : HasRun g library whole start end) where
     text : ℕ → List ℕ
     text t = file_text g all.images t
 
-    agree : (p : Piece) (old new : Files) (run : HasRun g library p old new) → ((t : ℕ) → IsIn p t → IsIn whole t)
+    agree : (p : Stretch) (old new : Files) (run : HasRun g library p old new) → ((t : ℕ) → IsIn p t → IsIn whole t)
         → scene.AgreeOnWanted meaning_of g g.output (pos p.first) (pos p.last) run.images all.images
     agree p old new run inside k f w =
         let e = run.are.frames.all k f w in
@@ -166,7 +166,7 @@ module _ (g : Graph) (one : runs g.file ≡ 1) (depend : PicturesDependOnWanted 
         same_file library e.entry.name d.entry.name (run.images k f) (all.images k f) name
         (has_file library run.wanted run.images run.shown k f e) (has_file library all.wanted all.images all.shown k f d)
 
-    same_text : (p : Piece) (old new : Files) (run : HasRun g library p old new) → ((t : ℕ) → IsIn p t → IsIn whole t) → (t : ℕ) → IsIn p t
+    same_text : (p : Stretch) (old new : Files) (run : HasRun g library p old new) → ((t : ℕ) → IsIn p t → IsIn whole t) → (t : ℕ) → IsIn p t
         → file_text g run.images t ≡ text t
     unfolding file_text text
     same_text p old new run inside t is =
@@ -176,25 +176,25 @@ module _ (g : Graph) (one : runs g.file ≡ 1) (depend : PicturesDependOnWanted 
         (depend (pos p.first) (pos p.last) run.images all.images (images_are library run.wanted run.images run.shown)
         (images_are library all.wanted all.images all.shown) (agree p old new run inside) (pos t) (omega (arith, ints, from)) (omega (arith, ints, to)))
 
-    of_piece : (p : Piece) (t : ℕ) → IsIn p t → IsOf p.first (frame_count p.first p.last) t
-    of_piece p t is = let from = is.from in let to = is.to in record { from = from; below = omega (arith, from, to) }
+    of_stretch : (p : Stretch) (t : ℕ) → IsIn p t → IsOf p.first (frame_count p.first p.last) t
+    of_stretch p t is = let from = is.from in let to = is.to in record { from = from; below = omega (arith, from, to) }
 
-    in_piece : (p : Piece) (t : ℕ) → IsOf p.first (frame_count p.first p.last) t → IsIn p t
-    in_piece p t is = let from = is.from in let below = is.below in record { from = from; to = omega (arith, from, below) }
+    in_stretch : (p : Stretch) (t : ℕ) → IsOf p.first (frame_count p.first p.last) t → IsIn p t
+    in_stretch p t is = let from = is.from in let below = is.below in record { from = from; to = omega (arith, from, below) }
 
-    -- the file of a frame of the piece is put
-    run_hit : (p : Piece) (old new : Files) → HasRun g library p old new → ((t : ℕ) → IsIn p t → IsIn whole t) → (t : ℕ) → IsIn p t
+    -- the file of a frame of the stretch is put
+    run_hit : (p : Stretch) (old new : Files) → HasRun g library p old new → ((t : ℕ) → IsIn p t → IsIn whole t) → (t : ℕ) → IsIn p t
         → new (file_name g t) ≡ Some (text t)
     run_hit p old new run inside t is =
         let from = is.from in
         let to = is.to in
         let last = (inside p.last (record { from = omega (arith, from, to); to = omega arith })).to in
         run.gained (file_name g t)
-        ∙ hit g one run.images p.first (frame_count p.first p.last) old t (omega (arith, from, to, last, few)) (of_piece p t is)
+        ∙ hit g one run.images p.first (frame_count p.first p.last) old t (omega (arith, from, to, last, few)) (of_stretch p t is)
         ∙ ap Some (same_text p old new run inside t is)
 
     -- the file of a frame of the whole stays
-    run_keep : (p : Piece) (old new : Files) → HasRun g library p old new → ((t : ℕ) → IsIn p t → IsIn whole t) → (t : ℕ) → IsIn whole t
+    run_keep : (p : Stretch) (old new : Files) → HasRun g library p old new → ((t : ℕ) → IsIn p t → IsIn whole t) → (t : ℕ) → IsIn whole t
         → old (file_name g t) ≡ Some (text t) → new (file_name g t) ≡ Some (text t)
     run_keep p old new run inside t is before = by (seek g one p.first (frame_count p.first p.last) (file_name g t))
       where
@@ -202,7 +202,7 @@ module _ (g : Graph) (one : runs g.file ≡ 1) (depend : PicturesDependOnWanted 
             ⊎ ((u : ℕ) → IsOf p.first (frame_count p.first p.last) u → file_name g u ≡ file_name g t → ⊥)
             → new (file_name g t) ≡ Some (text t)
         by (inl found) =
-            let at = in_piece p found.0 found.1 in
+            let at = in_stretch p found.0 found.1 in
             let low = (inside found.0 at).to in
             let high = is.to in
             let same : found.0 ≡ t = name_of-apart g.file found.0 t one (omega (arith, low, few)) (omega (arith, high, few)) found.2 in
@@ -210,55 +210,55 @@ module _ (g : Graph) (one : runs g.file ≡ 1) (depend : PicturesDependOnWanted 
         by (inr none) = run.gained (file_name g t) ∙ miss g one run.images p.first (frame_count p.first p.last) old (file_name g t) none ∙ before
 
     -- a name of no frame of the whole has what it had
-    run_miss : (p : Piece) (old new : Files) → HasRun g library p old new → ((t : ℕ) → IsIn p t → IsIn whole t) → (name : List ℕ)
+    run_miss : (p : Stretch) (old new : Files) → HasRun g library p old new → ((t : ℕ) → IsIn p t → IsIn whole t) → (name : List ℕ)
         → ((t : ℕ) → IsIn whole t → file_name g t ≡ name → ⊥) → new name ≡ old name
     run_miss p old new run inside name none =
-        run.gained name ∙ miss g one run.images p.first (frame_count p.first p.last) old name (λ t is. none t (inside t (in_piece p t is)))
+        run.gained name ∙ miss g one run.images p.first (frame_count p.first p.last) old name (λ t is. none t (inside t (in_stretch p t is)))
 
-    runs_keep : (pieces : List Piece) (old new : Files) → HaveRun g library pieces old new → ((p : Piece) → In pieces p → (t : ℕ) → IsIn p t → IsIn whole t)
+    runs_keep : (stretches : List Stretch) (old new : Files) → HaveRun g library stretches old new → ((p : Stretch) → In stretches p → (t : ℕ) → IsIn p t → IsIn whole t)
         → (t : ℕ) → IsIn whole t → old (file_name g t) ≡ Some (text t) → new (file_name g t) ≡ Some (text t)
     runs_keep [] old new run inside t is before = run (file_name g t) ∙ before
     runs_keep (p ∷ ps) old new run inside t is before =
         runs_keep ps run.0 new run.2 (λ q i. inside q (inr i)) t is (run_keep p old run.0 run.1 (inside p (inl refl)) t is before)
 
-    runs_hit : (pieces : List Piece) (old new : Files) → HaveRun g library pieces old new → ((p : Piece) → In pieces p → (t : ℕ) → IsIn p t → IsIn whole t)
-        → (p : Piece) → In pieces p → (t : ℕ) → IsIn p t → new (file_name g t) ≡ Some (text t)
+    runs_hit : (stretches : List Stretch) (old new : Files) → HaveRun g library stretches old new → ((p : Stretch) → In stretches p → (t : ℕ) → IsIn p t → IsIn whole t)
+        → (p : Stretch) → In stretches p → (t : ℕ) → IsIn p t → new (file_name g t) ≡ Some (text t)
     runs_hit [] old new run inside p there t is = absurd there
     runs_hit (q ∷ ps) old new run inside p there t is = elim there [
       | inl e ↦
           runs_keep ps run.0 new run.2 (λ r i. inside r (inr i)) t (inside p (inl e) t is)
-          (run_hit q old run.0 run.1 (inside q (inl refl)) t (subst (λ (r : Piece). IsIn r t) (sym e) is))
+          (run_hit q old run.0 run.1 (inside q (inl refl)) t (subst (λ (r : Stretch). IsIn r t) (sym e) is))
       | inr i ↦ runs_hit ps run.0 new run.2 (λ r j. inside r (inr j)) p i t is
     ]
 
-    runs_miss : (pieces : List Piece) (old new : Files) → HaveRun g library pieces old new → ((p : Piece) → In pieces p → (t : ℕ) → IsIn p t → IsIn whole t)
+    runs_miss : (stretches : List Stretch) (old new : Files) → HaveRun g library stretches old new → ((p : Stretch) → In stretches p → (t : ℕ) → IsIn p t → IsIn whole t)
         → (name : List ℕ) → ((t : ℕ) → IsIn whole t → file_name g t ≡ name → ⊥) → new name ≡ old name
     runs_miss [] old new run inside name none = run name
     runs_miss (p ∷ ps) old new run inside name none =
         runs_miss ps run.0 new run.2 (λ q i. inside q (inr i)) name none ∙ run_miss p old run.0 run.1 (inside p (inl refl)) name none
 
-    pub whole_made : (pieces : List Piece) (new : Files) → ArePieces whole pieces → HaveRun g library pieces start new → SameFiles end new
-    whole_made pieces new are run name = by (seek g one whole.first (frame_count whole.first whole.last) name)
+    pub whole_made : (stretches : List Stretch) (new : Files) → AreStretches whole stretches → HaveRun g library stretches start new → SameFiles end new
+    whole_made stretches new are run name = by (seek g one whole.first (frame_count whole.first whole.last) name)
       where
-        inside : (p : Piece) → In pieces p → (t : ℕ) → IsIn p t → IsIn whole t
-        inside p i t is = are.only p t (contains_of pieces p i) is
+        inside : (p : Stretch) → In stretches p → (t : ℕ) → IsIn p t → IsIn whole t
+        inside p i t is = are.only p t (contains_of stretches p i) is
 
         by : ((u : ℕ) × IsOf whole.first (frame_count whole.first whole.last) u × (file_name g u ≡ name))
             ⊎ ((u : ℕ) → IsOf whole.first (frame_count whole.first whole.last) u → file_name g u ≡ name → ⊥) → new name ≡ end name
         by (inl found) =
             let t = found.0 in
-            let at = in_piece whole t found.1 in
+            let at = in_stretch whole t found.1 in
             let of = are.all t at in
-            let pieces_have = runs_hit pieces start new run inside of.0 (in_of pieces of.0 of.1) t of.2 in
+            let stretches_have = runs_hit stretches start new run inside of.0 (in_of stretches of.0 of.1) t of.2 in
             let whole_has = run_hit whole start end all (λ u is. is) t at in
-            subst (λ (n : List ℕ). new n ≡ end n) found.2 (pieces_have ∙ sym whole_has)
+            subst (λ (n : List ℕ). new n ≡ end n) found.2 (stretches_have ∙ sym whole_has)
         by (inr none) =
-            let none_in : (t : ℕ) → IsIn whole t → file_name g t ≡ name → ⊥ = λ t is. none t (of_piece whole t is) in
-            runs_miss pieces start new run inside name none_in ∙ sym (run_miss whole start end all (λ u is. is) name none_in)
+            let none_in : (t : ℕ) → IsIn whole t → file_name g t ≡ name → ⊥ = λ t is. none t (of_stretch whole t is) in
+            runs_miss stretches start new run inside name none_in ∙ sym (run_miss whole start end all (λ u is. is) name none_in)
 
-pub pieces_make_whole : (g : Graph) → runs g.file ≡ 1 → PicturesDependOnWanted meaning_of g → PiecesMakeWhole g
-pieces_make_whole g one depend library whole pieces old new other few are run all =
-    whole_made g one depend library whole few old other all pieces new are run
+pub stretches_make_whole : (g : Graph) → runs g.file ≡ 1 → PicturesDependOnWanted meaning_of g → StretchesMakeWhole g
+stretches_make_whole g one depend library whole stretches old new other few are run all =
+    whole_made g one depend library whole few old other all stretches new are run
 
 -- the output's pattern has one run of signs
 pub one_run : (file : List ℕ) → IsTrue (is_output file) → runs file ≡ 1

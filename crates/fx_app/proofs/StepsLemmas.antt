@@ -30,7 +30,7 @@ use Rattle.fx_app.specs.Graphs.{Graph, graph_under, first_of, last_of, frame_cou
 use Rattle.fx_app.specs.Texts.{report_of, status_of}
 use Rattle.fx_app.proofs.WantedLemmas.{wanted_once}
 use Rattle.fx_app.specs.Files.{AreWantedBy, AreImages, frame_refused, file_name, HasGained, HasGainedBut}
-use Rattle.fx_app.specs.Run.{Job, IsAccepted, NamesNoGraph, HasPutAll, count_in, Cause, Rose, Leaves, LeavesReport, LeavesOwnReport, LeavesLibrary, LeavesDepot}
+use Rattle.fx_app.specs.Run.{Job, IsAccepted, NamesNoGraph, HasPutAll, count_in, Cause, Rose, Leaves, LeavesReport, LeavesOwnReport, LeavesLibrary, LeavesDepot, LeavesOut}
 use Rattle.fx_app.specs.Steps.{graph_fault, source_fault, put_fault, report_fault, GraphFetch, GraphCause, HasSources, SourceFetch, SourceCause, IsSourceFailure, FilesPut, LeavesFiles, ReportRose, BeginsReport}
 
 pub no_call : (a : ℕ) (x : List ℕ) → IsQuiet a a x x
@@ -393,3 +393,19 @@ only_memory asked library fetches puts out run.Report known cause rose fetched w
 pub ends_by_memory : (r : ℕ) (e : RunFault) → (r ≡ status_of e) ⊎ (r ≡ 6) → status_of e ≡ 6 → (r ≡ 0) ⊎ (r ≡ 6)
 ends_by_memory r e (inl is) six = inr (is ∙ six)
 ends_by_memory r e (inr is) six = inr is
+
+-- ---- the report's count of faults
+
+-- where nothing was written
+pub same_out : (a : ℕ) (e : RunFault) → LeavesOut e a a
+same_out a run.Usage = refl
+same_out a (run.Graph code path) = refl
+same_out a (run.Frame node t why) = refl
+same_out a (run.Read name) = refl
+same_out a (run.Write name) = refl
+same_out a run.Memory = refl
+same_out a run.Report = tt
+
+pub report_out : (a b : ℕ) (e : ReportFailure) → ReportRose a b e → LeavesOut (report_fault e) a b
+report_out a b report.Report rose = tt
+report_out a b report.Memory rose = rose

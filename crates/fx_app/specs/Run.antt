@@ -168,6 +168,11 @@ abbrev pub LeavesDepot : RunFault → ℕ → ℕ → List ℕ → List ℕ → 
 LeavesDepot (run.Write name) before now was last = Unit {0}
 LeavesDepot other before now was last = IsQuiet before now was last
 
+-- no write of the report failed, but at a fault of the report
+abbrev pub LeavesOut : RunFault → ℕ → ℕ → Type 0
+LeavesOut run.Report before now = Unit {0}
+LeavesOut other before now = now ≡ before
+
 -- the statuses that a run may end with
 abbrev pub is_status : ℕ → Bool
 is_status n = list_any (λ status. status == n) (0 ∷ 1 ∷ 2 ∷ 3 ∷ 4 ∷ 5 ∷ 6 ∷ 7 ∷ [])

@@ -1,4 +1,4 @@
--- A range of frames that is rendered in pieces, by runs in any order.
+-- A range of frames that is rendered in stretches, by runs in any order.
 use Rattle.std.specs.Prelude.{◌≤◌, ℕ, List, [], ◌∷◌, Contains, Option}
 use Rattle.fx_base.specs.declared.limits.TheConstants.{LAST_FRAME}
 use Rattle.fx_outside.specs.Outside.{Files, SameFiles}
@@ -11,17 +11,17 @@ use Rattle.fx_app.specs.Files.{AreImages, AreWantedBy, HasGained}
 use Rattle.fx_app.specs.Run.{HasPutAll, Job, first_in}
 
 -- the frames from a first one to a last one
-pub record Piece : Type 0 where
+pub record Stretch : Type 0 where
   pub first : ℕ
   pub last : ℕ
 
-pub record IsIn (p : Piece) (t : ℕ) : Type 0 where
+pub record IsIn (p : Stretch) (t : ℕ) : Type 0 where
   pub from : p.first ≤ t
   pub to : t ≤ p.last
 
--- A run over a piece: each source frame that its frames want has the image of its file, and the files of its frames are
--- put, and nothing else.
-pub record HasRun (g : Graph) (library : Files) (p : Piece) (old new : Files) : Type 0 where
+-- A run over a stretch: each source frame that its frames want has the image of its file, and the files of its frames
+-- are put, and nothing else.
+pub record HasRun (g : Graph) (library : Files) (p : Stretch) (old new : Files) : Type 0 where
   pub wanted : List Wanted
   pub are : AreWantedBy g p.first p.last wanted
   pub images : Images
@@ -29,36 +29,36 @@ pub record HasRun (g : Graph) (library : Files) (p : Piece) (old new : Files) : 
   pub gained : HasGained g images p.first (frame_count p.first p.last) old new
 
 -- the frames that an order asks for
-abbrev pub piece_of : {asked : Option Ordered} {library : Files} → Job asked library → Piece
-piece_of job = record { first = first_in job; last = last_of job.graph job.order }
+abbrev pub stretch_of : {asked : Option Ordered} {library : Files} → Job asked library → Stretch
+stretch_of job = record { first = first_in job; last = last_of job.graph job.order }
 
 -- what a run of the program leaves that put the files of all its frames
 abbrev pub RunsAreSuch : Type 0
 RunsAreSuch =
     (asked : Option Ordered) (library old new : Files) (put : HasPutAll asked library old new)
-    → HasRun put.known.job.graph library (piece_of put.known.job) old new
+    → HasRun put.known.job.graph library (stretch_of put.known.job) old new
 
--- runs over pieces, one after another
-abbrev pub HaveRun : Graph → Files → List Piece → Files → Files → Type 0
+-- runs over stretches, one after another
+abbrev pub HaveRun : Graph → Files → List Stretch → Files → Files → Type 0
 HaveRun g library [] old new = SameFiles old new
 HaveRun g library (p ∷ ps) old new =
     (between : Files) × HasRun g library p old between × HaveRun g library ps between new
 
--- pieces of a range, in any order: each of its frames is in one of them, or in several, and they have no other
-pub record ArePieces (whole : Piece) (pieces : List Piece) : Type 0 where
-  pub all : (t : ℕ) → IsIn whole t → (p : Piece) × Contains pieces p × IsIn p t
-  pub only : (p : Piece) (t : ℕ) → Contains pieces p → IsIn p t → IsIn whole t
+-- stretches of a range, in any order: each of its frames is in one of them, or in several, and they have no other
+pub record AreStretches (whole : Stretch) (stretches : List Stretch) : Type 0 where
+  pub all : (t : ℕ) → IsIn whole t → (p : Stretch) × Contains stretches p × IsIn p t
+  pub only : (p : Stretch) (t : ℕ) → Contains stretches p → IsIn p t → IsIn whole t
 
--- the files of the pieces are the files of the whole
-abbrev pub PiecesMakeWhole : Graph → Type 0
-PiecesMakeWhole g =
-    (library : Files) (whole : Piece) (pieces : List Piece) (old new other : Files) → whole.last ≤ LAST_FRAME
-    → ArePieces whole pieces → HaveRun g library pieces old new → HasRun g library whole old other
+-- the files of the stretches are the files of the whole
+abbrev pub StretchesMakeWhole : Graph → Type 0
+StretchesMakeWhole g =
+    (library : Files) (whole : Stretch) (stretches : List Stretch) (old new other : Files) → whole.last ≤ LAST_FRAME
+    → AreStretches whole stretches → HaveRun g library stretches old new → HasRun g library whole old other
     → SameFiles other new
 
--- a source frame that a piece of a range wants is wanted by the range
-abbrev pub PiecesWantNoMore : Graph → Type 0
-PiecesWantNoMore g =
-    (whole p : Piece) (wanted some : List Wanted) → ((t : ℕ) → IsIn p t → IsIn whole t)
+-- a source frame that a stretch of a range wants is wanted by the range
+abbrev pub StretchesWantNoMore : Graph → Type 0
+StretchesWantNoMore g =
+    (whole p : Stretch) (wanted some : List Wanted) → ((t : ℕ) → IsIn p t → IsIn whole t)
     → AreWantedBy g whole.first whole.last wanted → AreWantedBy g p.first p.last some
     → (w : Wanted) → Contains some w → Lists wanted w.node w.frame

@@ -127,9 +127,10 @@ LeavesFiles g images a n put.Memory old new = (k : ℕ) × (k ≤ n) × HasGaine
 
 -- ---- the report
 
+-- the count of faults rose, or stayed at want of memory
 abbrev pub ReportRose : ℕ → ℕ → ReportFailure → Type 0
 ReportRose before now report.Report = HasRisen before now
-ReportRose before now report.Memory = Unit {0}
+ReportRose before now report.Memory = now ≡ before
 
 -- a front of the text was written
 abbrev pub BeginsReport : List ℕ → ReportFailure → List ℕ → List ℕ → Type 0

@@ -22,6 +22,7 @@ use fx_tile::{Rendered, SceneName, Shared, TileSeat, render_moment};
 use fx_words::Order;
 use std::alloc::Global;
 use std::mem;
+use std::rt::Clock;
 use std::sync::Wait;
 use std::thread::Threads;
 
@@ -65,7 +66,7 @@ impl Crew {
     }
 
     /// The picture of a frame of the crew's scene, by all its workers. The crew is as free afterwards as before.
-    pub(crate) fn picture<R: Threads + Wait + Sync, P: Pace>(
+    pub(crate) fn picture<R: Threads + Wait + Clock + Sync, P: Pace>(
         &mut self,
         rt: &R,
         alloc: Global,

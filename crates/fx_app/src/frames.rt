@@ -23,6 +23,7 @@ use fx_seq::Store;
 use fx_shipped::Shipped;
 use fx_words::{Order, RunFault};
 use std::alloc::Global;
+use std::rt::Clock;
 use std::sync::Wait;
 use std::thread::Threads;
 
@@ -59,7 +60,7 @@ impl From<PutFailure> for RunFault {
 /// Takes the effects of the program through their order of life, and renders and puts each frame from the
 /// first to the last meanwhile, by as many workers, over tiles and with a directory as they are ordered. Every sequence
 /// is ended and every instance destroyed, whatever failed. With no frame there is no sequence.
-pub(crate) fn put_frames<R: Threads + Wait + Sync, D: Depot, P: Pace>(
+pub(crate) fn put_frames<R: Threads + Wait + Clock + Sync, D: Depot, P: Pace>(
     rt: &R,
     alloc: Global,
     pace: &P,
@@ -94,7 +95,7 @@ pub(crate) fn put_frames<R: Threads + Wait + Sync, D: Depot, P: Pace>(
     put
 }
 
-fn put_each<R: Threads + Wait + Sync, D: Depot, P: Pace>(
+fn put_each<R: Threads + Wait + Clock + Sync, D: Depot, P: Pace>(
     rt: &R,
     alloc: Global,
     pace: &P,
@@ -120,8 +121,10 @@ fn put_each<R: Threads + Wait + Sync, D: Depot, P: Pace>(
         OnOk result (IsQuiet (D.faults depot.old) (D.faults depot.new) (D.last depot.old) at) }
     ensures crew { IsCrew scene.now crew.new }
 {
+    // One text, whose memory serves each frame in turn.
+    let mut text = Vec::new(alloc);
     for frame in first..last + 1 {
-        match put_frame(rt, alloc, pace, scene, life, crew, frame, depot) {
+        match put_frame(rt, alloc, pace, scene, life, crew, frame, &mut text, depot) {
             Ok(()) => {}
             Err(failure) => return Err(failure),
         }
@@ -129,8 +132,8 @@ fn put_each<R: Threads + Wait + Sync, D: Depot, P: Pace>(
     Ok(())
 }
 
-// The picture and its text end with the call.
-fn put_frame<R: Threads + Wait + Sync, D: Depot, P: Pace>(
+// Its text takes the place of what was in `text`.
+fn put_frame<R: Threads + Wait + Clock + Sync, D: Depot, P: Pace>(
     rt: &R,
     alloc: Global,
     pace: &P,
@@ -138,13 +141,14 @@ fn put_frame<R: Threads + Wait + Sync, D: Depot, P: Pace>(
     life: &Life<Shipped>,
     crew: &mut Crew,
     frame: u32,
+    text: &mut Vec<u8>,
     depot: &mut D,
 ) -> Result<(), PutFailure>
     requires life { HasLife number_of scene.now.graph life.now }
     requires crew { IsCrew scene.now crew.old }
     requires frame { frame ≤ LAST_FRAME }
-    ensures ok { let g = scene.now.graph in let text = file_text g (images_in scene.now.store) frame in
-        D.tells → OnOk result (SameFiles (with_file (file_name g frame) text (D.file depot.old)) (D.file depot.new)) }
+    ensures ok { let g = scene.now.graph in let bytes = file_text g (images_in scene.now.store) frame in
+        D.tells → OnOk result (SameFiles (with_file (file_name g frame) bytes (D.file depot.old)) (D.file depot.new)) }
     ensures fault { let name = file_name scene.now.graph frame in let at = D.last depot.new in
         IfErr result (λ e. FilePut name (D.faults depot.old) (D.faults depot.new) (D.last depot.old) at e) }
     ensures leaves { let name = file_name scene.now.graph frame in
@@ -155,16 +159,16 @@ fn put_frame<R: Threads + Wait + Sync, D: Depot, P: Pace>(
     ensures crew { IsCrew scene.now crew.new }
 {
     let name = scene.graph().file.name(alloc, frame)?;
-    let text = text_of(rt, alloc, pace, scene, life, crew, frame)?;
-    match depot.put(alloc, name.text(), &text) {
+    write_text(rt, alloc, pace, scene, life, crew, frame, text)?;
+    match depot.put(alloc, name.text(), text) {
         Ok(()) => Ok(()),
         Err(PutFault::Failed) => Err(PutFailure::Write(name)),
         Err(PutFault::Memory) => Err(PutFailure::Memory),
     }
 }
 
-// The text of a frame's picture. The picture itself ends with the call.
-fn text_of<R: Threads + Wait + Sync, P: Pace>(
+// Puts the text of a frame's picture in place of what is there. The picture itself ends with the call.
+fn write_text<R: Threads + Wait + Clock + Sync, P: Pace>(
     rt: &R,
     alloc: Global,
     pace: &P,
@@ -172,15 +176,15 @@ fn text_of<R: Threads + Wait + Sync, P: Pace>(
     life: &Life<Shipped>,
     crew: &mut Crew,
     number: u32,
-) -> Result<Vec<u8>, Memory>
+    text: &mut Vec<u8>,
+) -> Result<(), Memory>
     requires life { HasLife number_of scene.now.graph life.now }
     requires crew { IsCrew scene.now crew.old }
     requires frame { number ≤ LAST_FRAME }
     ensures crew { IsCrew scene.now crew.new }
-    ensures text { IfOk result (λ bytes. bytes.items ≡ file_text scene.now.graph (images_in scene.now.store) number) }
+    ensures text { OnOk result (text.new.items ≡ file_text scene.now.graph (images_in scene.now.store) number) }
 {
     let image = crew.picture(rt, alloc, pace, scene, life, number)?;
-    let mut text = Vec::new(alloc);
-    write(alloc, &image, scene.graph().format, &mut text)?;
-    Ok(text)
+    text.clear();
+    write(alloc, &image, scene.graph().format, text)
 }

@@ -49,6 +49,7 @@ pub(crate) fn report_frames<O: Sink>(
     ensures leaves { let text = report_of frames in
         O.tells → IfErr result (λ e. BeginsReport text e (O.written out.old) (O.written out.new)) }
     ensures rose { IfErr result (λ e. ReportRose (O.faults out.old) (O.faults out.new) e) }
+    ensures quiet { OnOk result (O.faults out.new ≡ O.faults out.old) }
 {
     let text = report_of(alloc, frames)?;
     written(alloc, out, text.as_bytes())
@@ -64,6 +65,7 @@ pub(crate) fn report_lines<O: Sink>(
     ensures leaves { let text = report_text report.now in
         O.tells → IfErr result (λ e. BeginsReport text e (O.written out.old) (O.written out.new)) }
     ensures rose { IfErr result (λ e. ReportRose (O.faults out.old) (O.faults out.new) e) }
+    ensures quiet { OnOk result (O.faults out.new ≡ O.faults out.old) }
 {
     let text = lines_of(alloc, report)?;
     written(alloc, out, &text)
@@ -73,6 +75,7 @@ fn written<O: Sink>(alloc: Global, out: &mut O, text: &[u8]) -> Result<(), Repor
     ensures ok { O.tells → OnOk result (O.written out.new ≡ O.written out.old ++ text.now) }
     ensures leaves { O.tells → IfErr result (λ e. BeginsReport text.now e (O.written out.old) (O.written out.new)) }
     ensures rose { IfErr result (λ e. ReportRose (O.faults out.old) (O.faults out.new) e) }
+    ensures quiet { OnOk result (O.faults out.new ≡ O.faults out.old) }
 {
     match out.write(alloc, text) {
         Ok(()) => Ok(()),

@@ -11,7 +11,7 @@ ghost use Rattle.fx_words.specs.declared.fault.RunFault.TheVariants.{Memory as O
 ghost use Rattle.fx_app.specs.Words.{order_of, mode_in, Orders};
 ghost use Rattle.fx_app.specs.Texts.{status_of, GainsLine};
 ghost use Rattle.fx_app.specs.Run.{is_status, Job, IsAccepted, NamesNoGraph, HasPutAll, HasTold};
-ghost use Rattle.fx_app.specs.Run.{Cause, Rose, Leaves, LeavesReport, LeavesOwnReport, LeavesLibrary, LeavesDepot};
+ghost use Rattle.fx_app.specs.Run.{Cause, Rose, Leaves, LeavesReport, LeavesOwnReport, LeavesLibrary, LeavesDepot, LeavesOut};
 ghost use Rattle.fx_app.specs.Check.{HasChecked, CheckCause, LeavesCheckReport};
 ghost use Rattle.fx_app.specs.Bench.{made_of, made_for, IsBenchReport, HasBenched, BenchCause, LeavesBenchReport};
 ghost use Rattle.fx_app.specs.Modes.{CauseIn, LeavesIn, LeavesReportIn};
@@ -27,6 +27,7 @@ use crate::tell::tell;
 use fx_outside::{Depot, Library, Pace, Sink, SureDepot};
 use fx_words::{Mode, Order, Report, RunFault, WordFault};
 use std::alloc::Global;
+use std::rt::Clock;
 use std::sync::Wait;
 use std::thread::Threads;
 
@@ -37,7 +38,7 @@ use std::thread::Threads;
 /// check fetches the graph alone and puts nothing, and a bench does neither. Frames are rendered one after another, each
 /// in tiles of the side that is ordered, by as many workers as are ordered; as many tiles are kept as are ordered. These
 /// three options change no byte of a file. Each worker calls `pace.before_draw` before each of its draws.
-pub fn run<R: Threads + Wait + Sync, L: Library, D: Depot, O: Sink, F: Sink, P: Pace>(
+pub fn run<R: Threads + Wait + Clock + Sync, L: Library, D: Depot, O: Sink, F: Sink, P: Pace>(
     rt: &R,
     alloc: Global,
     words: &[String],
@@ -95,7 +96,7 @@ pub fn run<R: Threads + Wait + Sync, L: Library, D: Depot, O: Sink, F: Sink, P: 
         → (result ≡ 0) ⊎ (result ≡ 6) }
 
     // At status 0 no line is written. Each other status has a fault, which the outside shows, which has its cause,
-    // leaves what it leaves, and is told on `err`.
+    // leaves what it leaves, and is told on `err`. No count of faults rose but where the fault tells of it, at 6 too.
     ensures silent { result ≡ 0 → F.written err.new ≡ F.written err.old }
     ensures ends { let asked = order_of (map string_bytes words.now) in result ≢ 0 → (fault : RunFault)
         × ((result ≡ status_of fault) ⊎ (result ≡ 6))
@@ -107,7 +108,10 @@ pub fn run<R: Threads + Wait + Sync, L: Library, D: Depot, O: Sink, F: Sink, P: 
         × (O.tells → LeavesReportIn (mode_in asked) L.tells asked (L.file library.old) fault
         (O.written out.old) (O.written out.new))
         × (F.tells → result ≢ 6
-        → GainsLine (fault_text fault) (F.written err.old) (F.written err.new) (F.faults err.old) (F.faults err.new)) }
+        → GainsLine (fault_text fault) (F.written err.old) (F.written err.new) (F.faults err.old) (F.faults err.new))
+        × LeavesLibrary fault (L.faults library.old) (L.faults library.new) (L.last library.old) (L.last library.new)
+        × LeavesDepot fault (D.faults depot.old) (D.faults depot.new) (D.last depot.old) (D.last depot.new)
+        × LeavesOut fault (O.faults out.old) (O.faults out.new) }
     ensures memory_line { F.tells → result ≡ 6
         → AddsPrefix (fault_text OutOfMemory) (F.written err.old) (F.written err.new) }
     // But at 4 and 6 no fetch failed, and but at 5 and 6 no put.
@@ -115,6 +119,8 @@ pub fn run<R: Threads + Wait + Sync, L: Library, D: Depot, O: Sink, F: Sink, P: 
         → IsQuiet (L.faults library.old) (L.faults library.new) (L.last library.old) (L.last library.new) }
     ensures puts { result ≢ 5 → result ≢ 6
         → IsQuiet (D.faults depot.old) (D.faults depot.new) (D.last depot.old) (D.last depot.new) }
+    // But at 6 and 7 no write of the report failed.
+    ensures writes { result ≢ 6 → result ≢ 7 → O.faults out.new ≡ O.faults out.old }
     ensures causes_usage { (result ≡ 1) → order_of (map string_bytes words.now) ≡ None }
     ensures causes_read { result ≡ 4 → HasRisen (L.faults library.old) (L.faults library.new) }
     ensures causes_write { result ≡ 5 → HasRisen (D.faults depot.old) (D.faults depot.new) }
@@ -132,7 +138,7 @@ pub fn run<R: Threads + Wait + Sync, L: Library, D: Depot, O: Sink, F: Sink, P: 
 }
 
 // The steps of what the words order, up to the first that fails.
-fn outcome<R: Threads + Wait + Sync, L: Library, D: Depot, O: Sink, P: Pace>(
+fn outcome<R: Threads + Wait + Clock + Sync, L: Library, D: Depot, O: Sink, P: Pace>(
     rt: &R,
     alloc: Global,
     pace: &P,
@@ -181,6 +187,8 @@ fn outcome<R: Threads + Wait + Sync, L: Library, D: Depot, O: Sink, P: Pace>(
         IfErr result (λ e. LeavesLibrary e (L.faults library.old) (L.faults library.new) (L.last library.old) last) }
     ensures depot { let last = D.last depot.new in
         IfErr result (λ e. LeavesDepot e (D.faults depot.old) (D.faults depot.new) (D.last depot.old) last) }
+    ensures out { IfErr result (λ e. LeavesOut e (O.faults out.old) (O.faults out.new)) }
+    ensures quiet_out { OnOk result (O.faults out.new ≡ O.faults out.old) }
     ensures usage { IfErr result (λ e. e ≡ OtherWords → order_of (map string_bytes words.now) ≡ None) }
     ensures other_words { order_of (map string_bytes words.now) ≡ None
         → IfErr result (λ e. (e ≡ OtherWords) ⊎ (e ≡ OutOfMemory)) × OnOk result ⊥ }
@@ -207,7 +215,7 @@ fn ordered(alloc: Global, words: &[String]) -> Result<Order, RunFault>
 }
 
 // Renders the graph's frames and puts them.
-fn render<R: Threads + Wait + Sync, L: Library, D: Depot, O: Sink, P: Pace>(
+fn render<R: Threads + Wait + Clock + Sync, L: Library, D: Depot, O: Sink, P: Pace>(
     rt: &R,
     alloc: Global,
     pace: &P,
@@ -240,6 +248,8 @@ fn render<R: Threads + Wait + Sync, L: Library, D: Depot, O: Sink, P: Pace>(
     ensures depot { let last = D.last depot.new in
         IfErr result (λ e. LeavesDepot e (D.faults depot.old) (D.faults depot.new) (D.last depot.old) last) }
     ensures words { IfErr result (λ e. e ≢ OtherWords) }
+    ensures out { IfErr result (λ e. LeavesOut e (O.faults out.old) (O.faults out.new)) }
+    ensures quiet_out { OnOk result (O.faults out.new ≡ O.faults out.old) }
 {
     let graph = graph_of(alloc, &order.graph, library)?;
     let first = first_of(&graph, order);
@@ -272,6 +282,8 @@ fn check<L: Library, O: Sink>(
     ensures library { let last = L.last library.new in
         IfErr result (λ e. LeavesLibrary e (L.faults library.old) (L.faults library.new) (L.last library.old) last) }
     ensures words { IfErr result (λ e. e ≢ OtherWords) }
+    ensures out { IfErr result (λ e. LeavesOut e (O.faults out.old) (O.faults out.new)) }
+    ensures quiet_out { OnOk result (O.faults out.new ≡ O.faults out.old) }
 {
     let graph = graph_of(alloc, &order.graph, library)?;
     let first = first_of(&graph, order);
@@ -286,7 +298,7 @@ fn check<L: Library, O: Sink>(
 }
 
 // Renders what is made of a number, in memory, and reports what was put.
-fn bench<R: Threads + Wait + Sync, O: Sink, P: Pace>(
+fn bench<R: Threads + Wait + Clock + Sync, O: Sink, P: Pace>(
     rt: &R,
     alloc: Global,
     pace: &P,
@@ -302,6 +314,8 @@ fn bench<R: Threads + Wait + Sync, O: Sink, P: Pace>(
     ensures report { O.tells
         → IfErr result (λ e. LeavesBenchReport (Some order.now) e (O.written out.old) (O.written out.new)) }
     ensures words { IfErr result (λ e. e ≢ OtherWords) }
+    ensures out { IfErr result (λ e. LeavesOut e (O.faults out.old) (O.faults out.new)) }
+    ensures quiet_out { OnOk result (O.faults out.new ≡ O.faults out.old) }
 {
     let report = bench_report(rt, alloc, pace, order)?;
     report_lines(alloc, out, &report)?;
@@ -309,7 +323,7 @@ fn bench<R: Threads + Wait + Sync, O: Sink, P: Pace>(
 }
 
 // What a bench reports. The graph that is made is rendered as every other.
-fn bench_report<R: Threads + Wait + Sync, P: Pace>(
+fn bench_report<R: Threads + Wait + Clock + Sync, P: Pace>(
     rt: &R,
     alloc: Global,
     pace: &P,

@@ -8,7 +8,7 @@ use Rattle.fx_pam.proofs.TextLaws.{text-same}
 use Rattle.fx_shipped.specs.Shipped.{meaning_of}
 use Rattle.fx_app.specs.Graphs.{Graph}
 use Rattle.fx_app.specs.Files.{file_text}
-use Rattle.fx_app.proofs.frames.text_of.Goals as goal
+use Rattle.fx_app.proofs.frames.write_text.Goals as goal
 
 text_as : (bytes : List ℕ) (format other : Format) (image shown : Image) → bytes ≡ pam_text format image → format ≡ other
     → SameImage image shown → bytes ≡ pam_text other shown
@@ -17,11 +17,11 @@ text_as bytes format other image shown text is same =
 
 pub returns-clause-text : goal.returns-clause-text
 unfolding file_text
-returns-clause-text g c =
+returns-clause-text g c = λ done.
     let h : Graph = c.args.scene.now.graph in
     let image = image_of c.in_ok-image.image in
     let format = c.graph.result.now.format in
     let text : c.write.new.out.items ≡ pam_text format image =
-    c.in_ok-write.ensures.ok ∙ ap (λ bytes. bytes ++ pam_text format image) c.new-text.ensures.items in
+    c.write.ensures.ok done ∙ ap (λ bytes. bytes ++ pam_text format image) c.clear.ensures in
     text_as c.write.new.out.items format h.format image (picture meaning_of h (images_in c.args.scene.now.store) (pos c.args.number))
     text (ap (λ (s : Graph). s.format) c.graph.ensures.shown) c.in_ok-image.ensures.picture

@@ -7,7 +7,7 @@ use Rattle.fx_scene.specs.Scenes.{graph_shown, images_in}
 use Rattle.fx_words.specs.Ordered.{Ordered}
 use Rattle.fx_app.specs.Graphs.{graph_under, frame_count}
 use Rattle.fx_app.specs.Texts.{report_of}
-use Rattle.fx_app.specs.Steps.{BeginsReport, GraphCause, GraphFetch, HasSources, SourceCause}
+use Rattle.fx_app.specs.Steps.{BeginsReport, GraphCause, GraphFetch, HasSources, SourceCause, graph_fault, source_fault, put_fault}
 use Rattle.fx_app.proofs.StepsLemmas as step
 use Rattle.fx_app.proofs.steps.render.Goals as goal
 
@@ -235,3 +235,23 @@ returns-clause-told g c = λ tells told.
 pub returns-clause-quiet_library : goal.returns-clause-quiet_library
 returns-clause-quiet_library g c =
     quiet_more c.in_ok-graph.ensures.quiet c.in_ok-store.ensures.quiet
+
+pub returns-in_err-graph-clause-out : goal.returns-in_err-graph-clause-out
+returns-in_err-graph-clause-out g c =
+    let p = err_from_is_err_and c.from_residual.result c.from_residual.ensures.1 in
+    rw (p.1, p.2) (step.same_out (g.O.Sink.faults c.args.out.now) (graph_fault c.in_err-graph.field-0.0))
+
+pub returns-in_err-store-clause-out : goal.returns-in_err-store-clause-out
+returns-in_err-store-clause-out g c =
+    let p = err_from_is_err_and c.from_residual-in_err-store.result c.from_residual-in_err-store.ensures.1 in
+    rw (p.1, p.2) (step.same_out (g.O.Sink.faults c.args.out.now) (source_fault c.in_err-store.field-0.0))
+
+pub returns-in_err-put_frames-clause-out : goal.returns-in_err-put_frames-clause-out
+returns-in_err-put_frames-clause-out g c =
+    let p = err_from_is_err_and c.from_residual-in_err-put_frames.result c.from_residual-in_err-put_frames.ensures.1 in
+    rw (p.1, p.2) (step.same_out (g.O.Sink.faults c.args.out.now) (put_fault c.in_err-put_frames.field-0.0))
+
+pub returns-in_err-report_frames-clause-out : goal.returns-in_err-report_frames-clause-out
+returns-in_err-report_frames-clause-out g c =
+    let p = err_from_is_err_and c.from_residual-in_err-report_frames.result c.from_residual-in_err-report_frames.ensures.1 in
+    rw (p.1, p.2) (step.report_out (g.O.Sink.faults c.args.out.now) (g.O.Sink.faults c.report_frames.new.out) c.in_err-report_frames.field-0.0 c.in_err-report_frames.ensures.rose)
