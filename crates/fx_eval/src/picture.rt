@@ -28,6 +28,7 @@ use fx_pixel::{Components, Depth, Format};
 use fx_scene::{Key, Moment, Scene, reach};
 use std::alloc::Global;
 use std::collections::BTreeMap;
+use std::rt::Clock;
 use std::sync::Wait;
 
 /// The picture of a frame: the value of the output's node over the project's extent, at the project's depth,
@@ -39,7 +40,7 @@ use std::sync::Wait;
 /// and no other: what it reads is made before it waits for the gate. The seat is of the row of these gates, of which
 /// there is one for each plug-in and each node, and holds none of them before and after. `Memory` comes where memory
 /// is wanting.
-pub fn frame<R: Wait, E: Catalogue + Drop>(
+pub fn frame<R: Wait + Clock, E: Catalogue + Drop>(
     rt: &R,
     alloc: Global,
     scene: &Scene<E>,

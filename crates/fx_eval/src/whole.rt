@@ -32,6 +32,7 @@ use fx_scene::{Key, Moment, frames_read, reads_of, use_values};
 use fx_seq::Store;
 use std::alloc::Global;
 use std::collections::{BTreeMap, BTreeSet};
+use std::rt::Clock;
 use std::sync::{Arc, Wait};
 
 /// What is made of a node at a frame: its region of definition, and for an effect images that together have
@@ -44,7 +45,7 @@ pub(crate) struct Whole {
 
 /// Makes each of these nodes at frames in their order, so that what one reads is made before it. Each is let go
 /// when the last that reads it is made: so of those that are read as few are kept as that order allows.
-pub(crate) fn wholes<R: Wait, E: Catalogue + Drop>(
+pub(crate) fn wholes<R: Wait + Clock, E: Catalogue + Drop>(
     rt: &R,
     alloc: Global,
     site: &Site<'_, E>,
@@ -73,7 +74,7 @@ pub(crate) fn wholes<R: Wait, E: Catalogue + Drop>(
 }
 
 // Makes a node at a frame, and lets go what it reads as the last.
-fn make<R: Wait, E: Catalogue + Drop>(
+fn make<R: Wait + Clock, E: Catalogue + Drop>(
     rt: &R,
     alloc: Global,
     site: &Site<'_, E>,
@@ -103,7 +104,7 @@ fn make<R: Wait, E: Catalogue + Drop>(
     Ok(())
 }
 
-fn whole_of<R: Wait, E: Catalogue + Drop>(
+fn whole_of<R: Wait + Clock, E: Catalogue + Drop>(
     rt: &R,
     alloc: Global,
     site: &Site<'_, E>,
@@ -173,7 +174,7 @@ fn area_shown(store: &Store, n: u32, first: u32, last: u32, hold: bool, frame: i
     }
 }
 
-fn effect_whole<R: Wait, E: Catalogue + Drop>(
+fn effect_whole<R: Wait + Clock, E: Catalogue + Drop>(
     rt: &R,
     alloc: Global,
     site: &Site<'_, E>,
@@ -215,7 +216,7 @@ fn effect_whole<R: Wait, E: Catalogue + Drop>(
 }
 
 // Images that together are a region of a node.
-fn images_of<R: Wait, E: Catalogue + Drop>(
+fn images_of<R: Wait + Clock, E: Catalogue + Drop>(
     rt: &R,
     alloc: Global,
     site: &Site<'_, E>,

@@ -17,6 +17,7 @@ use fx_image::Image;
 use fx_pixel::{Components, Depth};
 use fx_scene::Key;
 use std::alloc::Global;
+use std::rt::Clock;
 use std::sync::{Arc, Wait};
 
 /// The most asks that a core counts.
@@ -25,7 +26,7 @@ pub(crate) const MOST_ASKS: u64 = 1 << 62;
 /// A window of a node in an image of its own, rendered under the ticket of a flight of its key and under a hold of
 /// the node's gate. The flight lands, or at want of memory is dropped. A core that has counted all its asks is asked
 /// no more, and the ticket is then one of no flight.
-pub(crate) fn window_of<R: Wait, E: Catalogue + Drop>(
+pub(crate) fn window_of<R: Wait + Clock, E: Catalogue + Drop>(
     rt: &R,
     alloc: Global,
     site: &Site<'_, E>,
@@ -62,7 +63,7 @@ pub(crate) fn window_of<R: Wait, E: Catalogue + Drop>(
 }
 
 // The window, made under a ticket of no flight.
-fn unasked<R: Wait, E: Catalogue + Drop>(
+fn unasked<R: Wait + Clock, E: Catalogue + Drop>(
     rt: &R,
     alloc: Global,
     site: &Site<'_, E>,
@@ -104,7 +105,7 @@ fn unasked<R: Wait, E: Catalogue + Drop>(
 }
 
 // The window, made under a flight.
-fn flown<R: Wait, E: Catalogue + Drop>(
+fn flown<R: Wait + Clock, E: Catalogue + Drop>(
     rt: &R,
     alloc: Global,
     site: &Site<'_, E>,
@@ -173,7 +174,7 @@ fn landed(
 }
 
 // The window, rendered under this ticket.
-fn made<R: Wait, E: Catalogue + Drop>(
+fn made<R: Wait + Clock, E: Catalogue + Drop>(
     rt: &R,
     alloc: Global,
     site: &Site<'_, E>,

@@ -13,13 +13,14 @@ use fx_effect::{Catalogue, Inputs, Values};
 use fx_gate::{GateSeat, Gates, Hold};
 use fx_image::Image;
 use std::alloc::Global;
+use std::rt::Clock;
 use std::sync::Wait;
 
 impl<E: Catalogue + Drop> Life<E> {
     /// Renders the whole of an image by the instance of a node that uses an effect. The gate that `gate_of` tells is
     /// waited for, held meanwhile and released then, at `Memory` too. The seat holds no gate before and after, and
     /// there are gates for all plug-ins and for the node.
-    pub fn render_image<R: Wait>(
+    pub fn render_image<R: Wait + Clock>(
         &self,
         rt: &R,
         alloc: Global,

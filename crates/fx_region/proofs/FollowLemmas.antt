@@ -20,7 +20,7 @@ use Rattle.fx_scene.specs.Frames.{in_some}
 use Rattle.fx_scene.specs.Nodes.{AreNodes, Effect, EffectNode, IsEffectNode, Node, Nodes, clip_node, seen}
 use Rattle.fx_scene.proofs.Members.{all_in, in_of, in_some_at}
 use Rattle.fx_scene.proofs.Outside.{Covered, area_window}
-use Rattle.fx_region.specs.Ends.{Ends, Void, clip_end, cut_alone, cut_end, effect_end, effect_step, end_of, onward}
+use Rattle.fx_region.specs.Ends.{Choice, Ends, Void, chosen, clip_end, cut_end, effect_end, effect_step, end_of, onward}
 use Rattle.fx_region.specs.Follow.{GoesToRead, clip_stand, stand_end}
 use Rattle.fx_region.specs.declared.following.Stand.{Stand}
 use Rattle.fx_region.proofs.EndLaws.{end_is}
@@ -109,18 +109,18 @@ clip_stands : (ends : Ends) (o : EffectNode) (clip : Option ℕ) (f : ℤ) (r : 
 clip_stands ends o None f r = refl
 clip_stands ends o (Some m) f r = refl
 
-pub same_stands : (ends : Ends) (k : ℕ) (o : EffectNode) (t : ℤ) (r : Bounds) (clip : ℕ) (f : ℤ)
+pub same_stands : (choose : Choice) (ends : Ends) (k : ℕ) (o : EffectNode) (t : ℤ) (r : Bounds) (clip : ℕ) (f : ℤ)
     → o.meaning.same (o.values t) r ≡ Same clip f
     → stand_end ends r (clip_stand o.depth o.components (clip_node o clip) f)
-    ≡ effect_end cut_alone ends k o t r (o.meaning.same (o.values t) r)
-same_stands ends k o t r clip f e =
-    clip_stands ends o (clip_node o clip) f r ∙ ap (effect_end cut_alone ends k o t r) (sym e)
+    ≡ effect_end choose ends k o t r (o.meaning.same (o.values t) r)
+same_stands choose ends k o t r clip f e =
+    clip_stands ends o (clip_node o clip) f r ∙ ap (effect_end choose ends k o t r) (sym e)
 
 -- ---- by what stands at a place
 
 pub cut_by : (ends : Ends) (n : ℕ) (nodes : Nodes) (node : Node) (t : ℤ) (r : Bounds) → nodes n ≡ node
-    → cut_end cut_alone ends n node t r ≡ cut_end cut_alone ends n (nodes n) t r
-cut_by ends n nodes node t r stands = ap (λ (q : Node). cut_end cut_alone ends n q t r) (sym stands)
+    → cut_end (chosen nodes) ends n node t r ≡ cut_end (chosen nodes) ends n (nodes n) t r
+cut_by ends n nodes node t r stands = ap (λ (q : Node). cut_end (chosen nodes) ends n q t r) (sym stands)
 
 pub read_by : (n : ℕ) (nodes : Nodes) (node : Node) (t : ℤ) (s : Stand) → nodes n ≡ node → GoesToRead node t s
     → GoesToRead (nodes n) t s
@@ -133,13 +133,13 @@ pub void_end : (nodes : Nodes) → AreNodes nodes → (n : ℕ) (t : ℤ) (r a c
 void_end nodes ok n t r a cut is at e =
     let m = meet r (area nodes n t) in
     let same : cut ≡ m = at ∙ ap (meet r) is in
-    sym (end_is cut_alone nodes ok n t r ∙ cond-true (is_empty m) _ _ (is_empty-none m (sym same ∙ e)))
+    sym (end_is (chosen nodes) nodes ok n t r ∙ cond-true (is_empty m) _ _ (is_empty-none m (sym same ∙ e)))
 
 pub cut_is : (nodes : Nodes) → AreNodes nodes → (n : ℕ) (t : ℤ) (r a cut : Bounds) → a ≡ area nodes n t
-    → cut ≡ meet r a → cut ≢ none → cut_end cut_alone (end_of nodes) n (nodes n) t cut ≡ end_of nodes n t r
+    → cut ≡ meet r a → cut ≢ none → cut_end (chosen nodes) (end_of nodes) n (nodes n) t cut ≡ end_of nodes n t r
 cut_is nodes ok n t r a cut is at some =
     let m = meet r (area nodes n t) in
     let same : cut ≡ m = at ∙ ap (meet r) is in
     let test : is_empty m ≡ false = some_place m (IsRect-meet r (area nodes n t)) (λ e. some (same ∙ e)) in
-    ap (cut_end cut_alone (end_of nodes) n (nodes n) t) same
-    ∙ sym (end_is cut_alone nodes ok n t r ∙ cond-false (is_empty m) _ _ test)
+    ap (cut_end (chosen nodes) (end_of nodes) n (nodes n) t) same
+    ∙ sym (end_is (chosen nodes) nodes ok n t r ∙ cond-false (is_empty m) _ _ test)

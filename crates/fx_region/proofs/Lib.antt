@@ -1,3 +1,4 @@
+pub mod ChoiceLaws
 pub mod EndLaws
 pub mod NeedLaws
 pub mod CountLaws

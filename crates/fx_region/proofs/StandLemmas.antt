@@ -4,9 +4,9 @@ use Rattle.std.proofs.lemmas.List.Elements.{All-nil, All-cons, All-append}
 use Rattle.std.specs.List.{flat_map, range_with_len}
 use Rattle.fx_base.specs.Bounds.{Bounds, none}
 use Rattle.fx_base.specs.Grid.{tiles_of}
-use Rattle.fx_base.specs.Rect.{IsWithin, is_empty, meet}
+use Rattle.fx_base.specs.Rect.{Holds, IsWithin, is_empty, meet}
 use Rattle.fx_base.proofs.RectLaws.{IsWithin-meet_second}
-use Rattle.fx_base.proofs.RectLemmas.{is_empty-none}
+use Rattle.fx_base.proofs.RectLemmas.{IsProper-from_test, holds_corner, is_empty-holds, is_empty-none}
 use Rattle.fx_effect.specs.declared.action.Identity.{Identity}
 use Rattle.fx_effect.specs.declared.action.Identity.TheVariants.{No, Same}
 use Rattle.fx_effect.specs.declared.steps.Step.{Step}
@@ -17,12 +17,13 @@ use Rattle.fx_scene.specs.Reach.{IsReadBy}
 use Rattle.fx_scene.proofs.Members.{In}
 use Rattle.fx_scene.proofs.NearLemmas.{listed_frames}
 use Rattle.fx_scene.proofs.Places.{by_place}
-use Rattle.fx_region.specs.Ends.{EndShown, Frame, Render, Void, clip_end, cut_alone, cut_end, effect_end, effect_step, end_of, onward, source_end}
+use Rattle.fx_region.specs.Ends.{EndShown, Frame, Render, Void, chosen, clip_end, cut_end, effect_end, effect_step, end_of, onward, source_end}
 use Rattle.fx_region.specs.Follow.{GoesToRead, clip_stand}
 use Rattle.fx_region.specs.Needs.{NeedShown, clip_needs, frame_needs, needed, needs_at, node_needs, tile_needs}
 use Rattle.fx_region.specs.Stands.{NeedStands, StandsBelow}
 use Rattle.fx_region.specs.Tables.{Has, HasReads, IsTable}
 use Rattle.fx_region.specs.declared.regions.Regions.{Regions}
+use Rattle.fx_region.proofs.ChoiceLaws.{chosen_either}
 use Rattle.fx_region.proofs.EndLaws.{end_is}
 use Rattle.fx_region.proofs.FollowLemmas.{same_read}
 use Rattle.fx_region.proofs.TableLemmas.{listed}
@@ -31,13 +32,20 @@ use Rattle.fx_region.proofs.TableLemmas.{listed}
 not_none : (r : Bounds) → is_empty r ≡ false → r ≢ none
 not_none r some e = let empty = is_empty-none r e in cc
 
+-- nor is what holds it
+holding_none : (r a : Bounds) → is_empty r ≡ false → IsWithin r a → a ≢ none
+holding_none r a some inside e =
+    let proper = IsProper-from_test r some in
+    is_empty-holds none r.x1 r.y1 refl
+    (subst (λ (b : Bounds). Holds b r.x1 r.y1) e (inside r.x1 r.y1 (holds_corner r proper.wide proper.high)))
+
 module _ (nodes : Nodes) (ok : AreNodes nodes) (regions : Regions) where
   higher : (m n : ℕ) (e : EndShown) → m ≤ n → StandsBelow nodes regions m e → StandsBelow nodes regions n e
   higher m n Void low h = tt
   higher m n (Frame k f r through) low h = omega (arith, low, h)
   higher m n (Render k f r cut through) low h =
       let e = h.earlier in
-      record { earlier = omega (arith, low, e); reached = h.reached; some = h.some; inside = h.inside }
+      record { earlier = omega (arith, low, e); reached = h.reached; some = h.some; inside = h.inside; holds = h.holds }
 
   onward_stands : (n : ℕ) (s : Step) (e : EndShown) → StandsBelow nodes regions n e
       → StandsBelow nodes regions n (onward s e)
@@ -68,9 +76,15 @@ module _ (nodes : Nodes) (ok : AreNodes nodes) (regions : Regions) where
   effect_stands : (k : ℕ) (o : EffectNode) → IsEffectNode k o → ((m : ℕ) → m < k → EndsStand m) → (t : ℤ) (r : Bounds)
       → Has regions k t → HasReads regions (Effect o) t → is_empty r ≡ false → IsWithin r (area nodes k t)
       → (p : Identity) → o.meaning.same (o.values t) r ≡ p
-      → StandsBelow nodes regions (k + 1) (effect_end cut_alone (end_of nodes) k o t r p)
+      → StandsBelow nodes regions (k + 1) (effect_end (chosen nodes) (end_of nodes) k o t r p)
   effect_stands k o i h t r here reads some inside No e =
-      record { earlier = omega arith; reached = here; some = not_none r some; inside = inside }
+      record {
+        earlier = omega arith;
+        reached = here;
+        some = chosen_either (λ q. q ≢ none) nodes k t r (not_none r some) (holding_none r (area nodes k t) some inside);
+        inside = chosen_either (λ q. IsWithin q (area nodes k t)) nodes k t r inside (λ x y h. h);
+        holds = chosen_either (IsWithin r) nodes k t r (λ x y h. h) inside;
+      }
   effect_stands k o i h t r here reads some inside (Same clip f) e =
       clip_stands k o (clip_node o clip) f r (λ m is. (
         i.earlier clip m is,
@@ -85,7 +99,7 @@ module _ (nodes : Nodes) (ok : AreNodes nodes) (regions : Regions) where
 
   cut_stands : (k : ℕ) (node : Node) → IsNode k node → ((m : ℕ) → m < k → EndsStand m) → (t : ℤ) (r : Bounds)
       → Has regions k t → HasReads regions node t → is_empty r ≡ false → IsWithin r (area nodes k t)
-      → StandsBelow nodes regions (k + 1) (cut_end cut_alone (end_of nodes) k node t r)
+      → StandsBelow nodes regions (k + 1) (cut_end (chosen nodes) (end_of nodes) k node t r)
   cut_stands k (Source s) i h t r here reads some inside = source_stands k s (s.named t) r
   cut_stands k (Effect o) i h t r here reads some inside =
       effect_stands k o i h t r here reads some inside (o.meaning.same (o.values t) r) refl
@@ -99,8 +113,8 @@ module _ (nodes : Nodes) (ok : AreNodes nodes) (regions : Regions) where
     pub ends_stand : (n : ℕ) → EndsStand n
     ends_stand = by_place EndsStand (λ n h t r here.
         let r' = meet r (area nodes n t) in
-        subst (StandsBelow nodes regions (n + 1)) (sym (end_is cut_alone nodes ok n t r))
-        (void_stands (n + 1) (is_empty r') (cut_end cut_alone (end_of nodes) n (nodes n) t r') (λ some.
+        subst (StandsBelow nodes regions (n + 1)) (sym (end_is (chosen nodes) nodes ok n t r))
+        (void_stands (n + 1) (is_empty r') (cut_end (chosen nodes) (end_of nodes) n (nodes n) t r') (λ some.
         cut_stands n (nodes n) (ok n) h t r' here (table.reads n t here) some (IsWithin-meet_second r (area nodes n t)))))
 
     -- ---- needs

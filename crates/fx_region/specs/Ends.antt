@@ -26,11 +26,11 @@ pub data EndShown : Type 0 where
   Frame : ℕ → ℤ → Bounds → List Step → EndShown
   Render : ℕ → ℤ → Bounds → Bounds → List Step → EndShown
 
--- an end in the code: what is rendered is the cut
+-- an end in the code
 abbrev pub end_shown : End → EndShown
 end_shown code.Void = Void
 end_shown (code.Frame node frame region through) = Frame node frame region through
-end_shown (code.Render node frame region through) = Render node frame region region through
+end_shown (code.Render node frame region cut through) = Render node frame region cut through
 
 abbrev pub Ends : Type 0
 Ends = ℕ → ℤ → Bounds → EndShown
@@ -39,15 +39,20 @@ Ends = ℕ → ℤ → Bounds → EndShown
 abbrev pub Choice : Type 0
 Choice = ℕ → ℤ → Bounds → Bounds
 
--- it holds the cut, and lies in the node's area
+-- of a cut of a node's area it holds the cut, and lies in the area
 pub record IsChoice (nodes : Nodes) (choose : Choice) : Type 0 where
-  pub holds : (n : ℕ) (t : ℤ) (cut : Bounds) → IsWithin cut (choose n t cut)
+  pub holds : (n : ℕ) (t : ℤ) (cut : Bounds) → IsWithin cut (area nodes n t) → IsWithin cut (choose n t cut)
   pub inside : (n : ℕ) (t : ℤ) (cut : Bounds) → IsWithin cut (area nodes n t)
       → IsWithin (choose n t cut) (area nodes n t)
 
--- the cut alone
-abbrev pub cut_alone : Choice
-cut_alone n t cut = cut
+-- of an effect that renders no parts of an image the whole area, and else the cut alone (OpenFX 1.4,
+-- kOfxImageEffectPropSupportsTiles)
+abbrev pub whole_or_cut : Node → Bounds → Bounds → Bounds
+whole_or_cut (Source s) whole cut = cut
+whole_or_cut (Effect o) whole cut = if o.meaning.shape.tiles then cut else whole
+
+abbrev pub chosen : Nodes → Choice
+chosen nodes n t cut = whole_or_cut (nodes n) (area nodes n t) cut
 
 -- ---- the end
 
@@ -95,9 +100,9 @@ unfoldable pub end_by : Choice → Nodes → Ends
 end_by choose nodes =
     at_place no_end (λ before n t r. node_end choose before n (nodes n) t (meet r (area nodes n t)))
 
--- where the cut alone is rendered
+-- where the whole area is rendered of effects that render no parts of an image, and the cut alone of the others
 abbrev pub end_of : Nodes → Ends
-end_of nodes = end_by cut_alone nodes
+end_of nodes = end_by (chosen nodes) nodes
 
 -- ---- its pixels
 

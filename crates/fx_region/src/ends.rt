@@ -15,11 +15,13 @@ pub enum End {
         region: Rect,
         through: Steps,
     },
-    /// A region of an effect's node that is to be rendered.
+    /// A region of an effect's node that is to be rendered, and the cut of it that is asked for. What is found
+    /// there is the cut alone: where nodes were passed on they may be zero in the rest of the region.
     Render {
         node: u32,
         frame: i64,
         region: Rect,
+        cut: Rect,
         through: Steps,
     },
 }

@@ -1,12 +1,13 @@
 //! Where a region of a node is found.
-ghost use Rattle.std.specs.Prelude.{◌≡◌, ◌≢◌, ◌<◌, ◌+◌, ◌++◌, ◌∷◌, [], pos, length, slice_index_or, None, IfOk};
+ghost use Rattle.std.specs.Prelude.{◌≡◌, ◌≢◌, ◌<◌, ◌+◌, ◌++◌, ◌∷◌, [], pos, length, slice_index_or, None, IfOk, if◌then◌else◌};
 ghost use Rattle.std.specs.Option.{option_map};
 ghost use Rattle.fx_base.specs.Bounds.{none};
 ghost use Rattle.fx_base.specs.Rect.{IsFrame};
 ghost use Rattle.fx_effect.specs.Asked.{IsWindow};
+ghost use Rattle.fx_scene.specs.Areas.{area};
 ghost use Rattle.fx_scene.specs.Nodes.{AreNodes, Effect, IsEffectNode, SourceFrames};
 ghost use Rattle.fx_scene.specs.Reach.{IsPlace};
-ghost use Rattle.fx_region.specs.Ends.{Ends, cut_alone, cut_end, effect_end, end_of, end_shown, onward, source_end, source_step};
+ghost use Rattle.fx_region.specs.Ends.{Choice, Ends, chosen, cut_end, effect_end, end_of, end_shown, onward, source_end, source_step, whole_or_cut};
 ghost use Rattle.fx_region.specs.Follow.{GoesToRead, clip_stand, stand_end};
 ghost use Rattle.fx_region.specs.Sites.{effect_at, scene_nodes, site_nodes};
 ghost use Rattle.fx_region.specs.Stands.{StandsBelow};
@@ -34,8 +35,8 @@ enum Stand {
 /// Where a region of a node at a frame is found. It is cut to the node's region of definition, and it is nowhere where
 /// nothing is left. At a source it is in the frame that the source shows. Where the effect is an identity over the cut
 /// region (OpenFX 1.4, kOfxImageEffectActionIsIdentity), it is found at the named clip and frame; else it is to be
-/// rendered. Regions are those of the scene, and the node is reached at the frame. `Memory` comes where memory is
-/// wanting.
+/// rendered: the cut region, or the whole region of definition where the effect renders no parts of an image. Regions
+/// are those of the scene, and the node is reached at the frame. `Memory` comes where memory is wanting.
 pub fn follow<E: Catalogue>(
     alloc: Global,
     scene: &Scene<E>,
@@ -108,11 +109,12 @@ fn stand_of<E: Catalogue>(
 ) -> Result<Stand, Memory>
     requires nodes { AreNodes (site_nodes E.meaning site.now) }
     requires place { IsPlace (length site.now.graph.now.nodes.items) node frame }
+    requires area { reached.now.area ≡ area (site_nodes E.meaning site.now) node frame }
     requires asked { IsAskedSo (site_nodes E.meaning site.now node) frame reached.now.asked }
     requires window { IsWindow cut }
     requires some { cut ≢ none }
     ensures end { let nodes = site_nodes E.meaning site.now in (ends : Ends)
-        → IfOk result (λ stand. stand_end ends cut stand ≡ cut_end cut_alone ends node (nodes node) frame cut) }
+        → IfOk result (λ stand. stand_end ends cut stand ≡ cut_end (chosen nodes) ends node (nodes node) frame cut) }
     ensures read { let nodes = site_nodes E.meaning site.now in IfOk result (GoesToRead (nodes node) frame) }
 {
     match node_at(site.graph, node) {
@@ -127,7 +129,8 @@ fn stand_of<E: Catalogue>(
         NodeAt::Effect(used) => {
             let values = &reached.of_effect().values;
             let project = site.graph.project;
-            effect_stand(alloc, asking, values, project, &used, frame, cut)
+            let whole = reached.area;
+            effect_stand(alloc, asking, values, project, &used, frame, whole, cut)
         }
     }
 }
@@ -162,6 +165,7 @@ fn effect_stand<E: Catalogue>(
     _project: Rect,
     node: &EffectNode<'_, E>,
     frame: i64,
+    whole: Rect,
     cut: Rect,
 ) -> Result<Stand, Memory>
     requires effect { IsEffectNode node.now.place (effect_at E.meaning _project node.now) }
@@ -169,9 +173,10 @@ fn effect_stand<E: Catalogue>(
     requires frame { IsFrame frame }
     requires window { IsWindow cut }
     requires some { cut ≢ none }
-    ensures end { let o = effect_at E.meaning _project node.now in (ends : Ends)
+    ensures end { let o = effect_at E.meaning _project node.now in (choose : Choice) (ends : Ends)
+        → choose node.now.place frame cut ≡ whole_or_cut (Effect o) whole cut
         → IfOk result (λ stand. stand_end ends cut stand
-        ≡ effect_end cut_alone ends node.now.place o frame cut (o.meaning.same (o.values frame) cut)) }
+        ≡ effect_end choose ends node.now.place o frame cut (o.meaning.same (o.values frame) cut)) }
     ensures read { let o = effect_at E.meaning _project node.now in IfOk result (GoesToRead (Effect o) frame) }
 {
     let answer = asking.identity(alloc, node.effect, values, cut)?;
@@ -179,11 +184,19 @@ fn effect_stand<E: Catalogue>(
         Identity::No => Ok(Stand::Here(End::Render {
             node: node.place,
             frame,
-            region: cut,
+            region: whole_or_cut(node.effect, whole, cut),
+            cut,
             through: Steps::of(Vec::new(alloc)),
         })),
         Identity::Same { clip, frame: f } => Ok(passed_on(node, clip, f)),
     }
+}
+
+// What is rendered for a cut of an effect's region of definition: all of that where it renders no parts of an image.
+fn whole_or_cut<E: Catalogue>(effect: &E, whole: Rect, cut: Rect) -> Rect
+    ensures { result ≡ (if (E.meaning effect.now).shape.tiles then cut else whole) }
+{
+    if effect.supports_tiles() { cut } else { whole }
 }
 
 // The clip's node at the frame, in place of the effect.
@@ -226,11 +239,13 @@ fn with_step(end: End, step: Step) -> Result<End, Memory>
             node,
             frame,
             region,
+            cut,
             through,
         } => Ok(End::Render {
             node,
             frame,
             region,
+            cut,
             through: more_steps(through, step)?,
         }),
     }

@@ -22,6 +22,7 @@ use fx_shipped::Shipped;
 use fx_text::{GraphFault, read_graph};
 use fx_tile::{Rendered, SceneName, Shared, TileCount, TileSeat, render_moment};
 use std::alloc::Global;
+use std::rt::Clock;
 use std::sync::Wait;
 use std::test::Fail;
 use std::thread::Threads;
@@ -117,7 +118,7 @@ fn empty_core(alloc: Global, permit: Permit) -> Result<Core<Key, Image>, Memory>
 }
 
 /// The picture of a frame by whole frames.
-pub(crate) fn by_frames<R: Wait>(
+pub(crate) fn by_frames<R: Wait + Clock>(
     rt: &R,
     alloc: Global,
     library: &mut SureLibrary,
@@ -210,7 +211,7 @@ fn seat_of(
 }
 
 /// The picture of a frame by tiles, and what became of them.
-pub(crate) fn by_tiles<R: Threads + Wait + Sync>(
+pub(crate) fn by_tiles<R: Threads + Wait + Clock + Sync>(
     rt: &R,
     alloc: Global,
     library: &mut SureLibrary,

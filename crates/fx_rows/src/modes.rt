@@ -3,6 +3,7 @@ use crate::outcome::{Outcome, Outside, SOUND, Told, done, ended, run_with};
 use crate::same::{same, same_at};
 use crate::worked::Whole;
 use std::alloc::Global;
+use std::rt::Clock;
 use std::sync::Wait;
 use std::test::Fail;
 use std::thread::Threads;
@@ -25,7 +26,7 @@ const BLACK: Whole<'static> = Whole {
     nodes: r#"{"name":"s","source":"s#.pam","first":2,"last":4},{"name":"b","effect":"frameblend","clips":{"Source":"s"}},{"name":"n","effect":"timeoffset","clips":{"Source":"b"},"params":{"offset":1}}"#,
 };
 
-fn checked<R: Threads + Wait + Sync>(
+fn checked<R: Threads + Wait + Clock + Sync>(
     rt: &R,
     alloc: Global,
     words: &[&str],

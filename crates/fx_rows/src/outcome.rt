@@ -5,6 +5,7 @@ use fx_outside::{
     FreePace, MemoryDepot, MemoryLibrary, MemorySink, Pace, SureDepot, SureLibrary, SureSink,
 };
 use std::alloc::{AllocError, Global};
+use std::rt::Clock;
 use std::sync::Wait;
 use std::test::Fail;
 use std::thread::Threads;
@@ -121,7 +122,7 @@ pub(crate) fn files_of(
 }
 
 /// Runs these words where `g.json` has this text.
-pub(crate) fn run_with<R: Threads + Wait + Sync>(
+pub(crate) fn run_with<R: Threads + Wait + Clock + Sync>(
     rt: &R,
     alloc: Global,
     texts: &[&str],
@@ -132,7 +133,7 @@ pub(crate) fn run_with<R: Threads + Wait + Sync>(
 }
 
 /// The same, where the workers keep a pace.
-pub(crate) fn run_paced<R: Threads + Wait + Sync, P: Pace>(
+pub(crate) fn run_paced<R: Threads + Wait + Clock + Sync, P: Pace>(
     rt: &R,
     alloc: Global,
     pace: &P,
@@ -165,7 +166,7 @@ pub(crate) fn run_paced<R: Threads + Wait + Sync, P: Pace>(
 }
 
 /// Renders `g.json` with this text, over objects that never fail.
-pub(crate) fn run_surely<R: Threads + Wait + Sync>(
+pub(crate) fn run_surely<R: Threads + Wait + Clock + Sync>(
     rt: &R,
     alloc: Global,
     graph: &str,

@@ -4,6 +4,7 @@ use crate::same::same_at;
 use crate::worked::Whole;
 use std::alloc::{AllocError, Global};
 use std::process::Abort;
+use std::rt::Clock;
 use std::sync::Wait;
 use std::test::Fail;
 use std::thread::Threads;
@@ -103,7 +104,7 @@ fn lent<'a>(
 }
 
 // What a run of the row's graph over these files left.
-fn left_by<R: Threads + Wait + Sync>(
+fn left_by<R: Threads + Wait + Clock + Sync>(
     rt: &R,
     alloc: Global,
     setting: Setting<'_>,
@@ -115,7 +116,7 @@ fn left_by<R: Threads + Wait + Sync>(
     run_surely(rt, alloc, graph.as_str(), &files)
 }
 
-fn is_made<R: Threads + Wait + Sync + Abort>(
+fn is_made<R: Threads + Wait + Clock + Sync + Abort>(
     rt: &R,
     alloc: Global,
     setting: Setting<'_>,
@@ -137,7 +138,7 @@ fn is_made<R: Threads + Wait + Sync + Abort>(
 }
 
 /// Renders each row of a table.
-pub(crate) fn are_made<R: Threads + Wait + Sync + Abort>(
+pub(crate) fn are_made<R: Threads + Wait + Clock + Sync + Abort>(
     rt: &R,
     alloc: Global,
     setting: Setting<'_>,

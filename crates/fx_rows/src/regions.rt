@@ -397,6 +397,7 @@ fn told_end(alloc: Global, end: &End) -> Result<String, AllocError> {
             node,
             frame,
             region,
+            cut: _,
             through,
         } => {
             let r = told_rect(alloc, *region)?;

@@ -11,6 +11,7 @@ use crate::worked::{ROWS, Whole};
 use fx_outside::SureLibrary;
 use std::alloc::Global;
 use std::process::Abort;
+use std::rt::Clock;
 use std::sync::Wait;
 use std::test::Fail;
 use std::thread::Threads;
@@ -34,7 +35,7 @@ const EACH: &[(u32, u32)] = &[
 const SOME: &[(u32, u32)] = &[(64, 4096), (1024, 0)];
 
 // The frame is the same by each of these as by whole frames.
-fn frame_is_the_same<R: Threads + Wait + Sync + Abort>(
+fn frame_is_the_same<R: Threads + Wait + Clock + Sync + Abort>(
     rt: &R,
     alloc: Global,
     library: &mut SureLibrary,
@@ -122,7 +123,7 @@ const ENGINES: [&[(u32, u32)]; 5] = [
 ];
 
 // A frame of the graph of a number, by one worker, and for some numbers by eight too.
-fn number_is_the_same<R: Threads + Wait + Sync + Abort>(
+fn number_is_the_same<R: Threads + Wait + Clock + Sync + Abort>(
     rt: &R,
     alloc: Global,
     number: u32,
@@ -140,7 +141,7 @@ fn number_is_the_same<R: Threads + Wait + Sync + Abort>(
 }
 
 // The same of twenty numbers from this one on.
-fn twenty_are_the_same<R: Threads + Wait + Sync + Abort>(
+fn twenty_are_the_same<R: Threads + Wait + Clock + Sync + Abort>(
     rt: &R,
     alloc: Global,
     first: u32,

@@ -5,6 +5,7 @@ use crate::tiles::{ENGINES, words_of};
 use crate::worked::Whole;
 use std::alloc::{AllocError, Global};
 use std::process::Abort;
+use std::rt::Clock;
 use std::sync::Wait;
 use std::test::Fail;
 use std::thread::Threads;
@@ -146,7 +147,7 @@ fn file_of(alloc: Global, &(_, width, _, raster): &Strip) -> Result<Vec<u8>, All
 }
 
 // Renders the strip as these words order.
-fn strip_is_right<R: Threads + Wait + Sync + Abort>(
+fn strip_is_right<R: Threads + Wait + Clock + Sync + Abort>(
     rt: &R,
     alloc: Global,
     words: &[&str],

@@ -7,6 +7,7 @@ use fx_outside::SureLibrary;
 use fx_tile::TileCount;
 use std::alloc::{AllocError, Global};
 use std::process::Abort;
+use std::rt::Clock;
 use std::sync::Wait;
 use std::test::Fail;
 use std::thread::Threads;
@@ -292,7 +293,7 @@ fn counts(count: TileCount) -> Counts {
     )
 }
 
-fn case_is_right<R: Threads + Wait + Sync + Abort>(
+fn case_is_right<R: Threads + Wait + Clock + Sync + Abort>(
     rt: &R,
     alloc: Global,
     case: &Case,

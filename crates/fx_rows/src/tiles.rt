@@ -9,6 +9,7 @@ use crate::same::{same, same_at};
 use crate::worked::{ROWS, Row, Whole, first_other};
 use std::alloc::{AllocError, Global};
 use std::process::Abort;
+use std::rt::Clock;
 use std::sync::Wait;
 use std::test::Fail;
 use std::thread::Threads;
@@ -51,7 +52,7 @@ pub(crate) fn words_of([tile, cache, workers]: Engine) -> [&'static str; 8] {
 }
 
 // Renders a graph by each engine.
-fn each_engine_is_right<R: Threads + Wait + Sync + Abort>(
+fn each_engine_is_right<R: Threads + Wait + Clock + Sync + Abort>(
     rt: &R,
     alloc: Global,
     &(whole, files, report, left): &Row,
@@ -86,7 +87,7 @@ fn a_small_solid_is_the_same(rt: HostRuntime) -> Result<(), Fail> {
 }
 
 // Renders a graph by these engines. This is the file of its frame 0.
-fn picture_is_right<R: Threads + Wait + Sync + Abort>(
+fn picture_is_right<R: Threads + Wait + Clock + Sync + Abort>(
     rt: &R,
     alloc: Global,
     engines: &[Engine],

@@ -29,6 +29,7 @@ use fx_props::PropSet;
 use fx_shipped::Shipped;
 use std::alloc::Global;
 use std::process::Abort;
+use std::rt::Clock;
 use std::sync::{Arc, Wait};
 use std::test::Fail;
 
@@ -111,7 +112,7 @@ pub struct Frame {
 }
 
 /// Takes an effect through all its actions, and renders bytes.
-pub fn byte_row<R: Abort + Wait>(
+pub fn byte_row<R: Abort + Wait + Clock>(
     rt: &R,
     alloc: Global,
     effect: Shipped,
@@ -143,7 +144,7 @@ pub fn byte_row<R: Abort + Wait>(
 }
 
 /// Renders shorts.
-pub fn short_row<R: Abort + Wait>(
+pub fn short_row<R: Abort + Wait + Clock>(
     rt: &R,
     alloc: Global,
     effect: Shipped,
@@ -372,7 +373,7 @@ fn same_answers(rt: &impl Abort, found: &Answers, row: &Row<'_>) -> Result<(), F
 // ---- what it renders
 
 // Renders the row's window by the second of two instances, from their loading to their unloading.
-fn rendered<R: Abort + Wait>(
+fn rendered<R: Abort + Wait + Clock>(
     rt: &R,
     alloc: Global,
     effect: Shipped,
@@ -411,7 +412,7 @@ fn rendered<R: Abort + Wait>(
 }
 
 // Renders the part's rectangle by the second instance, which is that of node 4, under a hold of its gate.
-fn second_renders<R: Wait>(
+fn second_renders<R: Wait + Clock>(
     rt: &R,
     alloc: Global,
     running: &Running<Shipped>,
@@ -473,6 +474,7 @@ fn push_frame(
         let image = image_of(alloc, depth, shown[clip], &frame.picture.pixels())?;
         image.pixels_fit();
         let piece = Piece::Tile {
+            cut: image.rect(),
             image: Arc::new(alloc, image)?,
             through: Steps::of(Vec::new(alloc)),
         };

@@ -13,6 +13,7 @@ use fx_life::{Loaded, Running, Use};
 use fx_pixel::{Components, Depth, Pixel};
 use fx_shipped::Shipped;
 use std::alloc::Global;
+use std::rt::Clock;
 use std::sync::Wait;
 use std::sync::atomic::{AtomicU64, Ordering};
 use std::test::Fail;
@@ -42,7 +43,11 @@ fn used_by(node: u32) -> Use
 
 // Of a picture of 3 by 2 pixels that has two grey ones, an instance renders the two right columns, under a hold of the
 // effect's gate.
-fn one_renders<R: Wait>(rt: &R, alloc: Global, effect: Toy<'_>) -> Result<(Image, bool), Memory> {
+fn one_renders<R: Wait + Clock>(
+    rt: &R,
+    alloc: Global,
+    effect: Toy<'_>,
+) -> Result<(Image, bool), Memory> {
     let (byte, rgba) = (Depth::Byte, Components::Rgba);
     let mut image = Image::new(alloc, Rect::of(0, 0, 3, 2), byte, rgba, 12)?;
     image.put(0, 1, GREY);

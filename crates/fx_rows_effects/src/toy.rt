@@ -185,6 +185,10 @@ impl Catalogue for Toy<'_> {
     fn safety(&self) -> Safety {
         Safety::Unsafe
     }
+
+    fn supports_tiles(&self) -> bool {
+        true
+    }
 }
 
 // The zero pixel everywhere.

@@ -125,4 +125,8 @@ impl Catalogue for Shipped {
             _ => Safety::FullySafe,
         }
     }
+
+    fn supports_tiles(&self) -> bool {
+        true
+    }
 }

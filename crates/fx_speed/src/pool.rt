@@ -5,6 +5,7 @@ use fx_base::Memory;
 use fx_outside::FreePace;
 use fx_pool::{Draw, DrawSeat, Job, work};
 use std::alloc::{AllocError, Global};
+use std::rt::Clock;
 use std::sync::Wait;
 use std::thread::Threads;
 
@@ -29,7 +30,7 @@ impl Job for Steps {
 
     ghost out_weight = { λ _. (0, 0) };
 
-    fn turn<R: Wait>(
+    fn turn<R: Wait + Clock>(
         &self,
         _rt: &R,
         _alloc: Global,
@@ -67,7 +68,7 @@ fn sum_of(draw: &Draw, seat: &mut DrawSeat, count: u32) -> u64
 }
 
 /// Does a piece of work for each number below the count, with so many workers. The sum of the outs.
-pub(crate) fn work_together<R: Wait + Threads + Sync + AllocGlobal>(
+pub(crate) fn work_together<R: Wait + Clock + Threads + Sync + AllocGlobal>(
     rt: &R,
     workers: usize,
     count: u32,

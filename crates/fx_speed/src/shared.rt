@@ -8,6 +8,7 @@ use fx_base::Memory;
 use fx_core::{Answer, Flight, Permit};
 use fx_directory::{DirSeat, Directory, Suits};
 use std::alloc::Global;
+use std::rt::Clock;
 use std::sync::{Arc, Wait};
 use std::thread::{self, Threads};
 
@@ -35,14 +36,14 @@ type Numbers = Directory<(), u32, Kept>;
 type Seat = DirSeat<(), u32, Kept>;
 
 /// Asks a directory of 4,096 kept numbers for them so many times, in no order. How many were hits.
-pub(crate) fn ask_alone<R: Wait + AllocGlobal>(rt: &R, asks: u32) -> Result<u64, Memory> {
+pub(crate) fn ask_alone<R: Wait + Clock + AllocGlobal>(rt: &R, asks: u32) -> Result<u64, Memory> {
     let (numbers, seat) = filled(rt)?;
     let seat = ask_all(rt, rt.alloc(), &numbers, seat, asks);
     hits(rt.alloc(), numbers, seat)
 }
 
 /// Asks so many times in each of four threads. How many were hits.
-pub(crate) fn ask_together<R: Wait + Threads + Sync + AllocGlobal>(
+pub(crate) fn ask_together<R: Wait + Clock + Threads + Sync + AllocGlobal>(
     rt: &R,
     asks: u32,
 ) -> Result<u64, Memory> {
@@ -55,7 +56,7 @@ pub(crate) fn ask_together<R: Wait + Threads + Sync + AllocGlobal>(
 }
 
 // A directory of 4,096 kept numbers.
-fn filled<R: Wait + AllocGlobal>(rt: &R) -> Result<(Numbers, Seat), Memory>
+fn filled<R: Wait + Clock + AllocGlobal>(rt: &R) -> Result<(Numbers, Seat), Memory>
     ensures row { IfOk result (λ r. r.1.row ≡ r.0) }
     ensures idle { IfOk result (λ r. r.1.aloft ≡ []) }
     ensures parts { IfOk result (λ r. r.1.parts ≡ all_parts) }
@@ -70,7 +71,12 @@ fn filled<R: Wait + AllocGlobal>(rt: &R) -> Result<(Numbers, Seat), Memory>
 }
 
 // Makes 4,096 numbers and lands them.
-fn fill<R: Wait>(rt: &R, alloc: Global, numbers: &Numbers, seat: &mut Seat) -> Result<(), Memory>
+fn fill<R: Wait + Clock>(
+    rt: &R,
+    alloc: Global,
+    numbers: &Numbers,
+    seat: &mut Seat,
+) -> Result<(), Memory>
     requires row { (seat.old.row ≡ numbers.now) × (seat.old.aloft ≡ []) }
     ensures row { (seat.new.row ≡ numbers.now) × (seat.new.parts ≡ seat.old.parts) }
     ensures idle { seat.new.aloft ≡ [] }
@@ -82,7 +88,7 @@ fn fill<R: Wait>(rt: &R, alloc: Global, numbers: &Numbers, seat: &mut Seat) -> R
 }
 
 // Makes a number and lands it.
-fn keep<R: Wait>(
+fn keep<R: Wait + Clock>(
     rt: &R,
     alloc: Global,
     numbers: &Numbers,
@@ -107,7 +113,7 @@ fn keep<R: Wait>(
 }
 
 // Lands the one flight, or drops it where memory is wanting.
-fn land<R: Wait>(
+fn land<R: Wait + Clock>(
     rt: &R,
     alloc: Global,
     numbers: &Numbers,
@@ -131,7 +137,7 @@ fn land<R: Wait>(
 }
 
 // Drops the one flight that stands.
-fn let_go<R: Wait>(rt: &R, numbers: &Numbers, seat: &mut Seat, flight: Flight<u32>)
+fn let_go<R: Wait + Clock>(rt: &R, numbers: &Numbers, seat: &mut Seat, flight: Flight<u32>)
     requires row { seat.old.row ≡ numbers.now }
     requires one { seat.old.aloft ≡ (flight.ticket.number, arc_value flight.key) ∷ [] }
     ensures row { (seat.new.row ≡ numbers.now) × (seat.new.parts ≡ seat.old.parts) }
@@ -150,7 +156,13 @@ fn keys(alloc: Global) -> Result<Vec<Arc<u32>>, Memory> {
 }
 
 // Asks for so many of the keys, in no order.
-fn ask_all<R: Wait>(rt: &R, alloc: Global, numbers: &Numbers, mut seat: Seat, asks: u32) -> Seat
+fn ask_all<R: Wait + Clock>(
+    rt: &R,
+    alloc: Global,
+    numbers: &Numbers,
+    mut seat: Seat,
+    asks: u32,
+) -> Seat
     requires row { seat.row ≡ numbers.now }
     requires idle { seat.aloft ≡ [] }
     ensures row { (result.row ≡ numbers.now) × (result.parts ≡ seat.parts) }
@@ -169,7 +181,7 @@ fn ask_all<R: Wait>(rt: &R, alloc: Global, numbers: &Numbers, mut seat: Seat, as
     seat
 }
 
-fn ask<R: Wait>(rt: &R, alloc: Global, numbers: &Numbers, seat: &mut Seat, key: &Arc<u32>)
+fn ask<R: Wait + Clock>(rt: &R, alloc: Global, numbers: &Numbers, seat: &mut Seat, key: &Arc<u32>)
     requires row { seat.old.row ≡ numbers.now }
     requires idle { seat.old.aloft ≡ [] }
     ensures row { (seat.new.row ≡ numbers.now) × (seat.new.parts ≡ seat.old.parts) }

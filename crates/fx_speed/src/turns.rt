@@ -5,6 +5,7 @@ ghost use Rattle.fx_turn.specs.Seats.{all_parts};
 use crate::number::Number;
 use fx_turn::{Memory, Seat, Turns};
 use std::alloc::Global;
+use std::rt::Clock;
 use std::sync::Wait;
 use std::thread::{self, Threads};
 
@@ -12,14 +13,14 @@ use std::thread::{self, Threads};
 const THREADS: u32 = 8;
 
 /// Takes the turn so many times, adds one and gives it back. The sum.
-pub(crate) fn add_alone<R: Wait + AllocGlobal>(rt: &R, times: u32) -> Result<u64, Memory> {
+pub(crate) fn add_alone<R: Wait + Clock + AllocGlobal>(rt: &R, times: u32) -> Result<u64, Memory> {
     let (turns, seat) = row(rt.alloc())?;
     let seat = add(rt, &turns, seat, times);
     sum(rt.alloc(), turns, seat)
 }
 
 /// Adds one so many times in each of eight threads. The sum.
-pub(crate) fn add_together<R: Wait + Threads + Sync + AllocGlobal>(
+pub(crate) fn add_together<R: Wait + Clock + Threads + Sync + AllocGlobal>(
     rt: &R,
     times: u32,
 ) -> Result<u64, Memory> {
@@ -51,7 +52,7 @@ fn sum(alloc: Global, turns: Turns<(), Number>, seat: Seat<(), Number>) -> Resul
     Ok(sum)
 }
 
-fn add<R: Wait>(
+fn add<R: Wait + Clock>(
     rt: &R,
     turns: &Turns<(), Number>,
     mut seat: Seat<(), Number>,

@@ -152,12 +152,12 @@ is_render n = is_asked (end_shown n.end)
 pub there_by : (nodes : Nodes) (end : End) (t : Arc Stored Global) → MayBeTileOf nodes end (Some t) → is_asked (end_shown end) ≡ true
 there_by nodes code.Void t is = cc
 there_by nodes (code.Frame node frame region through) t is = cc
-there_by nodes (code.Render node frame region through) t is = refl
+there_by nodes (code.Render node frame region cut through) t is = refl
 
 pub tile_there : (nodes : Nodes) (end : End) (t : Arc Stored Global) → MayBeTileOf nodes end (Some t) → IsTileOf nodes end (Some t)
 tile_there nodes code.Void t is = tt
 tile_there nodes (code.Frame node frame region through) t is = tt
-tile_there nodes (code.Render node frame region through) t is = is
+tile_there nodes (code.Render node frame region cut through) t is = is
 
 -- One need more, where of those behind it h are met already.
 module _ {E : Type 0} {c e : _} (meaning : E → Meaning) (site : Site E c e) (needs : List Need) (i : ℕ) (need : Need) (low : i < length needs) (there : need ≡ get_or needs i need)
@@ -186,7 +186,7 @@ module _ {E : Type 0} {c e : _} (meaning : E → Meaning) (site : Site E c e) (n
   met_by : (end : End) → need.end ≡ end → Met (renders_of (take i needs) + h) l m → IsFound meaning site end m n → Met (renders_of (take (i + 1) needs) + h) l n
   met_by code.Void is met found = no_more (ap (λ (z : End). is_asked (end_shown z)) is) met found
   met_by (code.Frame node frame region through) is met found = no_more (ap (λ (z : End). is_asked (end_shown z)) is) met found
-  met_by (code.Render node frame region through) is met found = one_more _ (ap (λ (z : End). is_asked (end_shown z)) is) met found
+  met_by (code.Render node frame region cut through) is met found = one_more _ (ap (λ (z : End). is_asked (end_shown z)) is) met found
 
   -- it is met now
   pub met_more : Met (renders_of (take i needs) + h) l m → IsFound meaning site need.end m n → Met (renders_of (take (i + 1) needs) + h) l n

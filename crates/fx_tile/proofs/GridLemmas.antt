@@ -20,7 +20,8 @@ use Rattle.fx_base.proofs.RunLaws.{Contains-map}
 use Rattle.fx_effect.specs.Shape.{IsProject}
 use Rattle.fx_region.specs.Counts.{window_tiles}
 use Rattle.fx_tile.specs.Moments.{Cover, IsWindowTile}
-use Rattle.fx_tile.proofs.NeedLemmas.{small_within, tile_high, tile_wide}
+use Rattle.fx_tile.proofs.NeedLemmas.{tile_high, tile_wide}
+use Rattle.fx_tile.proofs.SizeLemmas.{small_within}
 
 -- ---- how many
 
@@ -96,8 +97,7 @@ window_tile side project tile few is of =
       region = record {
         some = some;
         window = record { bounds = IsRect-meet project tile; near = is_near r project proper inside is };
-        wide = small.0;
-        high = small.1;
+        small = small;
       };
       within = inside;
     }

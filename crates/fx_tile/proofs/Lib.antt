@@ -1,3 +1,4 @@
+pub mod SizeLemmas
 pub mod FoundLemmas
 pub mod NeedLemmas
 pub mod PieceLemmas

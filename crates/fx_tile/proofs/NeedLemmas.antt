@@ -93,23 +93,3 @@ needs_in nodes ok side some n o i t r =
     let few = i.few in
     clip_needs_in nodes ok (length o.clips) side some (o.meaning.roi (o.values t) r c) c (clip_frames o t c) (clip_node o c) (omega (arith, low))
     (λ m is. let before = i.earlier c m is in omega (arith, few, before)))
-
--- ---- what lies within a rectangle is no larger
-
-abbrev pub IsSmall : Bounds → Type 0
-IsSmall r = (columns r ≤ 4096) × (rows r ≤ 4096)
-
-gap_within : (a b c d : ℤ) → int_gap c d ≤ int_gap a b → int_gap a b ≤ 4096 → int_gap c d ≤ 4096
-gap_within a b c d h k = omega (arith, h, k)
-
-pub small_within : (q w : Bounds) → IsProper q → IsWithin q w → IsSmall w → IsSmall q
-small_within q w proper inside small =
-    let in_w = Encloses-from_within q w proper inside in
-    let q1 = in_w.left in let q2 = in_w.right in let q3 = in_w.bottom in let q4 = in_w.top in
-    let p1 = proper.wide in let p2 = proper.high in
-    let g1 = gap_is q.x1 q.x2 (omega (arith, ints, p1)) in
-    let g2 = gap_is w.x1 w.x2 (omega (arith, ints, p1, q1, q2)) in
-    let g3 = gap_is q.y1 q.y2 (omega (arith, ints, p2)) in
-    let g4 = gap_is w.y1 w.y2 (omega (arith, ints, p2, q3, q4)) in
-    let s1 = small.0 in let s2 = small.1 in
-    (omega (arith, ints, g1, g2, q1, q2, s1), omega (arith, ints, g3, g4, q3, q4, s2))

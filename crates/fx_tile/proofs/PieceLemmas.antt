@@ -8,7 +8,7 @@ use Rattle.std.proofs.lemmas.List.{at_drop_more, take_more}
 use Rattle.std.proofs.lemmas.List.Sums.{sum_by-drop_more}
 use Rattle.std.specs.List.{sum_by}
 use Rattle.fx_base.specs.Bounds.{Bounds}
-use Rattle.fx_base.specs.Rect.{within}
+use Rattle.fx_base.specs.Rect.{IsWithin, within}
 use Rattle.fx_pixel.specs.declared.Depth.{Depth}
 use Rattle.fx_pixel.specs.declared.Components.{Components}
 use Rattle.fx_pixel.specs.declared.Pixel.{Pixel}
@@ -51,20 +51,20 @@ frame_piece nodes need m f region through s image is there shows =
     }
 
 -- over the image of a render
-pub tile_piece : (nodes : Nodes) (need : Need) (m : ℕ) (f : ℤ) (region : Bounds) (through : List Step) (image : Stored)
-    → need.end ≡ code.Render m f region through → IsTile nodes m f region image
-    → IsPieceOf nodes need (piece_of need.clip need.frame region through image)
-tile_piece nodes need m f region through image is tile =
-    let found : end_shown need.end ≡ Render m f region region through = ap end_shown is in
+pub tile_piece : (nodes : Nodes) (need : Need) (m : ℕ) (f : ℤ) (region cut : Bounds) (through : List Step) (image : Stored)
+    → need.end ≡ code.Render m f region cut through → IsTile nodes m f region image → IsWithin cut region
+    → IsPieceOf nodes need (piece_of need.clip need.frame cut through image)
+tile_piece nodes need m f region cut through image is tile holds =
+    let found : end_shown need.end ≡ Render m f region cut through = ap end_shown is in
     record {
       clip = refl;
       frame = refl;
       holds = λ x y. sym (ap (λ (e : EndShown). end_holds e x y) found);
       pixels = λ to c x y h.
-          let inside : within region x y ≡ true = sym (ap (λ (e : EndShown). end_holds e x y) found) ∙ h in
+          let inside : within cut x y ≡ true = sym (ap (λ (e : EndShown). end_holds e x y) found) ∙ h in
           let one : converted (depth_at nodes m) through to c (value nodes m f x y) ≡ converted image.depth through to c (shown image x y) =
-          ap (λ (d : Depth). converted d through to c (value nodes m f x y)) (sym tile.depth) ∙ ap (converted image.depth through to c) (sym (tile.pixels x y inside)) in
-          let two : end_pixel nodes (Render m f region region through) to c x y ≡ converted image.depth through to c (shown image x y) = rw inside one in
+          ap (λ (d : Depth). converted d through to c (value nodes m f x y)) (sym tile.depth) ∙ ap (converted image.depth through to c) (sym (tile.pixels x y (holds x y inside))) in
+          let two : end_pixel nodes (Render m f region cut through) to c x y ≡ converted image.depth through to c (shown image x y) = rw inside one in
           sym (ap (λ (e : EndShown). end_pixel nodes e to c x y) found ∙ two);
     }
 

@@ -1,10 +1,11 @@
 -- What is found where it stands may be shown or rendered.
-use Rattle.std.proofs.Common.{◌≡◌, ◌≢◌, ℕ, ◌≤◌, ℤ, List, [], ◌∷◌, map, refl, arith, sym, ap, ◌∙◌, subst, Option, Some, None, All}
+use Rattle.std.proofs.Common.{◌≡◌, ◌≢◌, ℕ, ◌≤◌, ℤ, List, [], ◌∷◌, map, refl, arith, sym, ap, ◌∙◌, subst, Option, Some, None, All, inl, inr, ◌⊎◌}
 use Rattle.std.specs.Prelude.{slice_get, option_map, count_by}
 use Rattle.std.proofs.lemmas.List.Elements.{All-nil, All-cons, All-head, All-tail}
 use Rattle.fx_base.specs.Bounds.{Bounds}
+use Rattle.fx_base.specs.declared.limits.TheConstants.{MOST_SIDE}
 use Rattle.fx_base.specs.Rect.{IsWithin}
-use Rattle.fx_base.proofs.RectLemmas.{IsProper-from_rect}
+use Rattle.fx_base.proofs.RectLemmas.{IsProper, IsProper-from_rect}
 use Rattle.fx_core.proofs.Counting.{count_by-is, count-map}
 use Rattle.fx_image.specs.Image.{Image}
 use Rattle.fx_image.specs.Stored.{Stored, image_of}
@@ -26,7 +27,9 @@ use Rattle.fx_region.specs.Stands.{NeedStands, StandsBelow}
 use Rattle.fx_tile.specs.Founds.{IsFoundIn, IsOfFrame}
 use Rattle.fx_tile.specs.declared.site.Site.{Site}
 use Rattle.fx_tile.specs.Sites.{IsReady, IsShown, renders_of}
-use Rattle.fx_tile.proofs.NeedLemmas.{IsNeedIn, IsSmall, small_within}
+use Rattle.fx_tile.specs.Tiles.{IsSmall}
+use Rattle.fx_tile.proofs.NeedLemmas.{IsNeedIn}
+use Rattle.fx_tile.proofs.SizeLemmas.{small_within}
 
 -- ---- the images of a source are those of the store
 
@@ -72,6 +75,10 @@ stored_as (Some s) image e = record { stored = s; there = refl; same = some_same
 
 -- ---- ends
 
+small_either : (q r : Bounds) → IsProper q → IsSmall r → IsWithin q r ⊎ IsSmall q → IsSmall q
+small_either q r proper small (inl inside) = small_within q r proper inside small
+small_either q r proper small (inr own) = own
+
 module _ {E : Type 0} {c e : _} (meaning : E → Meaning) (site : Site E c e) (store : site.scene.now.store ≡ site.store.now) where
   frame_ready : (r : Bounds) (m : ℕ) (f : ℤ) (q : Bounds) → IsOfFrame (scene_nodes meaning site.scene.now) r m f q
       → IsShown meaning site m f q
@@ -94,26 +101,27 @@ module _ {E : Type 0} {c e : _} (meaning : E → Meaning) (site : Site E c e) (s
       → IsFoundIn (scene_nodes meaning site.scene.now) r (end_shown end) → IsReady meaning site n end
   end_ready n r code.Void small stands found = tt
   end_ready n r (code.Frame m f q through) small stands found = frame_ready r m f q found
-  end_ready n r (code.Render m f q through) small stands found =
-      let size = small_within q r (IsProper-from_rect q found.window.bounds stands.some) found.inside small in (
+  end_ready n r (code.Render m f q cut through) small stands found =
+      let size = small_either q r (IsProper-from_rect q found.window.bounds stands.some) small found.size in (
         stands.earlier,
         record {
           effect = found.effect;
           there = found.there;
           reached = stands.reached;
-          region_is = record { some = stands.some; window = found.window; wide = size.0; high = size.1 };
+          region_is = record { some = stands.some; window = found.window; small = size };
           within = stands.inside;
         },
+        stands.holds,
       )
 
-  need_ready : (n count side : ℕ) (need : Need) → side ≤ 4096
+  need_ready : (n count side : ℕ) (need : Need) → side ≤ MOST_SIDE
       → NeedStands (scene_nodes meaning site.scene.now) site.regions.now n (need_shown need)
       → IsNeedIn (scene_nodes meaning site.scene.now) count side (need_shown need) → IsReady meaning site n need.end
   need_ready n count side need few stands is =
       let w = is.wide in let h = is.high in
       end_ready n is.tile need.end (omega (arith, w, few), omega (arith, h, few)) stands is.found
 
-  pub needs_ready : (n count side : ℕ) (needs : List Need) → side ≤ 4096
+  pub needs_ready : (n count side : ℕ) (needs : List Need) → side ≤ MOST_SIDE
       → All (NeedStands (scene_nodes meaning site.scene.now) site.regions.now n) (map need_shown needs)
       → All (IsNeedIn (scene_nodes meaning site.scene.now) count side) (map need_shown needs)
       → All (λ need. IsReady meaning site n need.end) needs

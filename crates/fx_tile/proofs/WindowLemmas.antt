@@ -135,7 +135,7 @@ module _ {E : Type 0} {c e : _} (meaning : E → Meaning) (site : Site E c e) (m
       → CountsRises (end_renders (scene_nodes meaning site.scene.now) site.shared.now.grid (end_shown end)) m n count
   rises_by code.Void found ends = unasked _ found ends.2
   rises_by (code.Frame node frame region through) found ends = unasked _ found ends.2
-  rises_by (code.Render node frame region through) found ends =
+  rises_by (code.Render node frame region cut through) found ends =
       record { dropped = found.dropped; landed = landed; hits = hits; way = λ one. asked_by _ m n count.landed count.hits landed hits found.way }
 
 -- the count of a tile rises as the seat's counts do

@@ -1,5 +1,5 @@
-pub mod Founds
 pub mod Tiles
+pub mod Founds
 pub mod KeyLaws
 pub mod Counts
 pub mod Sites

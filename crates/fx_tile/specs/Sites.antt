@@ -90,12 +90,13 @@ pub record IsShown {E : Type 0} {c e : _} (meaning : E → Meaning) (site : Site
   pub window : IsWindow region
   pub within : IsWithin region image.rect
 
--- an end in a frame that was fetched, or in a node before this one that may be rendered there
+-- an end in a frame that was fetched, or in a node before this one that may be rendered there, over a region that holds
+-- the cut
 abbrev pub IsReady : {E : Type 0} {c e : _} → (E → Meaning) → Site E c e → ℕ → End → Type 0
 IsReady meaning site n code.Void = Unit {0}
 IsReady meaning site n (code.Frame node frame region through) = IsShown meaning site node frame region
-IsReady meaning site n (code.Render node frame region through) =
-    (node < n) × IsRenderable meaning site node frame region
+IsReady meaning site n (code.Render node frame region cut through) =
+    (node < n) × IsRenderable meaning site node frame region × IsWithin cut region
 
 -- what a region of an effect's node needs, which shows what its pixels read; each of one of its clips, and found
 -- somewhere
@@ -115,8 +116,8 @@ pub record AreNeeds {E : Type 0} {c e : _} (meaning : E → Meaning) (site : Sit
 abbrev pub IsTileOf : Nodes → End → Option (Arc Stored Global) → Type 0
 IsTileOf nodes code.Void tile = Unit {0}
 IsTileOf nodes (code.Frame node frame region through) tile = Unit {0}
-IsTileOf nodes (code.Render node frame region through) None = ⊥
-IsTileOf nodes (code.Render node frame region through) (Some tile) = IsTile nodes node frame region (arc_value tile)
+IsTileOf nodes (code.Render node frame region cut through) None = ⊥
+IsTileOf nodes (code.Render node frame region cut through) (Some tile) = IsTile nodes node frame region (arc_value tile)
 
 -- so much of each need's end and what stands beside it
 abbrev pub EachTile :
@@ -134,8 +135,8 @@ AreTilesOf nodes = EachTile (IsTileOf nodes)
 abbrev pub MayBeTileOf : Nodes → End → Option (Arc Stored Global) → Type 0
 MayBeTileOf nodes code.Void tile = tile ≡ None
 MayBeTileOf nodes (code.Frame node frame region through) tile = tile ≡ None
-MayBeTileOf nodes (code.Render node frame region through) None = Unit {0}
-MayBeTileOf nodes (code.Render node frame region through) (Some tile) = IsTile nodes node frame region (arc_value tile)
+MayBeTileOf nodes (code.Render node frame region cut through) None = Unit {0}
+MayBeTileOf nodes (code.Render node frame region cut through) (Some tile) = IsTile nodes node frame region (arc_value tile)
 
 -- one for each need, as far as they are there
 abbrev pub MayBeTilesOf : Nodes → List Need → List (Option (Arc Stored Global)) → Type 0
@@ -157,7 +158,7 @@ renders_needed meaning site node frame region =
 abbrev pub IsFound : {E : Type 0} {c e : _} → (E → Meaning) → Site E c e → End → Made → Made → Type 0
 IsFound meaning site code.Void m n = IsUnasked m n
 IsFound meaning site (code.Frame node frame region through) m n = IsUnasked m n
-IsFound meaning site (code.Render node frame region through) m n =
+IsFound meaning site (code.Render node frame region cut through) m n =
     Fetched (renders_needed meaning site node frame region) m n
 
 -- how many renders the region of an end needs, where it is a render

@@ -2,6 +2,7 @@
 use Rattle.std.specs.Prelude.{◌≡◌, ◌≢◌, ◌≤◌, ℕ, ℤ}
 use Rattle.fx_base.specs.Bounds.{Bounds, none}
 use Rattle.fx_base.specs.Rect.{Holds, columns, rows}
+use Rattle.fx_base.specs.declared.limits.TheConstants.{MOST_SIDE}
 use Rattle.fx_image.specs.Stored.{Stored, shown}
 use Rattle.fx_effect.specs.Asked.{IsWindow}
 use Rattle.fx_effect.specs.Meaning.{Meaning}
@@ -25,9 +26,12 @@ pub record IsRightTile {E : Type 0} (meaning : E → Meaning) (scene : Shot E) (
   pub era : key.era ≡ 0
   pub tile : IsTile (scene_nodes meaning scene) key.node key.frame key.region image
 
--- a region that may be rendered at once: it has a place, and at most 4,096 columns and rows
+-- no more columns and rows than a project may have
+abbrev pub IsSmall : Bounds → Type 0
+IsSmall r = (columns r ≤ MOST_SIDE) × (rows r ≤ MOST_SIDE)
+
+-- a region that may be rendered at once: it has a place, and is no larger than a project may be
 pub record IsRegion (region : Bounds) : Type 0 where
   pub some : region ≢ none
   pub window : IsWindow region
-  pub wide : columns region ≤ 4096
-  pub high : rows region ≤ 4096
+  pub small : IsSmall region

@@ -74,13 +74,12 @@ pub(crate) fn add_piece<'s, E: Catalogue>(
         End::Render {
             node: _,
             frame: _,
-            region,
+            region: _,
+            cut,
             through,
         } => {
             let Some(image) = tile else { unreachable!() };
-            push_view(
-                alloc, need.clip, need.frame, image, *region, through, inputs,
-            )
+            push_view(alloc, need.clip, need.frame, image, *cut, through, inputs)
         }
     }
 }

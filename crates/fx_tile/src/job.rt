@@ -16,6 +16,7 @@ use fx_pool::Job;
 use fx_region::Regions;
 use fx_scene::Scene;
 use std::alloc::Global;
+use std::rt::Clock;
 use std::sync::Wait;
 
 /// The window tiles of the picture of a frame, each of which is drawn by whoever draws its number.
@@ -53,7 +54,7 @@ impl<E: Catalogue + Send + Sync + Drop> Job for TileJob<'_, E> {
 
     ghost out_weight = { λ out. count_weight out.count };
 
-    fn turn<R: Wait>(
+    fn turn<R: Wait + Clock>(
         &self,
         rt: &R,
         alloc: Global,
@@ -72,7 +73,7 @@ impl<E: Catalogue + Drop> TileJob<'_, E> {
     ghost use Rattle.fx_tile.specs.Moments.{IsDrawn, IsFree, MayDraw, count_weight, job_tile, seat_weight};
 
     // Draws the tile of a number into an image over it.
-    fn draw<R: Wait>(
+    fn draw<R: Wait + Clock>(
         &self,
         rt: &R,
         alloc: Global,

@@ -24,6 +24,7 @@ use fx_pool::{Worked, work};
 use fx_region::Regions;
 use fx_scene::Scene;
 use std::alloc::Global;
+use std::rt::Clock;
 use std::sync::Wait;
 use std::thread::Threads;
 
@@ -41,7 +42,7 @@ pub struct Rendered<E: Catalogue> {
 /// have ended. The life is that of the scene's graph, the directory's name is that of the scene, and there are gates for
 /// 64 plug-ins and each node. Each worker calls `pace.before_draw` with its number before each draw. `Memory` comes
 /// where memory is wanting, or where a count would pass the greatest number that it can be.
-pub fn render_moment<R: Threads + Wait + Sync, E: Catalogue + Send + Sync + Drop, P: Pace>(
+pub fn render_moment<R: Threads + Wait + Clock + Sync, E: Catalogue + Send + Sync + Drop, P: Pace>(
     rt: &R,
     alloc: Global,
     pace: &P,

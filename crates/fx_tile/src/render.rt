@@ -1,6 +1,7 @@
 //! A region of an effect's node, rendered over what it needs, under the gate of the node.
 ghost use Rattle.std.specs.Prelude.{◌≡◌, ◌≤◌, ◌*◌, All, IfOk, IsTrue, OnOk};
 ghost use Rattle.std.specs.Arc.{arc_value};
+ghost use Rattle.fx_base.specs.declared.limits.TheConstants.{MOST_SIDE};
 ghost use Rattle.fx_base.specs.Rect.{IsNear, columns};
 ghost use Rattle.fx_image.specs.Stored.{pixel_size};
 ghost use Rattle.fx_scene.specs.Scenes.{graph_shown};
@@ -21,10 +22,11 @@ use fx_region::Need;
 use fx_region::site::{EffectNode, NodeAt, node_at};
 use fx_scene::use_values;
 use std::alloc::Global;
+use std::rt::Clock;
 use std::sync::{Arc, Wait};
 
 /// The image of a region of an effect's node at a frame, by the images and frames of what it needs.
-pub(crate) fn rendered<R: Wait, E: Catalogue + Drop>(
+pub(crate) fn rendered<R: Wait + Clock, E: Catalogue + Drop>(
     rt: &R,
     alloc: Global,
     site: &Site<'_, E>,
@@ -57,7 +59,7 @@ pub(crate) fn rendered<R: Wait, E: Catalogue + Drop>(
 }
 
 // The same of an effect in its place.
-fn effect_rendered<R: Wait, E: Catalogue + Drop>(
+fn effect_rendered<R: Wait + Clock, E: Catalogue + Drop>(
     rt: &R,
     alloc: Global,
     site: &Site<'_, E>,
@@ -91,7 +93,7 @@ fn effect_rendered<R: Wait, E: Catalogue + Drop>(
 }
 
 // The window, rendered into an image of its own.
-fn window_of<R: Wait, E: Catalogue + Drop>(
+fn window_of<R: Wait + Clock, E: Catalogue + Drop>(
     rt: &R,
     alloc: Global,
     site: &Site<'_, E>,
@@ -129,9 +131,9 @@ fn window_of<R: Wait, E: Catalogue + Drop>(
 
 fn row_bytes_of(region: Rect, depth: Depth, components: Components) -> u32
     requires near { IsNear region }
-    requires wide { columns region ≤ 4096 }
+    requires wide { columns region ≤ MOST_SIDE }
     ensures value { result ≡ columns region * pixel_size depth components }
-    ensures small { result ≤ 32768 }
+    ensures small { result ≤ 65536 }
 {
     region.width() as u32 * components.count() * depth.size()
 }

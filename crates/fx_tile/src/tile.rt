@@ -20,14 +20,15 @@ use fx_effect::Catalogue;
 use fx_image::Image;
 use fx_region::{End, Need, demand_by};
 use fx_scene::Key;
+use fx_turn::Pause;
 use std::alloc::Global;
+use std::rt::Clock;
 use std::sync::{Arc, Wait};
-use std::thread;
 
 /// The image of a region of an effect's node at a frame: kept, or rendered here and landed. Waits while another
 /// renders it.
 #[cycle(fetching)]
-pub(crate) fn fetch<R: Wait, E: Catalogue + Drop>(
+pub(crate) fn fetch<R: Wait + Clock, E: Catalogue + Drop>(
     rt: &R,
     alloc: Global,
     asking: &mut Asking,
@@ -51,13 +52,14 @@ pub(crate) fn fetch<R: Wait, E: Catalogue + Drop>(
         (Follows tally.old tally.new seat.old.directory.made seat.new.directory.made) }
 {
     let key = site.scene.key(alloc, node, frame, region)?;
+    let mut pause = Pause::new();
     for _ in rt.forever() {
         let key = Arc::try_clone(&key)?;
         match fetch_unless_busy(
             rt, alloc, asking, site, seat, tally, node, frame, region, key,
         )? {
             Some(image) => return Ok(image),
-            None => thread::yield_now(),
+            None => pause.wait(rt),
         }
     }
     unreachable!()
@@ -65,7 +67,7 @@ pub(crate) fn fetch<R: Wait, E: Catalogue + Drop>(
 
 // The same, asked for once under its key. `None` comes where another renders it.
 #[cycle(fetching)]
-fn fetch_unless_busy<R: Wait, E: Catalogue + Drop>(
+fn fetch_unless_busy<R: Wait + Clock, E: Catalogue + Drop>(
     rt: &R,
     alloc: Global,
     asking: &mut Asking,
@@ -111,7 +113,7 @@ fn fetch_unless_busy<R: Wait, E: Catalogue + Drop>(
 
 // Renders under a flight and lands it. Where memory is wanting the flight is dropped.
 #[cycle(fetching)]
-fn made<R: Wait, E: Catalogue + Drop>(
+fn made<R: Wait + Clock, E: Catalogue + Drop>(
     rt: &R,
     alloc: Global,
     asking: &mut Asking,
@@ -164,7 +166,7 @@ fn made<R: Wait, E: Catalogue + Drop>(
 }
 
 // Lands an image, which is handed back too. Where memory is wanting the flight is dropped.
-fn landed<R: Wait, E: Catalogue + Drop>(
+fn landed<R: Wait + Clock, E: Catalogue + Drop>(
     rt: &R,
     alloc: Global,
     site: &Site<'_, E>,
@@ -207,7 +209,7 @@ fn landed<R: Wait, E: Catalogue + Drop>(
 
 // The image, rendered under a ticket once what it needs is there.
 #[cycle(fetching)]
-fn image_of<R: Wait, E: Catalogue + Drop>(
+fn image_of<R: Wait + Clock, E: Catalogue + Drop>(
     rt: &R,
     alloc: Global,
     asking: &mut Asking,
@@ -290,7 +292,7 @@ fn with_side(grid: Grid) -> Grid
 // An image for each need that is a render. Those that others render are waited for once the rest is there, so that
 // workers with the same needs render one each.
 #[cycle(fetching)]
-fn gathered<R: Wait, E: Catalogue + Drop>(
+fn gathered<R: Wait + Clock, E: Catalogue + Drop>(
     rt: &R,
     alloc: Global,
     asking: &mut Asking,
@@ -326,7 +328,7 @@ fn gathered<R: Wait, E: Catalogue + Drop>(
 
 // The same, where no other renders them.
 #[cycle(fetching)]
-fn gathered_unless_busy<R: Wait, E: Catalogue + Drop>(
+fn gathered_unless_busy<R: Wait + Clock, E: Catalogue + Drop>(
     rt: &R,
     alloc: Global,
     asking: &mut Asking,
@@ -358,7 +360,7 @@ fn gathered_unless_busy<R: Wait, E: Catalogue + Drop>(
 
 // The image of an end that is a render, where no other renders it.
 #[cycle(fetching)]
-fn tile_unless_busy<R: Wait, E: Catalogue + Drop>(
+fn tile_unless_busy<R: Wait + Clock, E: Catalogue + Drop>(
     rt: &R,
     alloc: Global,
     asking: &mut Asking,
@@ -386,6 +388,7 @@ fn tile_unless_busy<R: Wait, E: Catalogue + Drop>(
             node: m,
             frame,
             region,
+            cut: _,
             through: _,
         } => {
             let key = site.scene.key(alloc, *m, *frame, *region)?;
@@ -398,7 +401,7 @@ fn tile_unless_busy<R: Wait, E: Catalogue + Drop>(
 
 /// The image of an end that is a render, of a node before this one.
 #[cycle(fetching)]
-pub(crate) fn tile_for<R: Wait, E: Catalogue + Drop>(
+pub(crate) fn tile_for<R: Wait + Clock, E: Catalogue + Drop>(
     rt: &R,
     alloc: Global,
     asking: &mut Asking,
@@ -425,6 +428,7 @@ pub(crate) fn tile_for<R: Wait, E: Catalogue + Drop>(
             node: m,
             frame,
             region,
+            cut: _,
             through: _,
         } => match fetch(rt, alloc, asking, site, seat, tally, *m, *frame, *region) {
             Ok(tile) => Ok(Some(tile)),

@@ -29,6 +29,7 @@ use fx_pixel::{Components, Depth};
 use fx_region::{End, Need, Regions, follow};
 use fx_scene::Scene;
 use std::alloc::Global;
+use std::rt::Clock;
 use std::sync::{Arc, Wait};
 
 /// Writes the pixels of a tile of the picture of a frame into a part, and no others. The tile lies within the
@@ -38,7 +39,7 @@ use std::sync::{Arc, Wait};
 /// after. `Memory` comes where memory is wanting: then the pixels of the tile may be anything, and each flight of the
 /// call was dropped. Where another renders what is needed it is waited for. A render holds the gate of its node, once
 /// what it reads is there, and releases it before it lands.
-pub fn window_tile<R: Wait, E: Catalogue + Drop>(
+pub fn window_tile<R: Wait + Clock, E: Catalogue + Drop>(
     rt: &R,
     alloc: Global,
     scene: &Scene<E>,
@@ -87,7 +88,7 @@ pub fn window_tile<R: Wait, E: Catalogue + Drop>(
 }
 
 // Writes a tile that is found at this end.
-fn tile_shown<R: Wait, E: Catalogue + Drop>(
+fn tile_shown<R: Wait + Clock, E: Catalogue + Drop>(
     rt: &R,
     alloc: Global,
     site: &Site<'_, E>,

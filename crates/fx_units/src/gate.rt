@@ -4,6 +4,7 @@ use crate::same::same;
 use fx_base::Memory;
 use fx_gate::{GateSeat, Gates};
 use std::alloc::Global;
+use std::rt::Clock;
 use std::sync::Wait;
 use std::test::Fail;
 use std::thread;
@@ -38,7 +39,7 @@ fn room_keeps_the_old_cells(rt: HostRuntime) -> Result<(), Fail> {
 }
 
 // One cell in the workspace of a gate.
-fn make_room<R: Wait>(
+fn make_room<R: Wait + Clock>(
     rt: &R,
     alloc: Global,
     gates: &Gates,
@@ -55,7 +56,7 @@ fn make_room<R: Wait>(
 }
 
 // Holds each gate in turn and counts in its first cell.
-fn count<R: Wait>(rt: &R, gates: &Gates, mut seat: GateSeat, times: u32) -> GateSeat
+fn count<R: Wait + Clock>(rt: &R, gates: &Gates, mut seat: GateSeat, times: u32) -> GateSeat
     requires { (seat.row ≡ gates.now) × (seat.turn ≡ None) × (1 < gates.now.gates) }
     ensures { (result.row ≡ gates.now) × (result.turn ≡ None) × (result.parts ≡ seat.parts) }
 {

@@ -5,6 +5,7 @@ use fx_base::Memory;
 use fx_outside::{FreePace, Pace};
 use fx_pool::{Draw, DrawSeat, ItemJob, Job, work, work_items};
 use std::alloc::{AllocError, Global};
+use std::rt::Clock;
 use std::sync::Wait;
 use std::sync::atomic::{AtomicBool, AtomicU64, Ordering};
 use std::test::Fail;
@@ -28,7 +29,7 @@ impl Job for Notes {
 
     ghost out_weight = { λ _. (1, 0) };
 
-    fn turn<R: Wait>(
+    fn turn<R: Wait + Clock>(
         &self,
         _rt: &R,
         _alloc: Global,
@@ -61,7 +62,7 @@ impl Job for FailsFirst {
 
     ghost out_weight = { λ _. (0, 0) };
 
-    fn turn<R: Wait>(
+    fn turn<R: Wait + Clock>(
         &self,
         _rt: &R,
         _alloc: Global,
@@ -94,7 +95,7 @@ impl ItemJob<u64> for AddsIndex {
 
     ghost out_weight = { λ _. (1, 0) };
 
-    fn turn<R: Wait>(
+    fn turn<R: Wait + Clock>(
         &self,
         _rt: &R,
         _alloc: Global,

@@ -6,6 +6,7 @@ ghost use Rattle.fx_turn.specs.Seats.{all_parts};
 use crate::same::same;
 use fx_turn::{Fits, Memory, Seat, Turns};
 use std::alloc::Global;
+use std::rt::Clock;
 use std::sync::Wait;
 use std::test::Fail;
 use std::thread;
@@ -73,7 +74,7 @@ fn one_value_is_taken_and_given(rt: HostRuntime) -> Result<(), Fail> {
 }
 
 // Takes the value of a slot, adds one to it, and answers what it was.
-fn add_one<R: Wait>(
+fn add_one<R: Wait + Clock>(
     rt: &R,
     turns: &Turns<u32, Number>,
     seat: &mut Seat<u32, Number>,
@@ -117,7 +118,7 @@ fn values_keep_their_slots(rt: HostRuntime) -> Result<(), Fail> {
 }
 
 // Adds one to the first value, so many times.
-fn add<R: Wait>(
+fn add<R: Wait + Clock>(
     rt: &R,
     turns: &Turns<u32, Count>,
     mut seat: Seat<u32, Count>,

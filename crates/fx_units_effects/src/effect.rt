@@ -127,9 +127,15 @@ fn rows_are_read_from_pieces(rt: HostRuntime) -> Result<(), Fail> {
     let byte = pair(alloc, Rect::of(0, 0, 2, 1), Depth::Byte, 1, FOUR)?;
     let mut inputs = Inputs::new(alloc, Depth::Byte, vec![in alloc; Components::Rgba]?)?;
     byte.pixels_fit();
+    let cut = byte.rect();
     let image = Arc::new(alloc, byte)?;
     let through = Steps::of(vec![in alloc;]?);
-    inputs.push(alloc, 0, 5, Piece::Tile { image, through })?;
+    let tile = Piece::Tile {
+        image,
+        cut,
+        through,
+    };
+    inputs.push(alloc, 0, 5, tile)?;
     let through = Steps::of(vec![in alloc;]?);
     let view = short.view(Rect::of(1, 0, 3, 1));
     inputs.push(alloc, 0, 5, Piece::Frame { view, through })?;

@@ -8,6 +8,7 @@ use crate::same::same;
 use fx_core::{Answer, Flight, Permit, Totals};
 use fx_directory::{DirSeat, Directory, Suits};
 use std::process::Abort;
+use std::rt::Clock;
 use std::sync::{Arc, Wait};
 
 // A number that is twice its key.
@@ -44,7 +45,7 @@ pub(crate) fn start(rt: &(impl Abort + AllocGlobal), capacity: u32) -> (Doubles,
     }
 }
 
-fn ask<R: Abort + Wait + AllocGlobal>(
+fn ask<R: Abort + Wait + Clock + AllocGlobal>(
     rt: &R,
     doubles: &Doubles,
     seat: &mut DoubleSeat,
@@ -62,7 +63,7 @@ fn ask<R: Abort + Wait + AllocGlobal>(
 }
 
 // Asks for a key that is neither kept nor flying, and stamps the ticket.
-pub(crate) fn fly<R: Abort + Wait + AllocGlobal>(
+pub(crate) fn fly<R: Abort + Wait + Clock + AllocGlobal>(
     rt: &R,
     doubles: &Doubles,
     seat: &mut DoubleSeat,
@@ -88,7 +89,7 @@ pub(crate) fn fly<R: Abort + Wait + AllocGlobal>(
     }
 }
 
-pub(crate) fn busy<R: Abort + Wait + AllocGlobal>(
+pub(crate) fn busy<R: Abort + Wait + Clock + AllocGlobal>(
     rt: &R,
     doubles: &Doubles,
     seat: &mut DoubleSeat,
@@ -105,7 +106,7 @@ pub(crate) fn busy<R: Abort + Wait + AllocGlobal>(
     }
 }
 
-pub(crate) fn here<R: Abort + Wait + AllocGlobal>(
+pub(crate) fn here<R: Abort + Wait + Clock + AllocGlobal>(
     rt: &R,
     doubles: &Doubles,
     seat: &mut DoubleSeat,
@@ -124,7 +125,7 @@ pub(crate) fn here<R: Abort + Wait + AllocGlobal>(
 }
 
 // Lands the double of its key under the one flight that stands.
-pub(crate) fn land<R: Abort + Wait + AllocGlobal>(
+pub(crate) fn land<R: Abort + Wait + Clock + AllocGlobal>(
     rt: &R,
     doubles: &Doubles,
     seat: &mut DoubleSeat,
@@ -145,7 +146,12 @@ pub(crate) fn land<R: Abort + Wait + AllocGlobal>(
 }
 
 // Drops the one flight that stands.
-pub(crate) fn let_go<R: Wait>(rt: &R, doubles: &Doubles, seat: &mut DoubleSeat, flight: Flight<u32>)
+pub(crate) fn let_go<R: Wait + Clock>(
+    rt: &R,
+    doubles: &Doubles,
+    seat: &mut DoubleSeat,
+    flight: Flight<u32>,
+)
     requires row { seat.old.row ≡ doubles.now }
     requires own { seat.old.aloft ≡ (flight.ticket.number, arc_value flight.key) ∷ [] }
     ensures row { (seat.new.row ≡ seat.old.row) × (seat.new.parts ≡ seat.old.parts) }

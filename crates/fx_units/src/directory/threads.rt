@@ -9,6 +9,7 @@ use fx_base::Memory;
 use fx_core::{Answer, Flight, Totals};
 use std::alloc::Global;
 use std::process::Abort;
+use std::rt::Clock;
 use std::sync::{Arc, Wait};
 use std::test::Fail;
 use std::thread::{self, Threads};
@@ -39,7 +40,7 @@ fn double_of(alloc: Global, key: u32) -> Option<Arc<Double>>
 }
 
 // Lands a double, where it was made, and else drops the flight. Answers whether it landed.
-fn end<R: Wait>(
+fn end<R: Wait + Clock>(
     rt: &R,
     alloc: Global,
     doubles: &Doubles,
@@ -68,7 +69,7 @@ fn end<R: Wait>(
 }
 
 // Asks for a key once. What it has to make it lands, or drops.
-fn visit<R: Wait>(
+fn visit<R: Wait + Clock>(
     rt: &R,
     alloc: Global,
     doubles: &Doubles,
@@ -101,7 +102,7 @@ fn visit<R: Wait>(
 }
 
 // Asks for one of six keys at random, so many times. Of what it has to make it lands three of four.
-fn ask_at_random<R: Wait>(
+fn ask_at_random<R: Wait + Clock>(
     rt: &R,
     alloc: Global,
     doubles: &Doubles,
@@ -124,7 +125,13 @@ fn ask_at_random<R: Wait>(
 }
 
 // Asks for one key once.
-fn ask_once<R: Wait>(rt: &R, alloc: Global, doubles: &Doubles, mut asker: Asker, key: u32) -> Asker
+fn ask_once<R: Wait + Clock>(
+    rt: &R,
+    alloc: Global,
+    doubles: &Doubles,
+    mut asker: Asker,
+    key: u32,
+) -> Asker
     requires { IsIdle doubles.now asker.seat }
     ensures { IsIdle doubles.now result.seat × (result.seat.parts ≡ asker.seat.parts) }
 {
@@ -197,7 +204,7 @@ fn four_threads_ask_at_random(rt: HostRuntime) -> Result<(), Fail> {
 }
 
 // Each asks for a key once, all beside each other.
-fn all_ask_once<R: Threads + Wait + Sync + Abort + AllocGlobal>(
+fn all_ask_once<R: Threads + Wait + Clock + Sync + Abort + AllocGlobal>(
     rt: &R,
     doubles: &Doubles,
     askers: Vec<Asker>,
@@ -218,7 +225,7 @@ fn all_ask_once<R: Threads + Wait + Sync + Abort + AllocGlobal>(
 
 // The first seat flies for a key while each of so many threads asks for it, and once it has landed each asks
 // again. How often each answer comes doesn't depend on who comes first.
-fn one_flight_for_all<R: Threads + Wait + Sync + Abort + AllocGlobal>(
+fn one_flight_for_all<R: Threads + Wait + Clock + Sync + Abort + AllocGlobal>(
     rt: &R,
     count: u32,
 ) -> Result<Totals, Memory> {

@@ -27,6 +27,7 @@ use fx_text::{GraphFault, read_graph};
 use fx_tile::{Rendered, SceneName, TileCount, render_moment};
 use std::alloc::{AllocError, Global};
 use std::process::Abort;
+use std::rt::Clock;
 use std::sync::Wait;
 use std::test::Fail;
 use std::thread::Threads;
@@ -166,7 +167,7 @@ struct Outcome {
 }
 
 // What comes of the frame by so many workers, over effects that are handed in.
-fn rendered<'a, R: Threads + Wait + Sync>(
+fn rendered<'a, R: Threads + Wait + Clock + Sync>(
     rt: &R,
     alloc: Global,
     graph: Graph<Counted<'a>>,
@@ -219,7 +220,7 @@ fn shows_the_source<R: Abort>(rt: &R, picture: &Image) {
 }
 
 // What comes of the frame by four workers, over effects that note here.
-fn by_four<R: Threads + Wait + Sync>(
+fn by_four<R: Threads + Wait + Clock + Sync>(
     rt: &R,
     alloc: Global,
     plugins: &Plugins,
@@ -229,7 +230,7 @@ fn by_four<R: Threads + Wait + Sync>(
 }
 
 // Each render that landed is a call, in the order of life and under the gate of its node.
-fn are_called<R: Threads + Wait + Abort + Sync>(
+fn are_called<R: Threads + Wait + Clock + Abort + Sync>(
     rt: &R,
     alloc: Global,
     plugins: &Plugins,
@@ -258,7 +259,7 @@ fn effects_are_called_as_they_may_be(rt: HostRuntime) -> Result<(), Fail> {
 }
 
 // The first call of the first node lacks memory, for which a flight of each node stands.
-fn lacks_memory<R: Threads + Wait + Abort + Sync>(
+fn lacks_memory<R: Threads + Wait + Clock + Abort + Sync>(
     rt: &R,
     alloc: Global,
     plugins: &Plugins,

@@ -8,7 +8,7 @@ use Rattle.fx_base.specs.Bounds.{IsRect}
 use Rattle.fx_scene.specs.Areas.{area}
 use Rattle.fx_scene.specs.Nodes.{AreNodes, Node, Nodes}
 use Rattle.fx_scene.proofs.Outside.{area_window}
-use Rattle.fx_region.specs.Ends.{cut_alone, end_of}
+use Rattle.fx_region.specs.Ends.{chosen, end_of}
 use Rattle.fx_region.specs.Needs.{needs_of, node_needs}
 use Rattle.fx_region.specs.Sites.{scene_nodes, site_nodes}
 use Rattle.fx_region.specs.Stands.{NeedStands}
@@ -54,7 +54,7 @@ returns-clause-shows g c o is =
     IfOk-weaker c.needs_in.result _ _ (λ (needs : Vec Need Global) they.
     subst (ShowsTaps nodes o c.args.frame c.args.region)
     (sym (they ∙ ap (λ (q : Node). node_needs (end_of nodes) (area nodes) c.args.grid q c.args.frame c.args.region) is))
-    (shows_taps cut_alone nodes are c.args.grid c.args.node o c.args.frame c.args.region some is))
+    (shows_taps (chosen nodes) nodes are c.args.grid c.args.node o c.args.frame c.args.region some is))
     (returns-clause-needs g c)
 
 pub returns-clause-stand : goal.returns-clause-stand

@@ -4,6 +4,7 @@ use Rattle.std.proofs.lemmas.Result.{IfOk-weaker}
 use mir.Val.{SFits}
 use Rattle.fx_base.specs.Bounds.{none}
 use Rattle.fx_effect.specs.Asked.{IsWindow}
+use Rattle.fx_scene.specs.Areas.{area}
 use Rattle.fx_scene.specs.Reach.{IsPlace}
 use Rattle.fx_scene.proofs.NearLemmas.{read_place}
 use Rattle.fx_region.specs.Ends.{end_of, onward}
@@ -27,6 +28,13 @@ stand_of-requires-clause-place g t c =
     let fits : SFits w64 c.args.frame = c.ranges.frame in
     subst (λ (f : ℤ). IsPlace (length c.args.site.now.graph.now.nodes.items) c.args.node f) (sym (to_z-of_z w64 _ fits))
     (c.requires.table.places c.args.node c.args.frame c.requires.reached)
+
+pub stand_of-requires-clause-area : goal.stand_of-requires-clause-area
+stand_of-requires-clause-area g t c =
+    let nodes = site_nodes g.E.ImageEffect.meaning c.args.site.now in
+    let fits : SFits w64 c.args.frame = c.ranges.frame in
+    (simp to_z-of_z at (c.known-reached.ensures.area nodes c.requires.table.right))
+    ∙ ap (area nodes c.args.node) (sym (to_z-of_z w64 _ fits))
 
 pub stand_of-requires-clause-asked : goal.stand_of-requires-clause-asked
 stand_of-requires-clause-asked g t c =

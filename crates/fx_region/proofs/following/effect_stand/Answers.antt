@@ -35,7 +35,7 @@ passed_on-requires g c =
     same_clip node.place o c.requires.effect c.args.frame c.args.cut c.in-Same.clip c.in-Same.f same
 
 pub returns-in-No-clause-end : goal.returns-in-No-clause-end
-returns-in-No-clause-end g c ends =
+returns-in-No-clause-end g c choose ends chosen_so =
     let node = c.args.node.now in
     let o = effect_at g.E.ImageEffect.meaning c.args._project node in
     let fits : SFits w64 c.args.frame = c.ranges.frame in
@@ -43,10 +43,11 @@ returns-in-No-clause-end g c ends =
     let same : o.meaning.same (o.values c.args.frame) c.args.cut ≡ No =
     ap (λ (v : Values). o.meaning.same v c.args.cut) (sym values) ∙ sym c.in_ok-answer.ensures ∙ c.in-No.is in
     let steps : c.of.result ≡ [] = search rules in
-    rw (same, to_z-of_z w64 c.args.frame fits, steps) refl
+    let region = c.whole_or_cut.ensures ∙ sym chosen_so in
+    rw (same, to_z-of_z w64 c.args.frame fits, steps, region) refl
 
 pub returns-in-Same-clause-end : goal.returns-in-Same-clause-end
-returns-in-Same-clause-end g c ends =
+returns-in-Same-clause-end g c choose ends chosen_so =
     let node = c.args.node.now in
     let o = effect_at g.E.ImageEffect.meaning c.args._project node in
     let fits : SFits w64 c.args.frame = c.ranges.frame in
@@ -55,7 +56,7 @@ returns-in-Same-clause-end g c ends =
     let same = ap (λ (v : Values). o.meaning.same v c.args.cut) (sym values) ∙ sym c.in_ok-answer.ensures ∙ c.in-Same.is in
     let passed = simp to_z-of_z at c.passed_on.ensures in
     ap (stand_end ends c.args.cut) passed
-    ∙ same_stands ends node.place o c.args.frame c.args.cut c.in-Same.clip c.in-Same.f same
+    ∙ same_stands choose ends node.place o c.args.frame c.args.cut c.in-Same.clip c.in-Same.f same
 
 pub returns-in-Same-clause-read : goal.returns-in-Same-clause-read
 returns-in-Same-clause-read g c =

@@ -3,7 +3,7 @@ use Rattle.std.proofs.lemmas.Int.{to_z-of_z}
 use Rattle.std.proofs.lemmas.Result.{IfOk-weaker}
 use mir.Val.{SFits}
 use Rattle.fx_scene.specs.Nodes.{AreNodes, Nodes}
-use Rattle.fx_region.specs.Ends.{cut_alone, end_of}
+use Rattle.fx_region.specs.Ends.{chosen, end_of}
 use Rattle.fx_region.specs.Sites.{scene_nodes, site_nodes}
 use Rattle.fx_region.specs.Stands.{StandsBelow}
 use Rattle.fx_region.specs.Suffice.{ShowsEnd}
@@ -33,7 +33,7 @@ returns-clause-shows g c =
     let nodes = scene_nodes m c.args.scene.now in
     let are = subst AreNodes c.site_of-site.ensures.same c.site_of-site.ensures.nodes in
     IfOk-weaker c.find.result _ _ (λ (end : End) is.
-    subst (ShowsEnd nodes c.args.node c.args.frame c.args.region) (sym is) (shows_end cut_alone nodes are c.args.node c.args.frame c.args.region))
+    subst (ShowsEnd nodes c.args.node c.args.frame c.args.region) (sym is) (shows_end (chosen nodes) nodes are c.args.node c.args.frame c.args.region))
     (returns-clause-end g c)
 
 pub returns-clause-stands : goal.returns-clause-stands

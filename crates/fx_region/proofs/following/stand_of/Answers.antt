@@ -1,10 +1,12 @@
-use Rattle.std.proofs.Common.{◌∙◌, ap, refl, sym, w64, ℕ, ℤ, Option}
+use Rattle.std.proofs.Common.{◌≡◌, ◌∙◌, ap, refl, sym, w64, ℕ, ℤ, Option}
 use Rattle.std.proofs.lemmas.Int.{to_z-of_z}
 use Rattle.std.proofs.lemmas.Result.{IfOk-weaker}
 use mir.Val.{SFits}
-use Rattle.fx_scene.specs.Nodes.{Effect, Source}
+use Rattle.fx_base.specs.Bounds.{Bounds}
+use Rattle.fx_scene.specs.Areas.{area}
+use Rattle.fx_scene.specs.Nodes.{Effect, Node, Source}
 use Rattle.fx_scene.specs.Scenes.{graph_shown, images_in}
-use Rattle.fx_region.specs.Ends.{cut_alone, cut_end, source_end}
+use Rattle.fx_region.specs.Ends.{chosen, cut_end, source_end, whole_or_cut}
 use Rattle.fx_region.specs.Sites.{effect_at, site_nodes, source_of}
 use Rattle.fx_region.specs.declared.following.Stand.{Stand}
 use Rattle.fx_region.proofs.FollowLemmas.{cut_by, read_by}
@@ -59,9 +61,14 @@ returns-in-Effect-clause-end g c ends =
     let at = c.in-Effect.ensures in
     let stands = effect_in m (graph_shown site.graph.now) (images_in site.store.now) c.args.node used at.0 at.1 in
     let fits : SFits w64 c.args.frame = c.ranges.frame in
-    let answered = simp to_z-of_z at (c.effect_stand.ensures.end ends) in
+    let nodes = site_nodes m site in
+    let place : chosen nodes used.place c.args.frame c.args.cut ≡ whole_or_cut (Effect o) c.args.reached.now.area c.args.cut =
+    ap (λ (n : ℕ). chosen nodes n c.args.frame c.args.cut) at.0
+    ∙ ap (λ (q : Node). whole_or_cut q (area nodes c.args.node c.args.frame) c.args.cut) stands
+    ∙ ap (λ (w : Bounds). whole_or_cut (Effect o) w c.args.cut) (sym c.requires.area) in
+    let answered = (simp to_z-of_z at (c.effect_stand.ensures.end (chosen nodes) ends)) place in
     IfOk-weaker c.effect_stand.result _ _ (λ (s : Stand) is.
-    is ∙ ap (λ (n : ℕ). cut_end cut_alone ends n (Effect o) c.args.frame c.args.cut) at.0
+    is ∙ ap (λ (n : ℕ). cut_end (chosen nodes) ends n (Effect o) c.args.frame c.args.cut) at.0
     ∙ cut_by ends c.args.node (site_nodes m site) (Effect o) c.args.frame c.args.cut stands) answered
 
 pub returns-in-Effect-clause-read : goal.returns-in-Effect-clause-read

@@ -69,7 +69,7 @@ tile_shown-requires-clause-ready g c =
     let there = (c.requires.regions.places output c.args.frame reached).there in
     let is = simp to_z-of_z at c.in_ok-end.ensures.end in
     let found = subst (IsFoundIn nodes c.args.tile) (sym is) (ends_found nodes site.nodes output c.args.frame c.args.tile (omega (arith, few, count, there))) in
-    end_ready m _ site.store (output + 1) c.args.tile c.in_ok-end.end (c.requires.tile.wide, c.requires.tile.high) c.in_ok-end.ensures.stands found
+    end_ready m _ site.store (output + 1) c.args.tile c.in_ok-end.end c.requires.tile.small c.in_ok-end.ensures.stands found
 
 pub returns-clause-pixels : goal.returns-clause-pixels
 returns-clause-pixels g c =

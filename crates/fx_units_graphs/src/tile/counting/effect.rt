@@ -212,6 +212,10 @@ impl Catalogue for Counted<'_> {
     fn safety(&self) -> Safety {
         self.safety
     }
+
+    fn supports_tiles(&self) -> bool {
+        true
+    }
 }
 
 // Each pixel as it is.

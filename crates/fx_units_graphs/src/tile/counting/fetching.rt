@@ -8,6 +8,7 @@ use fx_text::{GraphFault, read_graph};
 use fx_tile::TileCount;
 use std::alloc::Global;
 use std::process::Abort;
+use std::rt::Clock;
 use std::sync::Wait;
 use std::test::Fail;
 use std::thread::Threads;
@@ -41,7 +42,7 @@ fn graph_of<'a>(alloc: Global, gated: &str) -> Result<Graph<Counted<'a>>, GraphF
 }
 
 // What comes of the frame by four workers.
-fn by_four<R: Threads + Wait + Sync>(
+fn by_four<R: Threads + Wait + Clock + Sync>(
     rt: &R,
     alloc: Global,
     gated: &str,
@@ -53,7 +54,7 @@ fn by_four<R: Threads + Wait + Sync>(
 
 // Two calls of the fully safe effect meet. None could begin beside another if whoever made it held the gate of the
 // output, for which it renders, since only one at a time has that.
-fn inputs_meet<R: Threads + Wait + Abort + Sync>(
+fn inputs_meet<R: Threads + Wait + Clock + Abort + Sync>(
     rt: &R,
     alloc: Global,
     gated: &str,
