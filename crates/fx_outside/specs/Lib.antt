@@ -1,5 +1,5 @@
 pub mod Outside
-pub mod Tally
+pub mod Calls
 pub mod Memory
 pub mod Objects
 pub mod Sure

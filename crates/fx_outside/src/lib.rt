@@ -3,12 +3,12 @@
 //! streams tell nothing but their counts: they are the edge that is trusted.
 #![tactic(auto)]
 
+mod call_log;
 mod fault;
 mod files;
 mod memory;
 mod real;
 mod sure;
-mod tally;
 mod traits;
 mod watched;
 

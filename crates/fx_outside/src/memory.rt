@@ -3,11 +3,11 @@
 ghost use Rattle.std.specs.Prelude.{◌≡◌, ◌≢◌, ◌≤◌, ◌⊎◌, ◌++◌, ℕ, List, [], true, OnOk, OnErr, IfOk, IsErrOf, option_map, None, Some};
 ghost use Rattle.fx_outside.specs.Memory.{first_of};
 ghost use Rattle.fx_outside.specs.Outside.{SameFiles, Sets};
-ghost use Rattle.fx_outside.specs.Tally.{no_calls, is_next_to_fail, after_call, after_fault};
+ghost use Rattle.fx_outside.specs.Calls.{no_calls, is_next_to_fail, after_call, after_fault};
 ghost use Rattle.fx_outside.specs.Objects.{library_files, library_calls, depot_files, depot_calls, sink_bytes, sink_calls};
 
+use crate::call_log::CallLog;
 use crate::files::{bytes_of, first_of, keep};
-use crate::tally::Tally;
 use crate::{Depot, FetchFault, Library, PutFault, Sink};
 use fx_base::Name;
 use std::alloc::Global;
@@ -17,7 +17,7 @@ use std::collections::BTreeMap;
 #[derive(Drop)]
 pub struct MemoryLibrary {
     files: Vec<(Name, Vec<u8>)>,
-    tally: Tally,
+    log: CallLog,
 }
 
 impl MemoryLibrary {
@@ -28,7 +28,7 @@ impl MemoryLibrary {
     {
         MemoryLibrary {
             files,
-            tally: Tally::new(alloc, failing),
+            log: CallLog::new(alloc, failing),
         }
     }
 }
@@ -54,14 +54,14 @@ impl Library for MemoryLibrary {
         ensures passed { (IsErrOf result FetchFault.Failed → ⊥)
             → library_calls self.new ≡ after_call (library_calls self.old) }
     {
-        if self.tally.is_failing() {
-            self.tally.note_fault(alloc, name)?;
+        if self.log.is_failing() {
+            self.log.note_fault(alloc, name)?;
             return Err(FetchFault::Failed);
         }
         match first_of(&self.files, name) {
             Some(file) => Ok(file.1.to_vec(alloc)?),
             None => {
-                self.tally.note_fault(alloc, name)?;
+                self.log.note_fault(alloc, name)?;
                 Err(FetchFault::Failed)
             }
         }
@@ -72,7 +72,7 @@ impl Library for MemoryLibrary {
 #[derive(Drop)]
 pub struct MemoryDepot {
     files: BTreeMap<String, Vec<u8>>,
-    tally: Tally,
+    log: CallLog,
 }
 
 impl MemoryDepot {
@@ -83,7 +83,7 @@ impl MemoryDepot {
     {
         MemoryDepot {
             files: BTreeMap::new(alloc),
-            tally: Tally::new(alloc, failing),
+            log: CallLog::new(alloc, failing),
         }
     }
 
@@ -115,8 +115,8 @@ impl Depot for MemoryDepot {
         ensures passed { (IsErrOf result PutFault.Failed → ⊥)
             → depot_calls self.new ≡ after_call (depot_calls self.old) }
     {
-        if self.tally.is_failing() {
-            self.tally.note_fault(alloc, name)?;
+        if self.log.is_failing() {
+            self.log.note_fault(alloc, name)?;
             return Err(PutFault::Failed);
         }
         keep(alloc, &mut self.files, name, bytes)?;
@@ -128,7 +128,7 @@ impl Depot for MemoryDepot {
 #[derive(Drop)]
 pub struct MemorySink {
     bytes: Vec<u8>,
-    tally: Tally,
+    log: CallLog,
 }
 
 impl MemorySink {
@@ -139,7 +139,7 @@ impl MemorySink {
     {
         MemorySink {
             bytes: Vec::new(alloc),
-            tally: Tally::new(alloc, failing),
+            log: CallLog::new(alloc, failing),
         }
     }
 
@@ -169,8 +169,8 @@ impl Sink for MemorySink {
         ensures passed { (IsErrOf result PutFault.Failed → ⊥)
             → sink_calls self.new ≡ after_call (sink_calls self.old) }
     {
-        if self.tally.is_failing() {
-            self.tally.note_fault(alloc, "")?;
+        if self.log.is_failing() {
+            self.log.note_fault(alloc, "")?;
             return Err(PutFault::Failed);
         }
         self.bytes.extend_from_slice(bytes)?;

@@ -8,7 +8,7 @@ ghost use Rattle.std.specs.Prelude.{◌≡◌, ◌≤◌, ◌<◌, ◌+◌, ◌^
 ghost use Rattle.std.specs.Io.KnownBytes.{Appends};
 ghost use Rattle.fx_outside.specs.Outside.{HasRisen};
 ghost use Rattle.fx_outside.specs.Real.{GivenByOne, too_many, stream, stream_faults};
-ghost use Rattle.fx_outside.specs.Tally.{one_more};
+ghost use Rattle.fx_outside.specs.Calls.{one_more};
 
 use crate::watched::Watched;
 use crate::{Depot, FetchFault, Library, PutFault, Sink};

@@ -3,7 +3,7 @@ ghost use Rattle.std.specs.Prelude.{◌≡◌, ◌≢◌, IfOk, IfErr, OnOk, OnE
 ghost use Rattle.std.specs.IoError.{error_kind};
 ghost use Rattle.std.specs.Io.{ReadsAtMost};
 ghost use Rattle.std.specs.Io.KnownBytes.{ReadConsumes};
-ghost use Rattle.fx_outside.specs.Tally.{one_more, so_many_more};
+ghost use Rattle.fx_outside.specs.Calls.{one_more, so_many_more};
 
 use std::io;
 use std::io::{ErrorKind, Read};

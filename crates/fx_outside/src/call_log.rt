@@ -1,6 +1,6 @@
 //! Which calls of an object in memory fail: those with given numbers, counted from 1.
 ghost use Rattle.std.specs.Prelude.{◌≡◌, ◌≤◌, OnOk, OnErr};
-ghost use Rattle.fx_outside.specs.Tally.{no_calls, is_next_to_fail, after_call, with_fault};
+ghost use Rattle.fx_outside.specs.Calls.{no_calls, is_next_to_fail, after_call, with_fault};
 
 use fx_base::Name;
 use std::alloc::{AllocError, Global};
@@ -8,26 +8,26 @@ use std::marker::Model;
 
 /// The calls that came, and those that failed.
 #[derive(Drop)]
-pub struct Tally {
+pub struct CallLog {
     failing: Vec<u64>,
     calls: u64,
     faults: u64,
     last: Name,
 }
 
-impl Model for Tally {
-    ghost use Rattle.fx_outside.specs.Tally.{Calls};
+impl Model for CallLog {
+    ghost use Rattle.fx_outside.specs.Calls.{Calls};
 
     ghost Value = { Calls };
 
     ghost view = { λ t. record { failing = t.failing.items; calls = t.calls; faults = t.faults; last = t.last } };
 }
 
-impl Tally {
-    pub fn new(alloc: Global, failing: Vec<u64>) -> Tally
+impl CallLog {
+    pub fn new(alloc: Global, failing: Vec<u64>) -> CallLog
         ensures { result ≡ no_calls failing.items }
     {
-        Tally {
+        CallLog {
             failing,
             calls: 0,
             faults: 0,
