@@ -3,6 +3,6 @@ pub mod Nodes
 pub mod Lives
 mod RunningLemmas
 mod Places
-mod SeatLemmas
+mod PostLemmas
 pub mod LifeLemmas
-mod Filling
+pub mod Filling

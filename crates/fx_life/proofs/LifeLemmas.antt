@@ -8,14 +8,18 @@ use Rattle.std.proofs.lemmas.Option.{none-some, same_Some, slice_get-map, slice_
 use Rattle.std.proofs.lemmas.List.{append_assoc, reverse-append}
 use Rattle.std.proofs.lemmas.Simd.{map-map}
 use Rattle.std.proofs.lemmas.List.Elements.{Contains-get_or, All-contains, All-map}
+use Rattle.fx_pixel.specs.declared.Components.{Components}
+use Rattle.fx_pixel.specs.declared.Depth.{Depth}
+use Rattle.fx_effect.specs.Given.{Given}
 use Rattle.fx_effect.specs.Meaning.{Meaning}
+use Rattle.fx_effect.specs.declared.values.Values.{Values}
 use Rattle.fx_graph.specs.declared.node.Node.{Node}
 use Rattle.fx_graph.specs.Shown.{GraphShown, Shown, shown}
 use Rattle.fx_life.specs.declared.uses.Use.{Use}
-use Rattle.fx_life.specs.declared.uses.Seat.{Seat}
-use Rattle.fx_life.specs.Plugin.{Rendering, gate_of}
+use Rattle.fx_life.specs.declared.uses.Post.{Post}
+use Rattle.fx_life.specs.Plugin.{Rendering, MayRenderIn, gate_of}
 use Rattle.fx_life.specs.Running.{Run, rendering, AreUsed}
-use Rattle.fx_life.specs.Seats.{Lives, Used, used_by, use_by, seat_at, IsUsedAt, Plays, HasLife, IsGateOf, IsLifeOf, Serves, uses_at, AreSeated, ArePlaced, handed, IsStarted}
+use Rattle.fx_life.specs.Posts.{Lives, Used, used_by, use_by, post_at, IsUsedAt, Plays, MayPlay, HasLife, IsGateOf, IsLifeOf, Serves, uses_at, ArePosted, ArePlaced, handed, IsStarted}
 use Rattle.fx_life.proofs.Places.{last_or_before, get_set, get_set_other, there_at, at_there, in_reverse, from_reverse, in_map, from_map, differs, all_pairs_map}
 
 -- ---- one more plug-in
@@ -80,41 +84,41 @@ run_of {E} number effects runs n are there =
 
 pub is_life : {E : Type 0} (number : E → ℕ) (nodes : List (Node E)) (first last : ℕ) (life : Lives E)
     (uses : List (Vec Use))
-    → AreSeated number nodes (length nodes) life.seats uses
+    → ArePosted number nodes (length nodes) life.posts uses
     → ((k : ℕ) (used : Used E) → IsUsedAt nodes k used → Contains (map number life.effects) (number used.effect))
     → handed [] life.runs ≡ life.effects → All (IsStarted number uses first last) life.runs
     → IsLifeOf number nodes first last life
 is_life {E} number nodes first last life uses are among in_order started k used at =
-    let seat = are.seated k used (slice_get_within nodes k at.0 at.1) at in
+    let post = are.posted k used (slice_get_within nodes k at.0 at.1) at in
     let run = run_of number life.effects life.runs (number used.effect) in_order (among k used at) in
     let is = All-contains (IsStarted number uses first last) life.runs run.0 started run.1 in
     let one : Use = use_by k used in
-    let there : slice_get (uses_at uses (number run.0.effect)) seat.0 ≡ Some one =
-    ap (λ n. slice_get (uses_at uses n) seat.0) run.2 ∙ seat.2 in
-    let instance : slice_get run.0.sequences seat.0 ≡ Some (rendering (number used.effect) first last one) =
-    ap (λ l. slice_get l seat.0) is.sequences
-    ∙ slice_get-map (rendering (number run.0.effect) first last) (uses_at uses (number run.0.effect)) seat.0
+    let there : slice_get (uses_at uses (number run.0.effect)) post.0 ≡ Some one =
+    ap (λ n. slice_get (uses_at uses n) post.0) run.2 ∙ post.2 in
+    let instance : slice_get run.0.sequences post.0 ≡ Some (rendering (number used.effect) first last one) =
+    ap (λ l. slice_get l post.0) is.sequences
+    ∙ slice_get-map (rendering (number run.0.effect) first last) (uses_at uses (number run.0.effect)) post.0
     ∙ ap (option_map (rendering (number run.0.effect) first last)) there
     ∙ ap (λ n. Some (rendering n first last one)) run.2 in
     let plays : Plays number life k used.effect = record {
       run = run.0;
       there = run.1;
       same = run.2;
-      place = seat.0;
-      seated = seat.1;
+      place = post.0;
+      posted = post.1;
       sequence = rendering (number used.effect) first last one;
       instance = instance;
       own = refl;
       described = All-contains (λ (u : Use). Contains run.0.contexts u.context) (uses_at uses (number run.0.effect)) one
-          is.contexts.each (there_at (uses_at uses (number run.0.effect)) seat.0 one there);
+          is.contexts.each (there_at (uses_at uses (number run.0.effect)) post.0 one there);
     } in
     (plays, refl)
 
 -- what it was started for is what nodes use it for
-pub serves : {E : Type 0} (number : E → ℕ) (nodes : List (Node E)) (count first last : ℕ) (seats : List (Option Seat))
-    (uses : List (Vec Use)) (run : Run E) → AreSeated number nodes count seats uses
+pub serves : {E : Type 0} (number : E → ℕ) (nodes : List (Node E)) (count first last : ℕ) (posts : List (Option Post))
+    (uses : List (Vec Use)) (run : Run E) → ArePosted number nodes count posts uses
     → IsStarted number uses first last run → Serves number nodes run
-serves {E} number nodes count first last seats uses run are is =
+serves {E} number nodes count first last posts uses run are is =
     let mine = uses_at uses (number run.effect) in
     let begun = rendering (number run.effect) first last in
     let P : Rendering → Type 0 =
@@ -149,41 +153,41 @@ placed_at number runs places n run place are there is read =
 
 -- ---- the plug-in that plays a node
 
--- the node's seat is that which plays
-pub seat_is : {E : Type 0} (number : E → ℕ) (life : Lives E) (node : ℕ) (seat : Seat) (effect : E)
-    → slice_get life.seats node ≡ Some (Some seat) → (plays : Plays number life node effect)
-    → seat ≡ record { plugin = number effect; place = plays.place }
-seat_is number life node seat effect sat plays =
-    let playing : Seat = record { plugin = number effect; place = plays.place } in
-    same_Some seat playing (same_Some (Some seat) (Some playing) (sym sat ∙ plays.seated))
+-- the node's post is that which plays
+pub post_is : {E : Type 0} (number : E → ℕ) (life : Lives E) (node : ℕ) (post : Post) (effect : E)
+    → slice_get life.posts node ≡ Some (Some post) → (plays : Plays number life node effect)
+    → post ≡ record { plugin = number effect; place = plays.place }
+post_is number life node post effect at_post plays =
+    let playing : Post = record { plugin = number effect; place = plays.place } in
+    same_Some post playing (same_Some (Some post) (Some playing) (sym at_post ∙ plays.posted))
 
 -- there is a plug-in of its number
-pub seat_played : {E : Type 0} (number : E → ℕ) (life : Lives E) (node : ℕ) (seat : Seat) (effect : E)
-    → slice_get life.seats node ≡ Some (Some seat) → Plays number life node effect
-    → (run : Run E) × Contains life.runs run × (number run.effect ≡ seat.plugin)
-seat_played number life node seat effect sat plays =
-    let same = seat_is number life node seat effect sat plays in
-    (plays.run, plays.there, plays.same ∙ ap (λ (s : Seat). s.plugin) (sym same))
+pub post_played : {E : Type 0} (number : E → ℕ) (life : Lives E) (node : ℕ) (post : Post) (effect : E)
+    → slice_get life.posts node ≡ Some (Some post) → Plays number life node effect
+    → (run : Run E) × Contains life.runs run × (number run.effect ≡ post.plugin)
+post_played number life node post effect at_post plays =
+    let same = post_is number life node post effect at_post plays in
+    (plays.run, plays.there, plays.same ∙ ap (λ (s : Post). s.plugin) (sym same))
 
 -- and it is that which plays
-pub run_is : {E : Type 0} (number : E → ℕ) (life : Lives E) (node : ℕ) (seat : Seat) (run : Run E) (effect : E)
-    → slice_get life.seats node ≡ Some (Some seat)
-    → ((r : Run E) → Contains life.runs r → number r.effect ≡ seat.plugin → run ≡ r)
+pub run_is : {E : Type 0} (number : E → ℕ) (life : Lives E) (node : ℕ) (post : Post) (run : Run E) (effect : E)
+    → slice_get life.posts node ≡ Some (Some post)
+    → ((r : Run E) → Contains life.runs r → number r.effect ≡ post.plugin → run ≡ r)
     → (plays : Plays number life node effect) → run ≡ plays.run
-run_is number life node seat run effect sat only plays =
-    only plays.run plays.there (plays.same ∙ ap (λ (s : Seat). s.plugin)
-    (sym (seat_is number life node seat effect sat plays)))
+run_is number life node post run effect at_post only plays =
+    only plays.run plays.there (plays.same ∙ ap (λ (s : Post). s.plugin)
+    (sym (post_is number life node post effect at_post plays)))
 
-pub place_within : {E : Type 0} (number : E → ℕ) (life : Lives E) (node : ℕ) (seat : Seat) (run : Run E) (effect : E)
-    → slice_get life.seats node ≡ Some (Some seat)
-    → ((r : Run E) → Contains life.runs r → number r.effect ≡ seat.plugin → run ≡ r)
-    → Plays number life node effect → seat.place < length run.sequences
-place_within {E} number life node seat run effect sat only plays =
+pub place_within : {E : Type 0} (number : E → ℕ) (life : Lives E) (node : ℕ) (post : Post) (run : Run E) (effect : E)
+    → slice_get life.posts node ≡ Some (Some post)
+    → ((r : Run E) → Contains life.runs r → number r.effect ≡ post.plugin → run ≡ r)
+    → Plays number life node effect → post.place < length run.sequences
+place_within {E} number life node post run effect at_post only plays =
     let low = slice_get_within plays.run.sequences plays.place plays.sequence plays.instance in
-    let place : seat.place ≡ plays.place =
-    ap (λ (s : Seat). s.place) (seat_is number life node seat effect sat plays) in
+    let place : post.place ≡ plays.place =
+    ap (λ (s : Post). s.place) (post_is number life node post effect at_post plays) in
     let long : length run.sequences ≡ length plays.run.sequences =
-    ap (λ (r : Run E). length r.sequences) (run_is number life node seat run effect sat only plays) in
+    ap (λ (r : Run E). length r.sequences) (run_is number life node post run effect at_post only plays) in
     omega (arith, low, place, long)
 
 -- the plug-in's own effect plays the node as well
@@ -195,39 +199,55 @@ plays_own number life node effect plays =
       there = plays.there;
       same = refl;
       place = plays.place;
-      seated = plays.seated ∙ ap (λ n. Some (seat_at n plays.place)) (sym plays.same);
+      posted = plays.posted ∙ ap (λ n. Some (post_at n plays.place)) (sym plays.same);
       sequence = plays.sequence;
       instance = plays.instance;
       own = plays.own;
       described = plays.described;
     }
 
--- the sequence at its place is that of the node
-pub own_node : {E : Type 0} (number : E → ℕ) (life : Lives E) (node : ℕ) (seat : Seat) (run : Run E) (effect : E)
-    (s : Rendering) → slice_get life.seats node ≡ Some (Some seat)
-    → ((r : Run E) → Contains life.runs r → number r.effect ≡ seat.plugin → run ≡ r)
-    → Plays number life node effect → slice_get run.sequences seat.place ≡ Some s → s.node ≡ node
-own_node {E} number life node seat run effect s sat only plays there =
-    let place : seat.place ≡ plays.place =
-    ap (λ (s : Seat). s.place) (seat_is number life node seat effect sat plays) in
-    let same : slice_get run.sequences seat.place ≡ slice_get plays.run.sequences plays.place =
-    ap (λ (r : Run E). slice_get r.sequences seat.place) (run_is number life node seat run effect sat only plays)
+-- the sequence at its place is that which plays
+own_sequence : {E : Type 0} (number : E → ℕ) (life : Lives E) (node : ℕ) (post : Post) (run : Run E) (effect : E)
+    (s : Rendering) → slice_get life.posts node ≡ Some (Some post)
+    → ((r : Run E) → Contains life.runs r → number r.effect ≡ post.plugin → run ≡ r)
+    → (plays : Plays number life node effect) → slice_get run.sequences post.place ≡ Some s → s ≡ plays.sequence
+own_sequence {E} number life node post run effect s at_post only plays there =
+    let place : post.place ≡ plays.place =
+    ap (λ (s : Post). s.place) (post_is number life node post effect at_post plays) in
+    let same : slice_get run.sequences post.place ≡ slice_get plays.run.sequences plays.place =
+    ap (λ (r : Run E). slice_get r.sequences post.place) (run_is number life node post run effect at_post only plays)
     ∙ ap (slice_get plays.run.sequences) place in
-    ap (λ (r : Rendering). r.node) (same_Some s plays.sequence (sym there ∙ same ∙ plays.instance)) ∙ plays.own
+    same_Some s plays.sequence (sym there ∙ same ∙ plays.instance)
+
+-- what the node may render its instance may, in its own context
+pub may_there : {E : Type 0} (meaning : E → Meaning) (number : E → ℕ) (life : Lives E) (node : ℕ) (post : Post)
+    (run : Run E) (s : Rendering) (v : Values) (given : Given) (depth : Depth) (c : Components)
+    → ((a b : E) → number a ≡ number b → meaning a ≡ meaning b) → slice_get life.posts node ≡ Some (Some post)
+    → ((r : Run E) → Contains life.runs r → number r.effect ≡ post.plugin → run ≡ r)
+    → MayPlay number meaning life node v given depth c → slice_get run.sequences post.place ≡ Some s
+    → MayRenderIn s.context (meaning run.effect).shape v given depth c
+may_there {E} meaning number life node post run s v given depth c one_meaning at_post only plays there =
+    let effect = plays.effect in
+    let number_is : number run.effect ≡ number effect =
+    ap (λ (r : Run E). number r.effect) (run_is number life node post run effect at_post only plays.plays)
+    ∙ plays.plays.same in
+    let context = ap (λ (r : Rendering). r.context) (own_sequence number life node post run effect s at_post only plays.plays there) in
+    subst (λ (m : Meaning). MayRenderIn s.context m.shape v given depth c)
+    (sym (one_meaning run.effect effect number_is)) (plays.may.0, plays.may.1 ∙ sym context)
 
 -- the gate of the node is that of the plug-in's own effect there
-pub gate_is : {E : Type 0} (meaning : E → Meaning) (number : E → ℕ) (life : Lives E) (node : ℕ) (seat : Seat)
-    (run : Run E) (effect : E) (gate : Option ℕ) (s : Rendering) → slice_get life.seats node ≡ Some (Some seat)
-    → ((r : Run E) → Contains life.runs r → number r.effect ≡ seat.plugin → run ≡ r)
+pub gate_is : {E : Type 0} (meaning : E → Meaning) (number : E → ℕ) (life : Lives E) (node : ℕ) (post : Post)
+    (run : Run E) (effect : E) (gate : Option ℕ) (s : Rendering) → slice_get life.posts node ≡ Some (Some post)
+    → ((r : Run E) → Contains life.runs r → number r.effect ≡ post.plugin → run ≡ r)
     → Plays number life node effect → IsGateOf meaning number life node gate
-    → slice_get run.sequences seat.place ≡ Some s
+    → slice_get run.sequences post.place ≡ Some s
     → gate ≡ gate_of (meaning run.effect).shape.safety (number run.effect) s.node
-gate_is {E} meaning number life node seat run effect gate s sat only plays is there =
+gate_is {E} meaning number life node post run effect gate s at_post only plays is there =
     is plays.run.effect (plays_own number life node effect plays)
     ∙ ap (λ (r : Run E). gate_of (meaning r.effect).shape.safety (number r.effect) node)
-    (sym (run_is number life node seat run effect sat only plays))
+    (sym (run_is number life node post run effect at_post only plays))
     ∙ ap (gate_of (meaning run.effect).shape.safety (number run.effect))
-    (sym (own_node number life node seat run effect s sat only plays there))
+    (sym (ap (λ (r : Rendering). r.node) (own_sequence number life node post run effect s at_post only plays there) ∙ plays.own))
 
 -- ---- a life of a graph, by what contracts see of it
 
@@ -239,7 +259,19 @@ started_life {E} number nodes first last g life same started k node used there i
     (sym (slice_get-map shown nodes k) ∙ ap (λ (ns : List (Shown E)). slice_get ns k) same ∙ there)
   where
     by_node : (o : Option (Node E)) → slice_get nodes k ≡ o → option_map shown o ≡ Some node
-        → Plays number life k used.effect
+        → (plays : Plays number life k used.effect) × (plays.sequence.context ≡ used.context)
     by_node None e h = absurd (none-some node h)
     by_node (Some n) e h =
-        (started k used (n, e, ap (λ (s : Shown E). used_by s.does) (same_Some (shown n) node h) ∙ is)).0
+        let has = started k used (n, e, ap (λ (s : Shown E). used_by s.does) (same_Some (shown n) node h) ∙ is) in
+        (has.0, ap (λ (s : Rendering). s.context) has.1)
+
+-- in it a node may play what may be rendered in the context of its use
+pub may_play : {E : Type 0} (number : E → ℕ) (meaning : E → Meaning) (g : GraphShown E) (life : Lives E)
+    → HasLife number g life → (k : ℕ) (node : Shown E) (used : Used E)
+    → slice_get g.nodes k ≡ Some node → used_by node.does ≡ Some used
+    → (v : Values) (given : Given) (depth : Depth) (c : Components)
+    → MayRenderIn used.context (meaning used.effect).shape v given depth c
+    → MayPlay number meaning life k v given depth c
+may_play number meaning g life has k node used there is v given depth c may =
+    let plays = has k node used there is in
+    record { effect = used.effect; plays = plays.0; may = (may.0, may.1 ∙ sym plays.1) }

@@ -4,9 +4,13 @@ use Rattle.std.specs.List.{Contains}
 use Rattle.std.proofs.lemmas.List.{append-nil, append_assoc, map-append, length-append, length-map, length-reverse, length-take-le, reverse-append, get_or-reverse, get_or-map, get_or-take, take_more, get_or_append_left, get_or_push}
 use Rattle.std.proofs.lemmas.List.Elements.{filter-append, Contains-append_right, Contains-append_left, Contains-push, Contains-get_or, All-contains, All-push, All-pop, All-weaker}
 use Rattle.std.proofs.lemmas.List.Quantifiers.{all_pairs_push}
+use Rattle.std.proofs.lemmas.Option.{slice_get_read, slice_get-map}
+use Rattle.std.specs.Option.{option_map}
+use Rattle.std.specs.Prelude.{slice_get}
 use Rattle.fx_life.specs.Plugin.{MadeFor, Rendering, without}
 use Rattle.fx_effect.specs.declared.action.Context.{Context}
 use Rattle.fx_life.specs.declared.uses.Use.{Use}
+use Rattle.fx_life.proofs.Places.{there_at}
 use Rattle.fx_life.specs.Running.{made, begun, made_for, rendering, members, planned, AreLive, AreUsed, IsWith}
 
 -- ---- nodes
@@ -128,20 +132,19 @@ pub last_idle : (ms : List MadeFor) (m : MadeFor) (ss : List Rendering) → Cont
 last_idle ms m ss = Contains-append_left (ms ++ m ∷ []) (map made (reverse ss)) m (Contains-push ms m)
 
 -- where none is idle there is a sequence for each live instance, and each of these is a member
-pub as_member : (ss : List Rendering) (k : ℕ) (s : Rendering) → k < length ss → slice_index_or (reverse ss) k s ≡ s
+pub as_member : (ss : List Rendering) (k : ℕ) (s : Rendering) → slice_get (reverse ss) k ≡ Some s
     → Contains (members [] ss) (made s)
-as_member ss k s low is =
-    (k, omega (arith, low, long), get_or-map made (reverse ss) k s (made s) (omega (arith, low, turned)) ∙ ap made is)
-  where
-    turned : length (reverse ss) ≡ length ss
-    turned = length-reverse ss
+as_member ss k s there =
+    there_at (map made (reverse ss)) k (made s) (slice_get-map made (reverse ss) k ∙ ap (option_map made) there)
 
-    long : length (map made (reverse ss)) ≡ length ss
-    long = length-map (reverse ss) made ∙ length-reverse ss
-
-pub from_end : (ss : List Rendering) (k : ℕ) (s : Rendering) → k < length ss
-    → slice_index_or ss (length ss - 1 - k) s ≡ s → slice_index_or (reverse ss) k s ≡ s
-from_end ss k s low is = get_or-reverse ss k s low ∙ is
+-- what is read at a place from the end stands at that place of the sequences in order
+pub read_from_end : (ss : List Rendering) (k n : ℕ) (s : Rendering) → k < length (reverse ss) → n ≡ length ss
+    → s ≡ slice_index_or ss (n - 1 - k) s → slice_get (reverse ss) k ≡ Some s
+read_from_end ss k n s inside long read =
+    let turned = length-reverse ss in
+    let low : k < length ss = omega (arith, inside, turned) in
+    let at = subst (λ m. s ≡ slice_index_or ss (m - 1 - k) s) long read in
+    slice_get_read (reverse ss) (length ss) k s (sym turned) low (at ∙ sym (get_or-reverse ss k s low))
 
 -- ---- uses
 

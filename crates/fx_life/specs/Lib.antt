@@ -2,5 +2,5 @@ pub mod Plugin
 pub mod Course
 pub mod Life
 pub mod Running
-pub mod Seats
+pub mod Posts
 pub mod Filled

@@ -1,5 +1,11 @@
--- What contracts see of a plug-in that is described, of its instances, and of its gates.
-use Rattle.std.specs.Prelude.{ℕ, ◌+◌, ◌==◌, not, List, [], filter, Option, Some, None}
+-- What contracts see of a plug-in that is described, of its instances, of what these may render, and of its gates.
+use Rattle.std.specs.Prelude.{◌≡◌, ℕ, ◌+◌, ◌==◌, not, List, [], filter, Option, Some, None}
+use Rattle.fx_pixel.specs.declared.Components.{Components}
+use Rattle.fx_pixel.specs.declared.Depth.{Depth}
+use Rattle.fx_effect.specs.Asked.{MayRender}
+use Rattle.fx_effect.specs.Given.{Given}
+use Rattle.fx_effect.specs.Shape.{Shape}
+use Rattle.fx_effect.specs.declared.values.Values.{Values}
 use Rattle.fx_effect.specs.declared.action.Context.{Context}
 use Rattle.fx_effect.specs.declared.action.Safety.{Safety}
 use Rattle.fx_effect.specs.declared.action.Safety.TheVariants as safety
@@ -37,3 +43,8 @@ abbrev pub gate_of : Safety → ℕ → ℕ → Option ℕ
 gate_of safety.Unsafe number node = Some number
 gate_of safety.InstanceSafe number node = Some (64 + node)
 gate_of safety.FullySafe number node = None
+
+-- what an instance that was created in this context may render: its values are lawful there, and its inputs those that
+-- the effect describes there
+abbrev pub MayRenderIn : Context → Shape → Values → Given → Depth → Components → Type 0
+MayRenderIn context s v given depth c = (may : MayRender s v given depth c) × (may.context ≡ context)

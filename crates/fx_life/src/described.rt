@@ -3,11 +3,9 @@ ghost use Rattle.std.specs.Prelude.{◌≡◌, ◌≢◌, ◌≤◌, ◌<◌, �
 ghost use Rattle.std.specs.List.{Contains};
 ghost use Rattle.fx_base.specs.Bounds.{none};
 ghost use Rattle.fx_image.specs.Part.{IsPart, SamePart, IsWritten};
-ghost use Rattle.fx_effect.specs.Shape.{IsLawful};
 ghost use Rattle.fx_effect.specs.Meaning.{rendered};
-ghost use Rattle.fx_effect.specs.Asked.{MayRender};
 ghost use Rattle.fx_base.specs.Rect.{IsFrame};
-ghost use Rattle.fx_life.specs.Plugin.{described, without, gate_of};
+ghost use Rattle.fx_life.specs.Plugin.{described, without, gate_of, MayRenderIn};
 ghost use Rattle.fx_life.specs.Running.{begun, made};
 ghost use Rattle.fx_life.specs.Course.{Phase, Idle, Sequence, DescribeInContext, Create, Begin, Render, End, Destroy};
 ghost use Rattle.fx_life.specs.Course.{Unload, Unloaded, state_of, with_phase, Allows};
@@ -192,9 +190,10 @@ impl<E: Catalogue> Described<E> {
         }
     }
 
-    /// Renders the window that is the part's rectangle, under a hold of the gate that `gate_of` tells, and stamps the ticket: each pixel there is what the
-    /// effect makes of the input pixels that it reads, and no other pixel of the image changes. Where
-    /// memory is wanting the ticket isn't stamped, and the pixels of the window are any
+    /// Renders the window that is the part's rectangle, under a hold of the gate that `gate_of` tells, and
+    /// stamps the ticket: each pixel there is what the effect makes of the input pixels that it reads, and no
+    /// other pixel of the image changes. The values are lawful in the context in which the instance was
+    /// created. Where memory is wanting the ticket isn't stamped, and the pixels of the window are any
     /// (kOfxImageEffectActionRender).
     pub fn render(
         &self,
@@ -214,10 +213,9 @@ impl<E: Catalogue> Described<E> {
         requires part { IsPart out.old }
         requires window { window ≡ out.old.rect }
         requires some_window { window ≢ none }
-        requires lawful { IsLawful (E.meaning self.now.effect).shape values.now }
         requires frame { IsFrame values.now.frame }
-        requires may { let image = out.old.image.now in
-            MayRender (E.meaning self.now.effect).shape values.now inputs.now image.depth image.components }
+        requires may { let image = out.old.image.now in let shape = (E.meaning self.now.effect).shape in
+            MayRenderIn s.now.context shape values.now inputs.now image.depth image.components }
         ensures same_part { SamePart out.old out.new }
         ensures same_hold { hold.new.gate ≡ hold.old.gate }
         ensures ok { let image = out.old.image.now in let meaning = E.meaning self.now.effect in

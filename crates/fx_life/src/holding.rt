@@ -3,7 +3,7 @@ ghost use Rattle.std.specs.Prelude.{◌≡◌, ◌≢◌, ◌<◌, ◌+◌, ◌^
 ghost use Rattle.fx_base.specs.Bounds.{none};
 ghost use Rattle.fx_base.specs.Rect.{IsFrame};
 ghost use Rattle.fx_effect.specs.Meaning.{rendered};
-ghost use Rattle.fx_life.specs.Seats.{IsGateOf, MayPlay, Plays};
+ghost use Rattle.fx_life.specs.Posts.{IsGateOf, MayPlay, Plays};
 ghost use Rattle.fx_life.specs.Filled.{IsFilled};
 
 use crate::Life;

@@ -11,8 +11,8 @@ mod instance;
 mod laws;
 mod life;
 mod loaded;
+mod posts;
 mod running;
-mod seats;
 mod uses;
 
 pub use described::Described;

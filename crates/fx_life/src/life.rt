@@ -7,13 +7,13 @@ ghost use Rattle.fx_base.specs.Bounds.{none};
 ghost use Rattle.fx_base.specs.Rect.{IsFrame};
 ghost use Rattle.fx_image.specs.Part.{IsPart, SamePart, IsWritten};
 ghost use Rattle.fx_effect.specs.Meaning.{rendered};
-ghost use Rattle.fx_life.specs.declared.uses.Seat.{Seat as AnySeat};
+ghost use Rattle.fx_life.specs.declared.uses.Post.{Post as AnyPost};
 ghost use Rattle.fx_life.specs.Running.{Run};
-ghost use Rattle.fx_life.specs.Seats.{Used, IsUsedAt, Plays, IsGateOf, IsLifeOf, Serves, MayPlay, uses_at, ArePlaced, handed, IsStarted};
+ghost use Rattle.fx_life.specs.Posts.{Used, IsUsedAt, Plays, IsGateOf, IsLifeOf, Serves, MayPlay, uses_at, ArePlaced, handed, IsStarted};
 
 use crate::Running;
-use crate::seats::seated;
-use crate::uses::{Seat, Use};
+use crate::posts::posted;
+use crate::uses::{Post, Use};
 use fx_base::Memory;
 use fx_core::Ticket;
 use fx_effect::{Catalogue, Inputs, Values};
@@ -30,7 +30,7 @@ pub struct Life<E: Catalogue> {
     running: Vec<Running<E>>,
     // the place of a plug-in, by its effect's number
     places: Vec<usize>,
-    seats: Vec<Option<Seat>>,
+    posts: Vec<Option<Post>>,
     // the room for the effects, so that the end takes no memory
     effects: Vec<E>,
 }
@@ -38,13 +38,13 @@ pub struct Life<E: Catalogue> {
 impl<E: Catalogue> Model for Life<E> {
     ghost use Rattle.std.specs.Prelude.{◌≡◌, ◌≤◌, [], length};
     ghost use Rattle.std.specs.Vec.{vec_capacity};
-    ghost use Rattle.fx_life.specs.Seats.{Lives, ArePlaced, handed};
+    ghost use Rattle.fx_life.specs.Posts.{Lives, ArePlaced, handed};
 
     ghost Value = { Lives E };
 
     ghost view = { λ l. record {
       runs = l.running.items;
-      seats = l.seats.items;
+      posts = l.posts.items;
       effects = handed [] l.running.items;
     } };
 
@@ -73,7 +73,7 @@ impl<E: Catalogue + Drop> Life<E> {
         ensures only { IfOk result (λ life. All (Serves E.number_of graph.now.nodes.items) life.runs) }
         ensures effects { IfOk result (λ life. life.effects ≡ effects.items) }
     {
-        let seating = seated(alloc, &graph.nodes)?;
+        let posting = posted(alloc, &graph.nodes)?;
         let mut places = vec![in alloc; 0usize; 64]?;
         let mut effects = effects;
         let mut running = Vec::new(alloc);
@@ -82,14 +82,14 @@ impl<E: Catalogue + Drop> Life<E> {
             &mut effects,
             &mut running,
             &mut places,
-            &seating.uses,
+            &posting.uses,
             first,
             last,
         ) {
             Ok(()) => Ok(Life {
                 running,
                 places,
-                seats: seating.seats,
+                posts: posting.posts,
                 effects,
             }),
             Err(memory) => {
@@ -126,9 +126,9 @@ impl<E: Catalogue + Drop> Life<E> {
         ensures stamped { OnOk result (ticket.new ≡ record ticket.old { stamped = true }) }
         ensures unstamped { OnErr result (ticket.new ≡ ticket.old) }
     {
-        let seat = self.seat(node);
-        self.plugin(seat.plugin)
-            .render(alloc, seat.place, values, inputs, hold, ticket, out)
+        let post = self.post(node);
+        self.plugin(post.plugin)
+            .render(alloc, post.place, values, inputs, hold, ticket, out)
     }
 
     /// The gate that renders of the node's instance hold, as `Described::gate_of` tells it.
@@ -137,7 +137,7 @@ impl<E: Catalogue + Drop> Life<E> {
         requires small { node < 2 ^ 31 }
         ensures { IsGateOf E.meaning E.number_of self.now node result }
     {
-        self.plugin(self.seat(node).plugin).gate_of(node)
+        self.plugin(self.post(node).plugin).gate_of(node)
     }
 
     /// Ends each sequence, destroys each instance, and unloads each effect. The effects come back in the
@@ -148,19 +148,19 @@ impl<E: Catalogue + Drop> Life<E> {
         let Life {
             running,
             places: _,
-            seats: _,
+            posts: _,
             effects,
         } = self;
         finish_each(running, effects)
     }
 
     // Where the instance of the node is.
-    fn seat(&self, node: u32) -> Seat
-        requires { (seat : AnySeat) × (slice_get self.now.seats node ≡ Some (Some seat)) }
-        ensures { slice_get self.now.seats node ≡ Some (Some result) }
+    fn post(&self, node: u32) -> Post
+        requires { (post : AnyPost) × (slice_get self.now.posts node ≡ Some (Some post)) }
+        ensures { slice_get self.now.posts node ≡ Some (Some result) }
     {
-        match self.seats[node as usize] {
-            Some(seat) => seat,
+        match self.posts[node as usize] {
+            Some(post) => post,
             None => unreachable!(),
         }
     }

@@ -7,10 +7,8 @@ ghost use Rattle.std.specs.Vec.{vec_capacity};
 ghost use Rattle.fx_base.specs.Bounds.{none};
 ghost use Rattle.fx_base.specs.Rect.{IsFrame};
 ghost use Rattle.fx_image.specs.Part.{IsPart, SamePart, IsWritten};
-ghost use Rattle.fx_effect.specs.Shape.{IsLawful};
 ghost use Rattle.fx_effect.specs.Meaning.{rendered};
-ghost use Rattle.fx_effect.specs.Asked.{MayRender};
-ghost use Rattle.fx_life.specs.Plugin.{Rendering, described, gate_of};
+ghost use Rattle.fx_life.specs.Plugin.{Rendering, MayRenderIn, described, gate_of};
 ghost use Rattle.fx_life.specs.Running.{members, planned, made_for, rendering, AreLive, AreUsed, IsWith};
 
 use crate::{Described, InSequence, Instance, Loaded, Use};
@@ -111,10 +109,10 @@ impl<E: Catalogue + Drop> Running<E> {
             → hold.old.gate ≡ gate_of (E.meaning e).shape.safety (E.number_of e) s.node }
         requires part { IsPart out.old }
         requires some_window { out.old.rect ≢ none }
-        requires lawful { IsLawful (E.meaning self.now.effect).shape values.now }
         requires frame { IsFrame values.now.frame }
-        requires may { let image = out.old.image.now in
-            MayRender (E.meaning self.now.effect).shape values.now inputs.now image.depth image.components }
+        requires may { let image = out.old.image.now in let shape = (E.meaning self.now.effect).shape in
+            (s : Rendering) → slice_get self.now.sequences place ≡ Some s
+            → MayRenderIn s.context shape values.now inputs.now image.depth image.components }
         ensures same_part { SamePart out.old out.new }
         ensures same_hold { hold.new.gate ≡ hold.old.gate }
         ensures ok { let image = out.old.image.now in let meaning = E.meaning self.now.effect in

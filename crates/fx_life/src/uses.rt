@@ -10,7 +10,7 @@ pub struct Use {
 
 // Where the instance of a node is: the number of its plug-in, and the place among its instances.
 #[derive(Clone, Copy, Debug)]
-pub(crate) struct Seat {
+pub(crate) struct Post {
     pub plugin: u32,
     pub place: u32,
 }

@@ -1,6 +1,6 @@
 use Rattle.std.proofs.Common.{◌≡◌, ◌++◌, [], ◌∷◌, rules, arith, sym, refl, ap, ◌∙◌}
 use Rattle.std.specs.Vec.{vec_capacity}
-use Rattle.fx_life.specs.Seats.{handed}
+use Rattle.fx_life.specs.Posts.{handed}
 use Rattle.fx_life.proofs.LifeLemmas.{handed_on}
 use Rattle.fx_life.proofs.RunningLemmas.{longer}
 use Rattle.fx_life.proofs.life.finish_each.Goals as goal

@@ -1,6 +1,6 @@
 use Rattle.std.proofs.Common.{◌≡◌, ◌≤◌, ◌+◌, length}
 use Rattle.std.specs.Vec.{vec_capacity}
-use Rattle.fx_life.specs.Seats.{handed}
+use Rattle.fx_life.specs.Posts.{handed}
 use Rattle.fx_life.proofs.life.finish_each.Given as goal
 
 abbrev pub invariant-loop-run : goal.invariant-loop-run

@@ -3,10 +3,10 @@ use Rattle.std.specs.List.{Contains}
 use Rattle.std.specs.Vec.{vec_capacity}
 use Rattle.std.proofs.Math.ListN.{length-set}
 use Rattle.std.proofs.lemmas.List.Elements.{All-push}
-use Rattle.fx_life.specs.Seats.{uses_at, handed, IsStarted}
+use Rattle.fx_life.specs.Posts.{uses_at, handed, IsStarted}
 use Rattle.fx_life.proofs.RunningLemmas.{longer}
 use Rattle.fx_life.proofs.LifeLemmas.{handed_on, unused_number, placed_more, started_for}
-use Rattle.fx_life.proofs.SeatLemmas.{uses_here}
+use Rattle.fx_life.proofs.PostLemmas.{uses_here}
 use Rattle.fx_life.proofs.life.start_each.Goals as goal
 
 pub start-requires-clause-supported : goal.start-requires-clause-supported

@@ -1,6 +1,6 @@
 use Rattle.std.proofs.Common.{◌≡◌, ◌≤◌, ◌+◌, length, All}
 use Rattle.std.specs.Vec.{vec_capacity}
-use Rattle.fx_life.specs.Seats.{handed, ArePlaced, IsStarted}
+use Rattle.fx_life.specs.Posts.{handed, ArePlaced, IsStarted}
 use Rattle.fx_life.proofs.life.start_each.Given as goal
 
 abbrev pub invariant-loop-effect : goal.invariant-loop-effect

@@ -1,9 +1,9 @@
 use Rattle.std.proofs.Common.{[], map, length, refl, sym, subst}
 use Rattle.std.specs.List.{Contains}
 use Rattle.std.proofs.lemmas.List.Elements.{All-weaker}
-use Rattle.fx_life.specs.Seats.{Lives, AreSeated, Serves, IsStarted, handed}
+use Rattle.fx_life.specs.Posts.{Lives, ArePosted, Serves, IsStarted, handed}
 use Rattle.fx_life.proofs.LifeLemmas.{serves, is_life}
-use Rattle.fx_life.proofs.SeatLemmas.{supported_in, all_supported}
+use Rattle.fx_life.proofs.PostLemmas.{supported_in, all_supported}
 use Rattle.fx_life.proofs.life.Life.start.Goals as goal
 
 pub start_each-requires-clause-supported : goal.start_each-requires-clause-supported
@@ -12,10 +12,10 @@ start_each-requires-clause-supported g c =
     let meaning = g.E.ImageEffect.meaning in
     let graph = c.args.graph.now in
     let nodes = graph.nodes.items in
-    let seats = c.in_ok-seating.seating.seats.items in
-    let are : AreSeated number nodes (length nodes) seats c.deref-2.result.now =
-    rw (c.deref-2.ensures.value, ← c.deref.ensures.value) c.in_ok-seating.ensures.seats in
-    all_supported number meaning nodes (length nodes) seats c.deref-2.result.now g.met.E.Catalogue.one_meaning
+    let posts = c.in_ok-posting.posting.posts.items in
+    let are : ArePosted number nodes (length nodes) posts c.deref-2.result.now =
+    rw (c.deref-2.ensures.value, ← c.deref.ensures.value) c.in_ok-posting.ensures.posts in
+    all_supported number meaning nodes (length nodes) posts c.deref-2.result.now g.met.E.Catalogue.one_meaning
     (supported_in meaning (graph.depth, graph.components) nodes graph.kept) are
 
 pub returns-in-Ok-clause-life : goal.returns-in-Ok-clause-life
@@ -23,11 +23,11 @@ returns-in-Ok-clause-life g c =
     let number = g.E.Catalogue.number_of in
     let nodes = c.args.graph.now.nodes.items in
     let runs = c.start_each.new.running.items in
-    let seats = c.in_ok-seating.seating.seats.items in
+    let posts = c.in_ok-posting.posting.posts.items in
     let uses = c.deref-2.result.now in
-    let are : AreSeated number nodes (length nodes) seats uses =
-    rw (c.deref-2.ensures.value, ← c.deref.ensures.value) c.in_ok-seating.ensures.seats in
-    let life : Lives g.row.E.Denot = record { runs = runs; seats = seats; effects = handed [] runs } in
+    let are : ArePosted number nodes (length nodes) posts uses =
+    rw (c.deref-2.ensures.value, ← c.deref.ensures.value) c.in_ok-posting.ensures.posts in
+    let life : Lives g.row.E.Denot = record { runs = runs; posts = posts; effects = handed [] runs } in
     is_life number nodes c.args.first c.args.last life uses are
     (λ k used at. subst (λ l. Contains (map number l) (number used.effect)) (sym c.in-Ok.ensures.effects)
     (c.requires.among k used at)) refl c.in-Ok.ensures.started
@@ -36,11 +36,11 @@ pub returns-in-Ok-clause-only : goal.returns-in-Ok-clause-only
 returns-in-Ok-clause-only g c =
     let number = g.E.Catalogue.number_of in
     let nodes = c.args.graph.now.nodes.items in
-    let seats = c.in_ok-seating.seating.seats.items in
+    let posts = c.in_ok-posting.posting.posts.items in
     let uses = c.deref-2.result.now in
-    let are : AreSeated number nodes (length nodes) seats uses =
-    rw (c.deref-2.ensures.value, ← c.deref.ensures.value) c.in_ok-seating.ensures.seats in
+    let are : ArePosted number nodes (length nodes) posts uses =
+    rw (c.deref-2.ensures.value, ← c.deref.ensures.value) c.in_ok-posting.ensures.posts in
     All-weaker (IsStarted number uses c.args.first c.args.last) (Serves number nodes)
-    (λ run. serves number nodes (length nodes) c.args.first c.args.last seats uses run are)
+    (λ run. serves number nodes (length nodes) c.args.first c.args.last posts uses run are)
     c.start_each.new.running.items
     c.in-Ok.ensures.started

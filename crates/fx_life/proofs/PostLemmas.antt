@@ -1,4 +1,4 @@
--- The seats of the nodes of a graph, and what plug-ins are to be started for.
+-- The posts of the nodes of a graph, and what plug-ins are to be started for.
 use Rattle.std.proofs.Common.{◌≡◌, ◌≢◌, ◌<◌, ◌≤◌, ◌++◌, ◌+◌, ℕ, ◌==◌, zero, suc, Bool, true, false, cond, Option, Some, None, List, [], ◌∷◌, slice_index_or, map, take, set, length, refl, sym, ap, subst, ◌∙◌, arith, All, AllPairs, inl, inr}
 use Rattle.std.specs.Prelude.{slice_get}
 use Rattle.std.specs.List.{Contains}
@@ -17,8 +17,8 @@ use Rattle.fx_graph.specs.Nodes.{Form}
 use Rattle.fx_graph.specs.Kept.{IsDoing, AreNodes}
 use Rattle.fx_graph.specs.declared.node.Node.{Node}
 use Rattle.fx_life.specs.declared.uses.Use.{Use}
-use Rattle.fx_life.specs.declared.uses.Seat.{Seat}
-use Rattle.fx_life.specs.Seats.{Used, used_by, use_by, seat_at, IsUsedAt, uses_at, added, IsSeated, AreSeated}
+use Rattle.fx_life.specs.declared.uses.Post.{Post}
+use Rattle.fx_life.specs.Posts.{Used, used_by, use_by, post_at, IsUsedAt, uses_at, added, IsPosted, ArePosted}
 use Rattle.fx_life.proofs.Places.{get_kept, get_last, get_set, get_set_other}
 
 -- what an effect is used for is the list at its number
@@ -90,66 +90,66 @@ module _ {E : Type 0} (number : E → ℕ) (k : ℕ) where
           ap items (get_set_other uses i n after (λ same. eqb-false i n other (sym same)))
           ∙ sym (append-nil (uses_at uses n))
 
-  -- the seat behind the effect's earlier uses
-  pub seat_made : (w v : Used E) (used : Option (Used E)) (i place : ℕ) (uses : List (Vec Use)) (mine : Vec Use)
+  -- the post behind the effect's earlier uses
+  pub post_made : (w v : Used E) (used : Option (Used E)) (i place : ℕ) (uses : List (Vec Use)) (mine : Vec Use)
       → used ≡ Some w → used ≡ Some v → i ≡ number w.effect → uses_at uses i ≡ mine.items → place ≡ length mine.items
-      → seat_at i place ≡ seat_at (number v.effect) (length (uses_at uses (number v.effect)))
-  seat_made w v used i place uses mine is also at here long =
-      ap (seat_at i) (long ∙ ap length (sym here))
-      ∙ ap (λ n. seat_at n (length (uses_at uses n)))
+      → post_at i place ≡ post_at (number v.effect) (length (uses_at uses (number v.effect)))
+  post_made w v used i place uses mine is also at here long =
+      ap (post_at i) (long ∙ ap length (sym here))
+      ∙ ap (λ n. post_at n (length (uses_at uses n)))
       (at ∙ ap (λ (u : Used E). number u.effect) (same_Some w v (sym is ∙ also)))
 
 -- what a step does
-pub record SitsNext {E : Type 0} (number : E → ℕ) (k : ℕ) (uses after : List (Vec Use)) (node : Node E)
-    (seat : Option Seat) : Type 0 where
+pub record PostedNext {E : Type 0} (number : E → ℕ) (k : ℕ) (uses after : List (Vec Use)) (node : Node E)
+    (post : Option Post) : Type 0 where
   pub adds : (n : ℕ) → uses_at after n ≡ uses_at uses n ++ added number k n (used_by (does_of node.work))
-  pub sits : (used : Used E) → used_by (does_of node.work) ≡ Some used
-      → seat ≡ seat_at (number used.effect) (length (uses_at uses (number used.effect)))
+  pub stands : (used : Used E) → used_by (does_of node.work) ≡ Some used
+      → post ≡ post_at (number used.effect) (length (uses_at uses (number used.effect)))
 
-module _ {E : Type 0} (number : E → ℕ) (nodes : List (Node E)) (k : ℕ) (seats : List (Option Seat))
-    (uses after : List (Vec Use)) (node : Node E) (seat : Option Seat) where
+module _ {E : Type 0} (number : E → ℕ) (nodes : List (Node E)) (k : ℕ) (posts : List (Option Post))
+    (uses after : List (Vec Use)) (node : Node E) (post : Option Post) where
   own : (used : Used E) → slice_get nodes k ≡ Some node → IsUsedAt nodes k used
       → used_by (does_of node.work) ≡ Some used
   own used there (other, at, is) =
       subst (λ (m : Node E). used_by (does_of m.work) ≡ Some used) (same_Some other node (sym at ∙ there)) is
 
-  sits_now : (used : Used E) → length seats ≡ k → SitsNext number k uses after node seat
+  posted_now : (used : Used E) → length posts ≡ k → PostedNext number k uses after node post
       → used_by (does_of node.work) ≡ Some used
-      → IsSeated number (seats ++ seat ∷ []) after k used
-  sits_now used long next is =
+      → IsPosted number (posts ++ post ∷ []) after k used
+  posted_now used long next is =
       let n = number used.effect in
       let before = uses_at uses n in
       let grown : uses_at after n ≡ before ++ use_by k used ∷ [] =
       next.adds n ∙ ap (λ o. before ++ added number k n o) is ∙ ap (λ l. before ++ l) (own_added number k used) in (
         length before,
-        get_last seats seat k long ∙ ap (λ s. Some s) (next.sits used is),
+        get_last posts post k long ∙ ap (λ s. Some s) (next.stands used is),
         ap (λ l. slice_get l (length before)) grown
             ∙ get_last before (use_by k used) (length before) refl,
       )
 
-  sits_still : (j : ℕ) (used : Used E) → SitsNext number k uses after node seat → IsSeated number seats uses j used
-      → IsSeated number (seats ++ seat ∷ []) after j used
-  sits_still j used next (place, sat, there) =
+  posted_still : (j : ℕ) (used : Used E) → PostedNext number k uses after node post → IsPosted number posts uses j used
+      → IsPosted number (posts ++ post ∷ []) after j used
+  posted_still j used next (place, at_post, there) =
       let n = number used.effect in
       let more = added number k n (used_by (does_of node.work)) in (
         place,
-        get_kept seats (seat ∷ []) j (seat_at n place) sat,
+        get_kept posts (post ∷ []) j (post_at n place) at_post,
         ap (λ l. slice_get l place) (next.adds n)
             ∙ get_kept (uses_at uses n) more place (use_by j used) there,
       )
 
-  -- one more node has its seat
-  pub seated_more : slice_get nodes k ≡ Some node → AreSeated number nodes k seats uses
-      → SitsNext number k uses after node seat → AreSeated number nodes (k + 1) (seats ++ seat ∷ []) after
-  seated_more there are next =
+  -- one more node has its post
+  pub posted_more : slice_get nodes k ≡ Some node → ArePosted number nodes k posts uses
+      → PostedNext number k uses after node post → ArePosted number nodes (k + 1) (posts ++ post ∷ []) after
+  posted_more there are next =
       record {
-        length_is = length-append seats (seat ∷ []) ∙ ap (λ n. n + 1) are.length_is;
-        seated = λ j used low at. elim (cases_lt j k) [
-          | inl before ↦ sits_still j used next (are.seated j used before at)
+        length_is = length-append posts (post ∷ []) ∙ ap (λ n. n + 1) are.length_is;
+        posted = λ j used low at. elim (cases_lt j k) [
+          | inl before ↦ posted_still j used next (are.posted j used before at)
           | inr behind ↦
               let is : j ≡ k = omega (arith, low, behind) in
-              subst (λ i. IsSeated number (seats ++ seat ∷ []) after i used) (sym is)
-              (sits_now used are.length_is next (own used there (subst (λ i. IsUsedAt nodes i used) is at)))
+              subst (λ i. IsPosted number (posts ++ post ∷ []) after i used) (sym is)
+              (posted_now used are.length_is next (own used there (subst (λ i. IsUsedAt nodes i used) is at)))
         ];
         used = λ n u inside.
             elim (Contains-append_cases (uses_at uses n) (added number k n (used_by (does_of node.work))) u
@@ -179,13 +179,13 @@ module _ {E : Type 0} (number : E → ℕ) (nodes : List (Node E)) (k : ℕ) (se
             omega (arith, is, long, one, before);
       }
 
--- no node has its seat yet
-pub none_seated : {E : Type 0} (number : E → ℕ) (nodes : List (Node E)) (uses : List (Vec Use))
-    → ((n : ℕ) → uses_at uses n ≡ []) → AreSeated number nodes 0 [] uses
-none_seated number nodes uses none =
+-- no node has its post yet
+pub none_posted : {E : Type 0} (number : E → ℕ) (nodes : List (Node E)) (uses : List (Vec Use))
+    → ((n : ℕ) → uses_at uses n ≡ []) → ArePosted number nodes 0 [] uses
+none_posted number nodes uses none =
     record {
       length_is = refl;
-      seated = λ j used low at. absurd (omega (arith, low));
+      posted = λ j used low at. absurd (omega (arith, low));
       used = λ n u inside. let low = (subst (λ l. Contains l u) (none n) inside).1 in absurd (omega (arith, low));
       apart =
           λ n. subst (AllPairs (λ (a b : Use). a.node ≢ b.node)) (sym (none n))
@@ -215,12 +215,12 @@ supported_in meaning project nodes kept k used (node, there, is) =
 
 -- and so is each use of what an effect of its number is started for
 pub all_supported : {E : Type 0} (number : E → ℕ) (meaning : E → Meaning) (nodes : List (Node E)) (count : ℕ)
-    (seats : List (Option Seat)) (uses : List (Vec Use))
+    (posts : List (Option Post)) (uses : List (Vec Use))
     → ((a b : E) → number a ≡ number b → meaning a ≡ meaning b)
     → ((k : ℕ) (used : Used E) → IsUsedAt nodes k used → Contains (meaning used.effect).shape.contexts used.context)
-    → AreSeated number nodes count seats uses → (e : E)
+    → ArePosted number nodes count posts uses → (e : E)
     → All (λ u. Contains (meaning e).shape.contexts u.context) (uses_at uses (number e))
-all_supported number meaning nodes count seats uses one_meaning supported are e i d inside =
+all_supported number meaning nodes count posts uses one_meaning supported are e i d inside =
     let u = slice_index_or (uses_at uses (number e)) i d in
     let of = are.used (number e) u (Contains-get_or (uses_at uses (number e)) i d inside) in
     subst (λ (m : Meaning). Contains m.shape.contexts u.context) (one_meaning of.0.effect e of.3)

@@ -1,6 +1,6 @@
 use Rattle.std.proofs.Common.{◌≡◌, ℕ, [], length}
-use Rattle.fx_life.specs.Seats.{uses_at}
-use Rattle.fx_life.proofs.seats.no_uses.Given as goal
+use Rattle.fx_life.specs.Posts.{uses_at}
+use Rattle.fx_life.proofs.posts.no_uses.Given as goal
 
 abbrev pub invariant-loop : goal.invariant-loop
 invariant-loop l =

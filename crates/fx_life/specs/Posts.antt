@@ -8,19 +8,18 @@ use Rattle.fx_pixel.specs.declared.Depth.{Depth}
 use Rattle.fx_effect.specs.declared.action.Context.{Context}
 use Rattle.fx_effect.specs.declared.values.Values.{Values}
 use Rattle.fx_effect.specs.Given.{Given}
-use Rattle.fx_effect.specs.Asked.{MayRender}
 use Rattle.fx_effect.specs.Meaning.{Meaning}
 use Rattle.fx_graph.specs.Shown.{Does, GraphShown, Shown, Source, Effect, does_of}
 use Rattle.fx_graph.specs.declared.node.Node.{Node}
 use Rattle.fx_life.specs.declared.uses.Use.{Use}
-use Rattle.fx_life.specs.declared.uses.Seat.{Seat}
-use Rattle.fx_life.specs.Plugin.{Rendering, gate_of}
+use Rattle.fx_life.specs.declared.uses.Post.{Post}
+use Rattle.fx_life.specs.Plugin.{Rendering, MayRenderIn, gate_of}
 use Rattle.fx_life.specs.Running.{Run, rendering, AreUsed}
 
 -- the plug-ins, where the instance of each node is, and the effects in the order in which they were handed in
 pub record Lives (E : Type 0) : Type 0 where
   pub runs : List (Run E)
-  pub seats : List (Option Seat)
+  pub posts : List (Option Post)
   pub effects : List E
 
 -- an effect and the context in which it is used
@@ -37,8 +36,8 @@ abbrev pub use_by : {E : Type 0} → ℕ → Used E → Use
 use_by k used = record { node = k; context = used.context }
 
 -- a place among the instances of the plug-in of a number
-abbrev pub seat_at : ℕ → ℕ → Option Seat
-seat_at plugin place = Some (record { plugin = plugin; place = place })
+abbrev pub post_at : ℕ → ℕ → Option Post
+post_at plugin place = Some (record { plugin = plugin; place = place })
 
 -- the node at a place makes this use of an effect
 abbrev pub IsUsedAt : {E : Type 0} → List (Node E) → ℕ → Used E → Type 0
@@ -53,7 +52,7 @@ pub record Plays {E : Type 0} (number : E → ℕ) (life : Lives E) (node : ℕ)
   pub there : Contains life.runs run
   pub same : number run.effect ≡ number effect
   pub place : ℕ
-  pub seated : slice_get life.seats node ≡ Some (seat_at (number effect) place)
+  pub posted : slice_get life.posts node ≡ Some (post_at (number effect) place)
   pub sequence : Rendering
   pub instance : slice_get run.sequences place ≡ Some sequence
   pub own : sequence.node ≡ node
@@ -66,11 +65,11 @@ IsLifeOf {E} number nodes first last life =
     → (plays : Plays number life k used.effect)
     × (plays.sequence ≡ rendering (number used.effect) first last (use_by k used))
 
--- the same over what contracts see of a graph
+-- the same over what contracts see of a graph, whatever the frames
 abbrev pub HasLife : {E : Type 0} → (E → ℕ) → GraphShown E → Lives E → Type 0
 HasLife {E} number g life =
     (k : ℕ) (node : Shown E) (used : Used E) → slice_get g.nodes k ≡ Some node → used_by node.does ≡ Some used
-    → Plays number life k used.effect
+    → (plays : Plays number life k used.effect) × (plays.sequence.context ≡ used.context)
 
 -- the gate of the node's instance
 abbrev pub IsGateOf : {E : Type 0} → (E → Meaning) → (E → ℕ) → Lives E → ℕ → Option ℕ → Type 0
@@ -86,12 +85,12 @@ pub record Serves {E : Type 0} (number : E → ℕ) (nodes : List (Node E)) (run
   pub contexts : All (λ c. Contains (map (λ s. s.context) run.sequences) c) run.contexts
   pub once : AllPairs (λ a b. a ≢ b) run.contexts
 
--- what a node that uses an effect may be asked to render
+-- what a node that uses an effect may be asked to render, in the context of its instance
 pub record MayPlay {E : Type 0} (number : E → ℕ) (meaning : E → Meaning) (life : Lives E) (node : ℕ) (v : Values)
     (given : Given) (depth : Depth) (c : Components) : Type 0 where
   pub effect : E
   pub plays : Plays number life node effect
-  pub may : MayRender (meaning effect).shape v given depth c
+  pub may : MayRenderIn plays.sequence.context (meaning effect).shape v given depth c
 
 -- ---- on the way there
 
@@ -106,17 +105,17 @@ use_of number k n used = if number used.effect == n then use_by k used ∷ [] el
 abbrev pub added : {E : Type 0} → (E → ℕ) → ℕ → ℕ → Option (Used E) → List Use
 added number k n used = option_map_or (use_of number k n) used []
 
--- a node's seat is the place of its use among those of the effect
-abbrev pub IsSeated : {E : Type 0} → (E → ℕ) → List (Option Seat) → List (Vec Use) → ℕ → Used E → Type 0
-IsSeated number seats uses k used =
-    (place : ℕ) × (slice_get seats k ≡ Some (seat_at (number used.effect) place))
+-- a node's post is the place of its use among those of the effect
+abbrev pub IsPosted : {E : Type 0} → (E → ℕ) → List (Option Post) → List (Vec Use) → ℕ → Used E → Type 0
+IsPosted number posts uses k used =
+    (place : ℕ) × (slice_get posts k ≡ Some (post_at (number used.effect) place))
     × (slice_get (uses_at uses (number used.effect)) place ≡ Some (use_by k used))
 
--- the first nodes have their seats
-pub record AreSeated {E : Type 0} (number : E → ℕ) (nodes : List (Node E)) (count : ℕ) (seats : List (Option Seat))
+-- the first nodes have their posts
+pub record ArePosted {E : Type 0} (number : E → ℕ) (nodes : List (Node E)) (count : ℕ) (posts : List (Option Post))
     (uses : List (Vec Use)) : Type 0 where
-  pub length_is : length seats ≡ count
-  pub seated : (k : ℕ) (used : Used E) → k < count → IsUsedAt nodes k used → IsSeated number seats uses k used
+  pub length_is : length posts ≡ count
+  pub posted : (k : ℕ) (used : Used E) → k < count → IsUsedAt nodes k used → IsPosted number posts uses k used
   pub used : (n : ℕ) (u : Use) → Contains (uses_at uses n) u
       → (used : Used E) × (u.node < count) × IsUsedAt nodes u.node used
       × (number used.effect ≡ n) × (used.context ≡ u.context)
