@@ -1,6 +1,5 @@
 pub mod CutLemmas
 pub mod EffectLemmas
-pub mod SourceLemmas
 pub mod PieceLemmas
 pub mod WholeLemmas
 pub mod OrderLemmas

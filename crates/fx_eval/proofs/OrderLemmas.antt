@@ -16,9 +16,9 @@ use Rattle.fx_graph.specs.Shown.{Does, GraphShown, Shown}
 use Rattle.fx_graph.specs.Shown as does
 use Rattle.fx_scene.specs.Scenes.{Images, graph_nodes, node_in, node_of, nodes_of}
 use Rattle.fx_base.specs.declared.limits.TheConstants.{MOST_NODES}
-use Rattle.fx_scene.specs.declared.reaching.Moment.{Moment}
+use Rattle.fx_scene.specs.declared.reaching.NodeFrame.{NodeFrame}
 use Rattle.fx_scene.specs.Nodes.{AreNodes, Effect, IsNode, Node, Nodes, Source}
-use Rattle.fx_scene.specs.Reach.{IsPlace, IsReach, IsReadBy, has, moment, moment_cmp}
+use Rattle.fx_scene.specs.Reach.{IsPlace, IsReach, IsReadBy, has, node_frame, node_frame_cmp}
 use Rattle.fx_scene.proofs.Members.{In, in_left, in_right}
 use Rattle.fx_scene.proofs.NearLemmas.{read_place}
 use Rattle.fx_scene.proofs.RankLemmas.{has_key, is_lower, key_of}
@@ -47,62 +47,62 @@ one_more : {X : Type 0} (xs ys : List X) (x : X) → (xs ++ x ∷ []) ++ ys ≡ 
 one_more [] ys x = refl
 one_more (z ∷ xs) ys x = ap (λ (zs : List _). z ∷ zs) (one_more xs ys x)
 
-below_head : (m : Moment) (ks : List Moment) (k : Moment) → AllByRecursion (λ (j : Moment). moment_cmp m j ≡ Less) ks → In ks k
-    → moment_cmp m k ≡ Less
+below_head : (m : NodeFrame) (ks : List NodeFrame) (k : NodeFrame) → AllByRecursion (λ (j : NodeFrame). node_frame_cmp m j ≡ Less) ks → In ks k
+    → node_frame_cmp m k ≡ Less
 below_head m [] k a i = absurd i
 below_head m (j ∷ ks) k a i = elim i [
-  | inl e ↦ subst (λ (x : Moment). moment_cmp m x ≡ Less) e a.0
+  | inl e ↦ subst (λ (x : NodeFrame). node_frame_cmp m x ≡ Less) e a.0
   | inr l ↦ below_head m ks k a.1 l
 ]
 
--- ---- the moments in their order
+-- ---- the nodes at frames in their order
 
 -- those of a list that are done, and those that are left
-pub record IsSplit (keys front rest : List Moment) : Type 0 where
+pub record IsSplit (keys front rest : List NodeFrame) : Type 0 where
   pub split : front ++ rest ≡ keys
-  pub sorted : IsStrictlySortedBy moment_cmp rest
-  pub below : (m r : Moment) → In front m → In rest r → moment_cmp m r ≡ Less
+  pub sorted : IsStrictlySortedBy node_frame_cmp rest
+  pub below : (m r : NodeFrame) → In front m → In rest r → node_frame_cmp m r ≡ Less
 
-pub split_start : (keys : List Moment) → IsStrictlySortedBy moment_cmp keys → IsSplit keys [] keys
+pub split_start : (keys : List NodeFrame) → IsStrictlySortedBy node_frame_cmp keys → IsSplit keys [] keys
 split_start keys sorted = record { split = refl; sorted = sorted; below = λ m r i j. absurd i }
 
-pub split_step : (keys front : List Moment) (m : Moment) (rest : List Moment) → IsSplit keys front (m ∷ rest)
+pub split_step : (keys front : List NodeFrame) (m : NodeFrame) (rest : List NodeFrame) → IsSplit keys front (m ∷ rest)
     → IsSplit keys (front ++ m ∷ []) rest
 split_step keys front m rest s =
     record {
       split = one_more front rest m ∙ s.split;
-      sorted = sorted_tail moment_cmp m rest s.sorted;
+      sorted = sorted_tail node_frame_cmp m rest s.sorted;
       below = λ k r i j. elim (in_split front (m ∷ []) k i) [
         | inl a ↦ s.below k r a (inr j)
         | inr a ↦ elim a [
-          | inl e ↦ subst (λ (x : Moment). moment_cmp x r ≡ Less) e (below_head m rest r (sorted_head moment_cmp m rest s.sorted) j)
+          | inl e ↦ subst (λ (x : NodeFrame). node_frame_cmp x r ≡ Less) e (below_head m rest r (sorted_head node_frame_cmp m rest s.sorted) j)
           | inr c ↦ absurd c
         ]
       ];
     }
 
 -- the first that is left is one of them
-pub split_here : (keys front : List Moment) (m : Moment) (rest : List Moment) → IsSplit keys front (m ∷ rest) → In keys m
-split_here keys front m rest s = subst (λ (ks : List Moment). In ks m) s.split (in_front front rest m)
+pub split_here : (keys front : List NodeFrame) (m : NodeFrame) (rest : List NodeFrame) → IsSplit keys front (m ∷ rest) → In keys m
+split_here keys front m rest s = subst (λ (ks : List NodeFrame). In ks m) s.split (in_front front rest m)
 
 -- those that are done are among them
-pub split_done : (keys front rest : List Moment) (k : Moment) → IsSplit keys front rest → In front k → In keys k
-split_done keys front rest k s i = subst (λ (ks : List Moment). In ks k) s.split (in_left front rest k i)
+pub split_done : (keys front rest : List NodeFrame) (k : NodeFrame) → IsSplit keys front rest → In front k → In keys k
+split_done keys front rest k s i = subst (λ (ks : List NodeFrame). In ks k) s.split (in_left front rest k i)
 
 -- in the end all are done
-pub split_end : (keys front : List Moment) (k : Moment) → IsSplit keys front [] → In keys k → In front k
+pub split_end : (keys front : List NodeFrame) (k : NodeFrame) → IsSplit keys front [] → In keys k → In front k
 split_end keys front k s i =
-    elim (in_split front [] k (subst (λ (ks : List Moment). In ks k) (sym s.split) i)) [ inl a ↦ a | inr a ↦ absurd a ]
+    elim (in_split front [] k (subst (λ (ks : List NodeFrame). In ks k) (sym s.split) i)) [ inl a ↦ a | inr a ↦ absurd a ]
 
 -- one of an earlier node is done
-pub split_lower : (keys front : List Moment) (m : Moment) (rest : List Moment) (k : Moment) → IsSplit keys front (m ∷ rest)
+pub split_lower : (keys front : List NodeFrame) (m : NodeFrame) (rest : List NodeFrame) (k : NodeFrame) → IsSplit keys front (m ∷ rest)
     → In keys k → k.node < m.node → In front k
 split_lower keys front m rest k s i low =
-    elim (in_split front (m ∷ rest) k (subst (λ (ks : List Moment). In ks k) (sym s.split) i)) [
+    elim (in_split front (m ∷ rest) k (subst (λ (ks : List NodeFrame). In ks k) (sym s.split) i)) [
       | inl a ↦ a
       | inr a ↦ elim a [
-        | inl e ↦ let same = ap (λ (p : Moment). p.node) e in absurd (omega (arith, low, same))
-        | inr j ↦ elim (is_lower m k (below_head m rest k (sorted_head moment_cmp m rest s.sorted) j)) [
+        | inl e ↦ let same = ap (λ (p : NodeFrame). p.node) e in absurd (omega (arith, low, same))
+        | inr j ↦ elim (is_lower m k (below_head m rest k (sorted_head node_frame_cmp m rest s.sorted) j)) [
           | inl l ↦ absurd (omega (arith, low, l))
           | inr e ↦ let same = e.0 in absurd (omega (arith, low, same))
         ]
@@ -111,72 +111,72 @@ split_lower keys front m rest k s i low =
 
 -- ---- those that are made
 
--- The moments of `rest` are left, and of those before them each is kept until its last reader is made.
-pub record IsFront (moments : BTreeSet Moment) (last : BTreeMap Moment Moment) (rest : List Moment)
-    (made : BTreeMap Moment Whole) : Type 0 where
-  pub front : List Moment
-  pub parts : IsSplit moments.keys front rest
+-- The nodes at frames of `rest` are left, and of those before them each is kept until its last reader is made.
+pub record IsFront (node_frames : BTreeSet NodeFrame) (last : BTreeMap NodeFrame NodeFrame) (rest : List NodeFrame)
+    (made : BTreeMap NodeFrame Whole) : Type 0 where
+  pub front : List NodeFrame
+  pub parts : IsSplit node_frames.keys front rest
   pub kept :
-      (k : Moment) → In front k → ((r : Moment) → In front r → get moment_cmp last k ≡ Some r → ⊥)
-      → IsSome (get moment_cmp made k)
+      (k : NodeFrame) → In front k → ((r : NodeFrame) → In front r → get node_frame_cmp last k ≡ Some r → ⊥)
+      → IsSome (get node_frame_cmp made k)
 
-pub front_start : (moments : BTreeSet Moment) (last : BTreeMap Moment Moment) (made : BTreeMap Moment Whole)
-    → IsStrictlySortedBy moment_cmp moments.keys → IsFront moments last moments.keys made
-front_start moments last made sorted =
-    record { front = []; parts = split_start moments.keys sorted; kept = λ k i none. absurd i }
+pub front_start : (node_frames : BTreeSet NodeFrame) (last : BTreeMap NodeFrame NodeFrame) (made : BTreeMap NodeFrame Whole)
+    → IsStrictlySortedBy node_frame_cmp node_frames.keys → IsFront node_frames last node_frames.keys made
+front_start node_frames last made sorted =
+    record { front = []; parts = split_start node_frames.keys sorted; kept = λ k i none. absurd i }
 
--- the first that is left is one of the moments
-pub front_has : (moments : BTreeSet Moment) (last : BTreeMap Moment Moment) (m : Moment) (rest : List Moment)
-    (made : BTreeMap Moment Whole) → IsFront moments last (m ∷ rest) made → has moments m.node m.frame ≡ true
-front_has moments last m rest made f = has_key moments m (split_here moments.keys f.front m rest f.parts)
+-- the first that is left is one of the nodes at frames
+pub front_has : (node_frames : BTreeSet NodeFrame) (last : BTreeMap NodeFrame NodeFrame) (m : NodeFrame) (rest : List NodeFrame)
+    (made : BTreeMap NodeFrame Whole) → IsFront node_frames last (m ∷ rest) made → has node_frames m.node m.frame ≡ true
+front_has node_frames last m rest made f = has_key node_frames m (split_here node_frames.keys f.front m rest f.parts)
 
 -- it is made
-pub front_step : (moments : BTreeSet Moment) (last : BTreeMap Moment Moment) (m : Moment) (rest : List Moment)
-    (old new : BTreeMap Moment Whole) → IsFront moments last (m ∷ rest) old → Makes last m old new
-    → IsFront moments last rest new
-front_step moments last m rest old new f makes =
+pub front_step : (node_frames : BTreeSet NodeFrame) (last : BTreeMap NodeFrame NodeFrame) (m : NodeFrame) (rest : List NodeFrame)
+    (old new : BTreeMap NodeFrame Whole) → IsFront node_frames last (m ∷ rest) old → Makes last m old new
+    → IsFront node_frames last rest new
+front_step node_frames last m rest old new f makes =
     record {
       front = f.front ++ m ∷ [];
-      parts = split_step moments.keys f.front m rest f.parts;
+      parts = split_step node_frames.keys f.front m rest f.parts;
       kept = λ k i none.
-          let apart : get moment_cmp last k ≡ Some m → ⊥ = λ e. none m (in_right f.front (m ∷ []) m (inl refl)) e in
+          let apart : get node_frame_cmp last k ≡ Some m → ⊥ = λ e. none m (in_right f.front (m ∷ []) m (inl refl)) e in
           elim (in_split f.front (m ∷ []) k i) [
             | inl a ↦ makes.keeps k apart (f.kept k a (λ r j e. none r (in_left f.front (m ∷ []) r j) e))
             | inr a ↦ elim a [
-              | inl e ↦ subst (λ (x : Moment). IsSome (get moment_cmp new x)) e
-                  (makes.here (subst (λ (x : Moment). get moment_cmp last x ≡ Some m → ⊥) (sym e) apart))
+              | inl e ↦ subst (λ (x : NodeFrame). IsSome (get node_frame_cmp new x)) e
+                  (makes.here (subst (λ (x : NodeFrame). get node_frame_cmp last x ≡ Some m → ⊥) (sym e) apart))
               | inr c ↦ absurd c
             ]
           ];
     }
 
 -- all that it reads is kept
-pub front_ready : (nodes : Nodes) (count : ℕ) (moments : BTreeSet Moment) (last : BTreeMap Moment Moment) (m : Moment)
-    (rest : List Moment) (made : BTreeMap Moment Whole) → AreNodes nodes → count ≤ MOST_NODES → IsOrder nodes count moments
-    → AreLast nodes moments last → IsFront moments last (m ∷ rest) made → IsReady (nodes m.node) m.frame made
-front_ready nodes count moments last m rest made are few order lasts f k g r =
-    let here = front_has moments last m rest made f in
+pub front_ready : (nodes : Nodes) (count : ℕ) (node_frames : BTreeSet NodeFrame) (last : BTreeMap NodeFrame NodeFrame) (m : NodeFrame)
+    (rest : List NodeFrame) (made : BTreeMap NodeFrame Whole) → AreNodes nodes → count ≤ MOST_NODES → IsOrder nodes count node_frames
+    → AreLast nodes node_frames last → IsFront node_frames last (m ∷ rest) made → IsReady (nodes m.node) m.frame made
+front_ready nodes count node_frames last m rest made are few order lasts f k g r =
+    let here = front_has node_frames last m rest made f in
     let lower = (read_place nodes count m.node m.frame k g are few (order.places m.node m.frame here) r).0 in
-    let there = key_of moments k g (order.reads m.node m.frame here k g r) in
-    let done = split_lower moments.keys f.front m rest (moment k g) f.parts there lower in
+    let there = key_of node_frames k g (order.reads m.node m.frame here k g r) in
+    let done = split_lower node_frames.keys f.front m rest (node_frame k g) f.parts there lower in
     let by = lasts.all m.node m.frame here k g r in
-    f.kept (moment k g) done (λ q i e.
+    f.kept (node_frame k g) done (λ q i e.
     let same : by.by ≡ q = same_Some by.by q (sym by.there ∙ e) in
-    by.later (subst (λ (x : Moment). moment_cmp x m ≡ Less) (sym same) (f.parts.below q m i (inl refl))))
+    by.later (subst (λ (x : NodeFrame). node_frame_cmp x m ≡ Less) (sym same) (f.parts.below q m i (inl refl))))
 
 -- what none of them reads is kept in the end
-pub front_end : (nodes : Nodes) (moments : BTreeSet Moment) (last : BTreeMap Moment Moment) (made : BTreeMap Moment Whole)
-    → AreLast nodes moments last → IsFront moments last [] made → KeepsUnread nodes moments made
-front_end nodes moments last made lasts f n t there unread =
-    f.kept (moment n t) (split_end moments.keys f.front (moment n t) f.parts (key_of moments n t there)) (λ r i e.
-    let is = lasts.only (moment n t) r e in unread r.node r.frame is.0 is.1)
+pub front_end : (nodes : Nodes) (node_frames : BTreeSet NodeFrame) (last : BTreeMap NodeFrame NodeFrame) (made : BTreeMap NodeFrame Whole)
+    → AreLast nodes node_frames last → IsFront node_frames last [] made → KeepsUnread nodes node_frames made
+front_end nodes node_frames last made lasts f n t there unread =
+    f.kept (node_frame n t) (split_end node_frames.keys f.front (node_frame n t) f.parts (key_of node_frames n t there)) (λ r i e.
+    let is = lasts.only (node_frame n t) r e in unread r.node r.frame is.0 is.1)
 
 -- a least set is such an order
-pub reach_order : (a b : Nodes) (output count : ℕ) (first last : ℤ) (moments : BTreeSet Moment)
+pub reach_order : (a b : Nodes) (output count : ℕ) (first last : ℤ) (node_frames : BTreeSet NodeFrame)
     → ((n : ℕ) (t : ℤ) (m : ℕ) (f : ℤ) → IsReadBy (b n) t m f → IsReadBy (a n) t m f)
-    → IsReach a output first last (has moments) → ((n : ℕ) (t : ℤ) → has moments n t ≡ true → IsPlace count n t)
-    → IsOrder b count moments
-reach_order a b output count first last moments same reach places =
+    → IsReach a output first last (has node_frames) → ((n : ℕ) (t : ℤ) → has node_frames n t ≡ true → IsPlace count n t)
+    → IsOrder b count node_frames
+reach_order a b output count first last node_frames same reach places =
     record {
       places = places;
       reads = λ n t h m f r. reach.all m f (λ s closed. closed.reads n t (reach.only n t h s closed) m f (same n t m f r));
@@ -188,10 +188,10 @@ read_lower k (Source s) t m f i r = absurd r
 read_lower k (Effect o) t m f i r = i.earlier r.clip m r.node
 
 -- none of it reads the output
-pub unread_output : (a b : Nodes) (output : ℕ) (first last : ℤ) (moments : BTreeSet Moment) → AreNodes b
-    → ((n : ℕ) (t : ℤ) (m : ℕ) (f : ℤ) → IsReadBy (a n) t m f → IsReadBy (b n) t m f) → IsReach a output first last (has moments) → (n : ℕ) (t : ℤ) → has moments n t ≡ true → (f : ℤ)
+pub unread_output : (a b : Nodes) (output : ℕ) (first last : ℤ) (node_frames : BTreeSet NodeFrame) → AreNodes b
+    → ((n : ℕ) (t : ℤ) (m : ℕ) (f : ℤ) → IsReadBy (a n) t m f → IsReadBy (b n) t m f) → IsReach a output first last (has node_frames) → (n : ℕ) (t : ℤ) → has node_frames n t ≡ true → (f : ℤ)
     → IsReadBy (b n) t output f → ⊥
-unread_output a b output first last moments are same reach n t h f r =
+unread_output a b output first last node_frames are same reach n t h f r =
     let low = le_from (pos n) (pos output) (reach.only n t h (λ k u. le_z (pos k) (pos output)) (record {
       start = λ u p q. le_to (pos output) (pos output) (omega (arith, ints));
       reads = λ k u e m g s.

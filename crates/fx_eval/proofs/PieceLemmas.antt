@@ -30,11 +30,12 @@ use Rattle.fx_scene.specs.Frames.{clip_frames, has_frame}
 use Rattle.fx_scene.proofs.Members.{In, all_in, all_from, map_same}
 use Rattle.fx_scene.proofs.Equations.{area_is, value_is}
 use Rattle.fx_scene.proofs.Outside.{Covered, dot, in_dot, in_frames, not_within, outside_zero}
+use Rattle.fx_scene.specs.Windows.{IsWindowOf}
+use Rattle.fx_scene.proofs.NearLemmas.{listed}
 use Rattle.fx_eval.specs.declared.whole.Whole.{Whole}
 use Rattle.fx_eval.specs.Cuts.{has_place}
 use Rattle.fx_eval.specs.Wholes.{HasRegion, IsImageOf, IsWhole, images_made, rect_of}
 use Rattle.fx_eval.specs.Inputs.{Adds, IsOne, IsSomeOf, IsTruePiece, Reads, blank, has_piece, piece_of}
-use Rattle.fx_eval.specs.Filled.{IsWindowOf}
 
 -- ---- equal numbers
 
@@ -49,13 +50,6 @@ nat_same a b e = grind (arith, nat_tests)
 
 pub int_same : (a b : ℤ) → int_eq a b ≡ true → a ≡ b
 int_same a b e = (Decides-int_eq a b).0 e
-
-pub in_has : (fs : List ℤ) (g : ℤ) → In fs g → has_frame fs g ≡ true
-in_has [] g h = absurd h
-in_has (f ∷ fs) g h = elim h [
-  | inl e ↦ rw (same_int f g e) refl
-  | inr i ↦ or_right (int_eq f g) (has_frame fs g) (in_has fs g i)
-]
 
 -- ---- pieces that are added
 
@@ -285,7 +279,7 @@ window_image nodes ok k o stands t ks given image adds sees window =
           let covered = all_in (Covered o t (dot x y)) taps p all n in
           let clip = covered.clip in
           read_is nodes ok (clip_node o) (Reads o t (length o.clips)) o.depth ks given adds (seen o p.clip) p.clip p.frame p.x p.y
-          (omega (arith, flags, clip), in_has (clip_frames o t p.clip) p.frame (in_frames o t (dot x y) p covered))
+          (omega (arith, flags, clip), listed (clip_frames o t p.clip) p.frame (in_frames o t (dot x y) p covered))
           (sees p.clip (omega (arith, flags, clip))))
           taps (λ p n. n))
           ∙ ap (λ (q : Node). node_value (depth_at nodes) (value nodes) q t x y) (sym stands)

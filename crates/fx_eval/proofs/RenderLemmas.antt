@@ -4,26 +4,26 @@ use Rattle.std.specs.List.{fold}
 use Rattle.fx_core.specs.State.{State}
 use Rattle.fx_scene.specs.Nodes.{Effect, EffectNode, Node, Nodes, Source, SourceFrames}
 use Rattle.fx_scene.specs.Areas.{area}
-use Rattle.fx_scene.specs.Reach.{IsReach, IsReadBy, Moments}
-use Rattle.fx_scene.specs.declared.reaching.Moment.{Moment}
+use Rattle.fx_scene.specs.Reach.{IsReach, IsReadBy, NodeFrames}
+use Rattle.fx_scene.specs.declared.reaching.NodeFrame.{NodeFrame}
 use Rattle.fx_base.specs.Bounds.{Bounds}
 use Rattle.fx_eval.specs.Cuts.{pieces}
 use Rattle.fx_eval.specs.Flights.{Drops, IsIdle, after_renders}
 use Rattle.fx_eval.specs.Renders.{renders_at, renders_by, renders_of}
 use Rattle.fx_eval.proofs.FlightLemmas.{none_made, renders_drop, renders_idle, renders_more}
 
--- those of the moments before `rest`
-pub record IsRendering {K V : Type 0} (nodes : Nodes) (moments rest : List Moment) (old new : State K V) : Type 0 where
+-- those of the nodes at frames before `rest`
+pub record IsRendering {K V : Type 0} (nodes : Nodes) (node_frames rest : List NodeFrame) (old new : State K V) : Type 0 where
   pub made : ℕ
   pub core : new ≡ after_renders old made
-  pub all : fold (λ a m. a + renders_at nodes m.node m.frame) made rest ≡ renders_of nodes moments
+  pub all : fold (λ a m. a + renders_at nodes m.node m.frame) made rest ≡ renders_of nodes node_frames
 
-module _ {K V : Type 0} (nodes : Nodes) (moments : List Moment) (s : State K V) where
-  pub rendering_start : IsRendering nodes moments moments s s
+module _ {K V : Type 0} (nodes : Nodes) (node_frames : List NodeFrame) (s : State K V) where
+  pub rendering_start : IsRendering nodes node_frames node_frames s s
   rendering_start = record { made = 0; core = none_made s; all = refl }
 
-  pub rendering_step : (m : Moment) (rest : List Moment) (t u : State K V) → IsRendering nodes moments (m ∷ rest) s t
-      → u ≡ after_renders t (renders_at nodes m.node m.frame) → IsRendering nodes moments rest s u
+  pub rendering_step : (m : NodeFrame) (rest : List NodeFrame) (t u : State K V) → IsRendering nodes node_frames (m ∷ rest) s t
+      → u ≡ after_renders t (renders_at nodes m.node m.frame) → IsRendering nodes node_frames rest s u
   rendering_step m rest t u r e =
       record {
         made = r.made + renders_at nodes m.node m.frame;
@@ -31,13 +31,13 @@ module _ {K V : Type 0} (nodes : Nodes) (moments : List Moment) (s : State K V) 
         all = r.all;
       }
 
-  pub rendering_end : (t : State K V) → IsRendering nodes moments [] s t → t ≡ after_renders s (renders_of nodes moments)
+  pub rendering_end : (t : State K V) → IsRendering nodes node_frames [] s t → t ≡ after_renders s (renders_of nodes node_frames)
   rendering_end t r = r.core ∙ ap (after_renders s) r.all
 
-  pub rendering_idle : (rest : List Moment) (t : State K V) → IsRendering nodes moments rest s t → IsIdle s → IsIdle t
+  pub rendering_idle : (rest : List NodeFrame) (t : State K V) → IsRendering nodes node_frames rest s t → IsIdle s → IsIdle t
   rendering_idle rest t r idle = renders_idle s t r.made r.core idle
 
-  pub rendering_drop : (rest : List Moment) (t u : State K V) → IsRendering nodes moments rest s t → Drops t u → Drops s u
+  pub rendering_drop : (rest : List NodeFrame) (t u : State K V) → IsRendering nodes node_frames rest s t → Drops t u → Drops s u
   rendering_drop rest t u r d = renders_drop s t u r.made r.core d
 
 -- ---- one node
@@ -56,11 +56,11 @@ effect_renders nodes n t o a s u stands is e =
 -- ---- what is reached
 
 -- a least set is one over nodes that read the same
-pub reach_same : (a b : Nodes) (output : ℕ) (first last : ℤ) (moments : Moments)
+pub reach_same : (a b : Nodes) (output : ℕ) (first last : ℤ) (node_frames : NodeFrames)
     → ((n : ℕ) (t : ℤ) (m : ℕ) (f : ℤ) → IsReadBy (a n) t m f → IsReadBy (b n) t m f)
     → ((n : ℕ) (t : ℤ) (m : ℕ) (f : ℤ) → IsReadBy (b n) t m f → IsReadBy (a n) t m f)
-    → IsReach a output first last moments → IsReach b output first last moments
-reach_same a b output first last moments to from reach =
+    → IsReach a output first last node_frames → IsReach b output first last node_frames
+reach_same a b output first last node_frames to from reach =
     record {
       all = λ n t r. reach.all n t (λ s closed.
           r s (record { start = closed.start; reads = λ k u h m f e. closed.reads k u h m f (from k u m f e) }));

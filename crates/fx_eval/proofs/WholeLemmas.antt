@@ -32,21 +32,22 @@ use Rattle.fx_scene.specs.Areas.{area, clip_area, clip_areas, hull_all, hull_wit
 use Rattle.fx_scene.specs.Frames.{clip_frames, frames_of, has_frame, items_of}
 use Rattle.fx_scene.specs.Scenes.{Images, graph_nodes, picture}
 use Rattle.fx_scene.specs.Value.{value}
-use Rattle.fx_scene.specs.declared.reaching.Moment.{Moment}
+use Rattle.fx_scene.specs.declared.reaching.NodeFrame.{NodeFrame}
 use Rattle.fx_scene.proofs.Equations.{area_is}
 use Rattle.fx_scene.proofs.Members.{all_in, all_from}
-use Rattle.fx_scene.proofs.NearLemmas.{listed_frames}
 use Rattle.fx_eval.specs.declared.whole.Whole.{Whole}
 use Rattle.fx_eval.specs.Cuts.{IsCut}
 use Rattle.fx_eval.specs.Wholes.{AreWhole, HasRegion, IsImageOf, IsMade, IsReady, IsWhole, images_made, look, rect_of}
-use Rattle.fx_eval.specs.Inputs.{Adds, AreMade, AreReads, IsOne, Reads, blank}
+use Rattle.fx_eval.specs.Inputs.{Adds, AreMade, IsOne, Reads, blank}
 use Rattle.fx_life.specs.Filled.{IsFilled}
-use Rattle.fx_eval.specs.Filled.{AreWindows, IsWindowOf}
-use Rattle.fx_eval.proofs.PieceLemmas.{in_has, read_is, source_area_is, window_image}
+use Rattle.fx_scene.specs.Windows.{IsWindowOf}
+use Rattle.fx_eval.specs.Filled.{AreWindows}
+use Rattle.fx_scene.proofs.NearLemmas.{listed, listed_frames}
+use Rattle.fx_eval.proofs.PieceLemmas.{read_is, source_area_is, window_image}
 
 -- ---- what is kept
 
-pub whole_area : (nodes : Nodes) (made : BTreeMap Moment Whole) (n : ℕ) (f : ℤ) (w : Whole) → AreWhole nodes made
+pub whole_area : (nodes : Nodes) (made : BTreeMap NodeFrame Whole) (n : ℕ) (f : ℤ) (w : Whole) → AreWhole nodes made
     → look made n f ≡ Some w → w.area ≡ area nodes n f
 whole_area nodes made n f w are there = (are n f w there).area_is
 
@@ -70,53 +71,15 @@ values_more {X} xs ys x pushed = ap (map arc_value) pushed ∙ map-append arc_va
 
 -- ---- areas
 
-pub hull_step : (A : ℤ → Bounds) (fs : List ℤ) (i : ℕ) (d : ℤ) (h a : Bounds) (whole : Bounds) → i < length fs
-    → a ≡ A (get_or fs i d) → hull_with h (map A (drop i fs)) ≡ whole → hull_with (hull h a) (map A (drop (i + 1) fs)) ≡ whole
-hull_step A fs i d h a whole low is e =
-    ap (λ (b : Bounds). hull_with (hull h b) (map A (drop (i + 1) fs))) is
-    ∙ sym (ap (λ (gs : List ℤ). hull_with h (map A gs)) (drop_more fs i d low)) ∙ e
-
-pub clip_area_by : (nodes : Nodes) (m : ℕ) (fs : List ℤ) (spans : List (ℤ × ℤ)) (a : Bounds) → a ≡ hull_all (map (area nodes m) fs)
-    → fs ≡ frames_of spans → a ≡ clip_area (area nodes) spans (Some m)
-clip_area_by nodes m fs spans a is e = is ∙ ap (λ (gs : List ℤ). hull_all (map (area nodes m) gs)) e
-
--- the area of a clip
-abbrev pub area_at : Nodes → EffectNode → ℤ → ℕ → Bounds
-area_at nodes o t c = clip_area (area nodes) (o.meaning.spans (o.values t) c) (clip_node o c)
-
-pub areas_more : (nodes : Nodes) (o : EffectNode) (t : ℤ) (k : ℕ) (old new : List Bounds) (a : Bounds) (clip : Option ℕ)
-    → new ≡ old ++ a ∷ [] → old ≡ map (area_at nodes o t) (range_with_len 0 k)
-    → a ≡ clip_area (area nodes) (o.meaning.spans (o.values t) k) clip → clip ≡ clip_node o k
-    → new ≡ map (area_at nodes o t) (range_with_len 0 (k + 1))
-areas_more nodes o t k old new a clip pushed so is at =
-    pushed ∙ ap (λ (rs : List Bounds). rs ++ a ∷ []) so
-    ∙ ap (λ (r : Bounds). map (area_at nodes o t) (range_with_len 0 k) ++ r ∷ [])
-    (is ∙ ap (clip_area (area nodes) (o.meaning.spans (o.values t) k)) at)
-    ∙ sym (map-range_with_len_more (area_at nodes o t) 0 k k (omega arith))
-
 pub effect_area : (nodes : Nodes) → AreNodes nodes → (k : ℕ) (o : EffectNode) → nodes k ≡ Effect o → (t : ℤ)
     → o.meaning.rod o.context (o.values t) (clip_areas (area nodes) o t) ≡ area nodes k t
 effect_area nodes ok k o stands t =
     sym (ap (λ (a : ℤ → Bounds). a t) (area_is nodes ok k) ∙ ap (λ (q : Node). node_area (area nodes) q t) stands)
 
--- ---- reads
+-- ---- what is read is made
 
--- what is read of a clip
-pub reads_at : (o : EffectNode) (t : ℤ) (reads : List (Vec ℤ Global)) (c : ℕ) (v : Vec ℤ Global) → AreReads o t reads
-    → c < length o.clips → c < length reads → v ≡ get_or reads c v → v.items ≡ clip_frames o t c
-reads_at o t reads c v are low within there =
-    ap items_of there
-    ∙ sym (get_or-map items_of reads c v v.items within)
-    ∙ ap (λ (fs : List (List ℤ)). get_or fs c v.items) are
-    ∙ get_or-map-range_with_len (clip_frames o t) 0 (length o.clips) c c v.items low (omega arith)
-
-pub reads_long : (o : EffectNode) (t : ℤ) (reads : List (Vec ℤ Global)) → AreReads o t reads → length reads ≡ length o.clips
-reads_long o t reads are =
-    sym (length-map reads items_of) ∙ ap (λ (fs : List (List ℤ)). length fs) are
-    ∙ length-map-range_with_len (clip_frames o t) 0 (length o.clips)
-
--- so its node is made there
-pub clip_made : (o : EffectNode) (t : ℤ) (made : BTreeMap Moment Whole) (c : ℕ) (clip : Option ℕ) (fs : List ℤ)
+-- the node of a clip is made there
+pub clip_made : (o : EffectNode) (t : ℤ) (made : BTreeMap NodeFrame Whole) (c : ℕ) (clip : Option ℕ) (fs : List ℤ)
     → IsReady (Effect o) t made → clip ≡ clip_node o c → fs ≡ clip_frames o t c → AreMade made clip fs
 clip_made o t made c None fs ready at is = tt
 clip_made o t made c (Some m) fs ready at is =
@@ -124,7 +87,7 @@ clip_made o t made c (Some m) fs ready at is =
     ready m f (record {
       clip = c;
       node = sym at;
-      frame = listed_frames (o.meaning.spans (o.values t) c) f (ap (λ (gs : List ℤ). has_frame gs f) (sym is) ∙ in_has fs f i);
+      frame = listed_frames (o.meaning.spans (o.values t) c) f (ap (λ (gs : List ℤ). has_frame gs f) (sym is) ∙ listed fs f i);
     }))
 
 -- ---- whole nodes

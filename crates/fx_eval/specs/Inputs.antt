@@ -1,9 +1,6 @@
 -- What a render reads: pieces that show the nodes of its clips.
-use Rattle.std.specs.Prelude.{◌≡◌, ◌<◌, ◌++◌, ◌||◌, ℕ, ℤ, List, [], ◌∷◌, map, length, Option, Some, None, Bool, true, false, All}
-use Rattle.std.specs.List.{range_with_len}
+use Rattle.std.specs.Prelude.{◌≡◌, ◌<◌, ◌++◌, ◌||◌, ℕ, ℤ, List, [], ◌∷◌, Option, Some, None, Bool, true, false, All}
 use Rattle.std.specs.BTreeMap.{BTreeMap}
-use Rattle.std.specs.declared.alloc.Global.{Global}
-use Rattle.std.specs.declared.vec.Vec.{Vec}
 use Rattle.fx_base.specs.Rect.{Holds}
 use Rattle.fx_pixel.specs.declared.Depth.{Depth}
 use Rattle.fx_pixel.specs.declared.Components.{Components}
@@ -14,18 +11,14 @@ use Rattle.fx_effect.specs.Tap.{tap}
 use Rattle.fx_effect.specs.declared.steps.Step.{Step}
 use Rattle.fx_scene.specs.Nodes.{Nodes, EffectNode, depth_at}
 use Rattle.fx_scene.specs.Value.{value}
-use Rattle.fx_scene.specs.declared.reaching.Moment.{Moment}
+use Rattle.fx_scene.specs.declared.reaching.NodeFrame.{NodeFrame}
 use Rattle.fx_scene.specs.Areas.{area}
-use Rattle.fx_scene.specs.Frames.{clip_frames, has_frame, items_of}
+use Rattle.fx_scene.specs.Frames.{clip_frames, has_frame}
 use Rattle.fx_eval.specs.Wholes.{IsMade}
 use Rattle.fx_eval.specs.declared.whole.Whole.{Whole}
 
--- for each clip the frames that are read of it
-abbrev pub AreReads : EffectNode → ℤ → List (Vec ℤ Global) → Type 0
-AreReads o t reads = map items_of reads ≡ map (clip_frames o t) (range_with_len 0 (length o.clips))
-
 -- the node of a clip is made at these frames
-abbrev pub AreMade : BTreeMap Moment Whole → Option ℕ → List ℤ → Type 0
+abbrev pub AreMade : BTreeMap NodeFrame Whole → Option ℕ → List ℤ → Type 0
 AreMade made None frames = Unit {0}
 AreMade made (Some m) frames = All (IsMade made m) frames
 

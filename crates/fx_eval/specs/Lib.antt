@@ -1,4 +1,4 @@
-pub mod Sites
+pub mod Setups
 pub mod Cuts
 pub mod Wholes
 pub mod Readers

@@ -6,8 +6,8 @@ use Rattle.fx_base.specs.Bounds.{Bounds}
 use Rattle.fx_core.specs.State.{State}
 use Rattle.fx_scene.specs.Nodes.{Nodes, Node, Source, Effect}
 use Rattle.fx_scene.specs.Areas.{area}
-use Rattle.fx_scene.specs.Reach.{IsReach, has, moment_cmp}
-use Rattle.fx_scene.specs.declared.reaching.Moment.{Moment}
+use Rattle.fx_scene.specs.Reach.{IsReach, has, node_frame_cmp}
+use Rattle.fx_scene.specs.declared.reaching.NodeFrame.{NodeFrame}
 use Rattle.fx_eval.specs.Cuts.{pieces}
 use Rattle.fx_eval.specs.Flights.{after_renders}
 
@@ -20,12 +20,12 @@ abbrev pub renders_at : Nodes → ℕ → ℤ → ℕ
 renders_at nodes n t = renders_by (nodes n) (area nodes n t)
 
 -- of all these nodes at frames
-abbrev pub renders_of : Nodes → List Moment → ℕ
-renders_of nodes moments = sum_by (λ m. renders_at nodes m.node m.frame) moments
+abbrev pub renders_of : Nodes → List NodeFrame → ℕ
+renders_of nodes node_frames = sum_by (λ m. renders_at nodes m.node m.frame) node_frames
 
 -- each node that the output reads was rendered, once at each frame at which it is read
 pub record HasRendered {K V : Type 0} (nodes : Nodes) (output : ℕ) (frame : ℤ) (old new : State K V) : Type 0 where
-  pub moments : BTreeSet Moment
-  pub once : IsOrdered moment_cmp moments
-  pub reached : IsReach nodes output frame frame (has moments)
-  pub core : new ≡ after_renders old (renders_of nodes moments.keys)
+  pub node_frames : BTreeSet NodeFrame
+  pub once : IsOrdered node_frame_cmp node_frames
+  pub reached : IsReach nodes output frame frame (has node_frames)
+  pub core : new ≡ after_renders old (renders_of nodes node_frames.keys)

@@ -9,8 +9,8 @@ use Rattle.fx_image.specs.Stored.{Stored, shown}
 use Rattle.fx_scene.specs.Nodes.{Nodes, Node, Source, Effect, depth_at, components_at}
 use Rattle.fx_scene.specs.Value.{value}
 use Rattle.fx_scene.specs.Areas.{area}
-use Rattle.fx_scene.specs.Reach.{IsReadBy, IsPlace, has, moment, moment_cmp}
-use Rattle.fx_scene.specs.declared.reaching.Moment.{Moment}
+use Rattle.fx_scene.specs.Reach.{IsReadBy, IsPlace, has, node_frame, node_frame_cmp}
+use Rattle.fx_scene.specs.declared.reaching.NodeFrame.{NodeFrame}
 use Rattle.fx_eval.specs.Cuts.{Cover, IsCut}
 use Rattle.fx_eval.specs.declared.whole.Whole.{Whole}
 
@@ -42,28 +42,29 @@ pub record IsWhole (nodes : Nodes) (n : ℕ) (t : ℤ) (w : Whole) : Type 0 wher
 -- ---- what is kept
 
 -- of a node at a frame
-abbrev pub look : BTreeMap Moment Whole → ℕ → ℤ → Option Whole
-look made n t = get moment_cmp made (moment n t)
+abbrev pub look : BTreeMap NodeFrame Whole → ℕ → ℤ → Option Whole
+look made n t = get node_frame_cmp made (node_frame n t)
 
-abbrev pub IsMade : BTreeMap Moment Whole → ℕ → ℤ → Type 0
+abbrev pub IsMade : BTreeMap NodeFrame Whole → ℕ → ℤ → Type 0
 IsMade made n t = IsSome (look made n t)
 
 -- each is the whole of its node at its frame
-abbrev pub AreWhole : Nodes → BTreeMap Moment Whole → Type 0
+abbrev pub AreWhole : Nodes → BTreeMap NodeFrame Whole → Type 0
 AreWhole nodes made = (n : ℕ) (t : ℤ) (w : Whole) → look made n t ≡ Some w → IsWhole nodes n t w
 
 -- all that a node reads at a frame is kept
-abbrev pub IsReady : Node → ℤ → BTreeMap Moment Whole → Type 0
+abbrev pub IsReady : Node → ℤ → BTreeMap NodeFrame Whole → Type 0
 IsReady node t made = (m : ℕ) (f : ℤ) → IsReadBy node t m f → IsMade made m f
 
 -- near places, with all that is read at them
-pub record IsOrder (nodes : Nodes) (count : ℕ) (moments : BTreeSet Moment) : Type 0 where
-  pub places : (n : ℕ) (t : ℤ) → has moments n t ≡ true → IsPlace count n t
+pub record IsOrder (nodes : Nodes) (count : ℕ) (node_frames : BTreeSet NodeFrame) : Type 0 where
+  pub places : (n : ℕ) (t : ℤ) → has node_frames n t ≡ true → IsPlace count n t
   pub reads :
-      (n : ℕ) (t : ℤ) → has moments n t ≡ true → (m : ℕ) (f : ℤ) → IsReadBy (nodes n) t m f → has moments m f ≡ true
+      (n : ℕ) (t : ℤ) → has node_frames n t ≡ true → (m : ℕ) (f : ℤ) → IsReadBy (nodes n) t m f
+      → has node_frames m f ≡ true
 
 -- each of them that none of them reads is kept
-abbrev pub KeepsUnread : Nodes → BTreeSet Moment → BTreeMap Moment Whole → Type 0
-KeepsUnread nodes moments made =
-    (m : ℕ) (f : ℤ) → has moments m f ≡ true
-    → ((n : ℕ) (t : ℤ) → has moments n t ≡ true → IsReadBy (nodes n) t m f → ⊥) → IsMade made m f
+abbrev pub KeepsUnread : Nodes → BTreeSet NodeFrame → BTreeMap NodeFrame Whole → Type 0
+KeepsUnread nodes node_frames made =
+    (m : ℕ) (f : ℤ) → has node_frames m f ≡ true
+    → ((n : ℕ) (t : ℤ) → has node_frames n t ≡ true → IsReadBy (nodes n) t m f → ⊥) → IsMade made m f

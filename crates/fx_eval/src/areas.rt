@@ -3,22 +3,22 @@ ghost use Rattle.std.specs.Prelude.{◌≡◌, ℤ, List, Some, length, map, All
 ghost use Rattle.fx_scene.specs.Nodes.{Effect, Nodes};
 ghost use Rattle.fx_scene.specs.Frames.{frames_of};
 ghost use Rattle.fx_scene.specs.Areas.{area, clip_area, clip_areas, hull_all};
-ghost use Rattle.fx_eval.specs.Sites.{effect_at};
+ghost use Rattle.fx_scene.specs.Sites.{AreReads, effect_at};
 ghost use Rattle.fx_eval.specs.Wholes.{AreWhole, IsMade, IsReady, look};
-ghost use Rattle.fx_eval.specs.Inputs.{AreMade, AreReads};
+ghost use Rattle.fx_eval.specs.Inputs.{AreMade};
 
-use crate::site::EffectNode;
 use crate::whole::Whole;
 use fx_base::{Memory, Rect};
 use fx_effect::ImageEffect;
-use fx_scene::Moment;
+use fx_scene::NodeFrame;
+use fx_scene::site::EffectNode;
 use std::alloc::Global;
 use std::collections::BTreeMap;
 
 /// For each clip the hull of its node's regions at the frames that are read.
 pub(crate) fn areas_of<E: ImageEffect>(
     alloc: Global,
-    made: &BTreeMap<Moment, Whole>,
+    made: &BTreeMap<NodeFrame, Whole>,
     node: &EffectNode<'_, E>,
     _project: Rect,
     frame: i64,
@@ -36,7 +36,7 @@ pub(crate) fn areas_of<E: ImageEffect>(
     Ok(areas)
 }
 
-fn area_of(made: &BTreeMap<Moment, Whole>, clip: Option<u32>, frames: &[i64]) -> Rect
+fn area_of(made: &BTreeMap<NodeFrame, Whole>, clip: Option<u32>, frames: &[i64]) -> Rect
     requires { AreMade made.now clip frames.now }
     ensures { (nodes : Nodes) (spans : List (ℤ × ℤ)) → AreWhole nodes made.now → frames.now ≡ frames_of spans
         → result ≡ clip_area (area nodes) spans clip }
@@ -47,7 +47,7 @@ fn area_of(made: &BTreeMap<Moment, Whole>, clip: Option<u32>, frames: &[i64]) ->
     }
 }
 
-fn hull_of(made: &BTreeMap<Moment, Whole>, m: u32, frames: &[i64]) -> Rect
+fn hull_of(made: &BTreeMap<NodeFrame, Whole>, m: u32, frames: &[i64]) -> Rect
     requires { All (IsMade made.now m) frames.now }
     ensures { (nodes : Nodes) → AreWhole nodes made.now → result ≡ hull_all (map (area nodes m) frames.now) }
 {
@@ -59,11 +59,11 @@ fn hull_of(made: &BTreeMap<Moment, Whole>, m: u32, frames: &[i64]) -> Rect
 }
 
 /// What is kept of a node at a frame.
-pub(crate) fn made_of<'s>(made: &'s BTreeMap<Moment, Whole>, m: u32, f: i64) -> &'s Whole
+pub(crate) fn made_of<'s>(made: &'s BTreeMap<NodeFrame, Whole>, m: u32, f: i64) -> &'s Whole
     requires { IsMade made.now m f }
     ensures { look made.now m f ≡ Some result.now }
 {
-    match made.get(&Moment { node: m, frame: f }) {
+    match made.get(&NodeFrame { node: m, frame: f }) {
         Some(whole) => whole,
         None => unreachable!(),
     }

@@ -10,7 +10,7 @@ mod cuts;
 mod inputs;
 mod picture;
 mod readers;
-mod site;
+mod setup;
 mod whole;
 mod window;
 

@@ -9,14 +9,14 @@ ghost use Rattle.fx_effect.specs.Given.{row_pixel};
 ghost use Rattle.fx_scene.specs.Scenes.{graph_nodes, graph_shown, images_in, picture};
 ghost use Rattle.fx_life.specs.Filled.{IsFilled};
 ghost use Rattle.fx_life.specs.Seats.{HasLife};
-ghost use Rattle.fx_eval.specs.Sites.{IsSite, site_nodes};
+ghost use Rattle.fx_eval.specs.Setups.{IsSetup, setup_nodes};
 ghost use Rattle.fx_eval.specs.Wholes.{AreWhole, IsMade};
 ghost use Rattle.fx_eval.specs.Flights.{IsIdle, Drops};
 ghost use Rattle.fx_eval.specs.Renders.{HasRendered};
 
 use crate::copy::copy_frame;
 use crate::inputs::add_frame;
-use crate::site::Site;
+use crate::setup::Setup;
 use crate::whole::{Whole, wholes};
 use fx_base::{Memory, Rect};
 use fx_core::Core;
@@ -25,7 +25,7 @@ use fx_gate::{GateSeat, Gates};
 use fx_image::Image;
 use fx_life::Life;
 use fx_pixel::{Components, Depth, Format};
-use fx_scene::{Key, Moment, Scene, reach};
+use fx_scene::{Key, NodeFrame, Scene, reach};
 use std::alloc::Global;
 use std::collections::BTreeMap;
 use std::rt::Clock;
@@ -65,22 +65,22 @@ pub fn frame<R: Wait + Clock, E: Catalogue + Drop>(
     ensures idle { IsIdle core.new }
     ensures seat { seat.new ≡ seat.old }
 {
-    let site = Site {
+    let setup = Setup {
         scene,
         graph: scene.graph(),
         store: scene.store(),
         life,
         gates,
     };
-    let moments = reach(alloc, site.graph, frame, frame)?;
-    let made = wholes(rt, alloc, &site, core, seat, &moments)?;
+    let node_frames = reach(alloc, setup.graph, frame, frame)?;
+    let made = wholes(rt, alloc, &setup, core, seat, &node_frames)?;
     let mut image = blank(
         alloc,
-        site.graph.project,
-        site.graph.depth,
-        site.graph.format,
+        setup.graph.project,
+        setup.graph.depth,
+        setup.graph.format,
     )?;
-    show(alloc, &site, &made, frame, &mut image)?;
+    show(alloc, &setup, &made, frame, &mut image)?;
     Ok(image)
 }
 
@@ -107,22 +107,30 @@ fn components_for(format: Format) -> Components
 // Shows the output's node at a frame.
 fn show<E: Catalogue>(
     alloc: Global,
-    site: &Site<'_, E>,
-    made: &BTreeMap<Moment, Whole>,
+    setup: &Setup<'_, E>,
+    made: &BTreeMap<NodeFrame, Whole>,
     frame: i64,
     image: &mut Image,
 ) -> Result<(), Memory>
-    requires site { IsSite E.meaning E.number_of site.now }
-    requires whole { AreWhole (site_nodes E.meaning site.now) made.now }
-    requires made { IsMade made.now site.now.graph.now.output frame }
-    requires rect { image.old.rect ≡ site.now.graph.now.project }
-    requires depth { image.old.depth ≡ site.now.graph.now.depth }
-    requires components { image.old.components ≡ components_for site.now.graph.now.format }
-    ensures { let picture = picture E.meaning (graph_shown site.now.graph.now) (images_in site.now.store.now) frame in
+    requires setup { IsSetup E.meaning E.number_of setup.now }
+    requires whole { AreWhole (setup_nodes E.meaning setup.now) made.now }
+    requires made { IsMade made.now setup.now.graph.now.output frame }
+    requires rect { image.old.rect ≡ setup.now.graph.now.project }
+    requires depth { image.old.depth ≡ setup.now.graph.now.depth }
+    requires components { image.old.components ≡ components_for setup.now.graph.now.format }
+    ensures { let picture = picture E.meaning (graph_shown setup.now.graph.now) (images_in setup.now.store.now) frame in
         OnOk result (SameImage (image_of image.new) picture) }
 {
     let mut inputs = Inputs::new(alloc, image.depth(), vec![in alloc; image.components()]?)?;
-    add_frame(alloc, site, made, 0, site.graph.output, frame, &mut inputs)?;
+    add_frame(
+        alloc,
+        setup,
+        made,
+        0,
+        setup.graph.output,
+        frame,
+        &mut inputs,
+    )?;
     copy_whole(&inputs, frame, image);
     Ok(())
 }

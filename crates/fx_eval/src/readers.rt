@@ -1,7 +1,7 @@
 //! The last that reads each node at a frame, after which it is let go.
 ghost use Rattle.std.specs.Prelude.{◌≡◌, ◌↔◌, ℕ, ℤ, length, true, Some, IfOk, OnOk};
 ghost use Rattle.std.specs.BTreeMap.{get};
-ghost use Rattle.fx_scene.specs.Reach.{IsPlace, IsReadBy, has, moment_cmp};
+ghost use Rattle.fx_scene.specs.Reach.{IsPlace, IsReadBy, has, node_frame_cmp};
 ghost use Rattle.fx_scene.specs.Scenes.{graph_nodes, graph_shown, no_images};
 ghost use Rattle.fx_eval.specs.Readers.{AreLast, LetsGo, Marks};
 
@@ -9,7 +9,7 @@ use crate::whole::Whole;
 use fx_base::Memory;
 use fx_effect::Catalogue;
 use fx_graph::Graph;
-use fx_scene::{Moment, reads_of};
+use fx_scene::{NodeFrame, reads_of};
 use std::alloc::Global;
 use std::collections::{BTreeMap, BTreeSet};
 
@@ -17,16 +17,16 @@ use std::collections::{BTreeMap, BTreeSet};
 pub(crate) fn last_readers<E: Catalogue>(
     alloc: Global,
     graph: &Graph<E>,
-    moments: &BTreeSet<Moment>,
-) -> Result<BTreeMap<Moment, Moment>, Memory>
+    node_frames: &BTreeSet<NodeFrame>,
+) -> Result<BTreeMap<NodeFrame, NodeFrame>, Memory>
     requires { let count = length graph.now.nodes.items in
-        (n : ℕ) (t : ℤ) → has moments.now n t ≡ true → IsPlace count n t }
+        (n : ℕ) (t : ℤ) → has node_frames.now n t ≡ true → IsPlace count n t }
     ensures { let nodes = graph_nodes E.meaning (graph_shown graph.now) no_images in
-        IfOk result (AreLast nodes moments.now) }
+        IfOk result (AreLast nodes node_frames.now) }
 {
     let mut last = BTreeMap::new(alloc);
-    for moment in moments {
-        mark_reads(alloc, graph, *moment, &mut last)?;
+    for node_frame in node_frames {
+        mark_reads(alloc, graph, *node_frame, &mut last)?;
     }
     Ok(last)
 }
@@ -35,8 +35,8 @@ pub(crate) fn last_readers<E: Catalogue>(
 fn mark_reads<E: Catalogue>(
     alloc: Global,
     graph: &Graph<E>,
-    reader: Moment,
-    last: &mut BTreeMap<Moment, Moment>,
+    reader: NodeFrame,
+    last: &mut BTreeMap<NodeFrame, NodeFrame>,
 ) -> Result<(), Memory>
     requires { IsPlace (length graph.now.nodes.items) reader.node reader.frame }
     ensures { let nodes = graph_nodes E.meaning (graph_shown graph.now) no_images in
@@ -47,9 +47,9 @@ fn mark_reads<E: Catalogue>(
 }
 
 fn mark(
-    reads: &BTreeSet<Moment>,
-    reader: Moment,
-    last: &mut BTreeMap<Moment, Moment>,
+    reads: &BTreeSet<NodeFrame>,
+    reader: NodeFrame,
+    last: &mut BTreeMap<NodeFrame, NodeFrame>,
 ) -> Result<(), Memory>
     ensures { OnOk result (Marks (λ m f. has reads.now m f ≡ true) reader last.old last.new) }
 {
@@ -59,12 +59,12 @@ fn mark(
     Ok(())
 }
 
-/// Lets go what this moment reads as the last.
+/// Lets go what this node at a frame reads as the last.
 pub(crate) fn let_go(
-    reads: &BTreeSet<Moment>,
-    reader: Moment,
-    last: &BTreeMap<Moment, Moment>,
-    made: &mut BTreeMap<Moment, Whole>,
+    reads: &BTreeSet<NodeFrame>,
+    reader: NodeFrame,
+    last: &BTreeMap<NodeFrame, NodeFrame>,
+    made: &mut BTreeMap<NodeFrame, Whole>,
 )
     ensures { LetsGo last.now reader made.old made.new }
 {
@@ -74,10 +74,10 @@ pub(crate) fn let_go(
 }
 
 fn let_go_read(
-    read: Moment,
-    reader: Moment,
-    last: &BTreeMap<Moment, Moment>,
-    made: &mut BTreeMap<Moment, Whole>,
+    read: NodeFrame,
+    reader: NodeFrame,
+    last: &BTreeMap<NodeFrame, NodeFrame>,
+    made: &mut BTreeMap<NodeFrame, Whole>,
 )
     ensures { LetsGo last.now reader made.old made.new }
 {
@@ -86,8 +86,8 @@ fn let_go_read(
     }
 }
 
-fn is_read_last(last: &BTreeMap<Moment, Moment>, read: Moment, reader: Moment) -> bool
-    ensures { (result ≡ true) ↔ (get moment_cmp last.now read ≡ Some reader) }
+fn is_read_last(last: &BTreeMap<NodeFrame, NodeFrame>, read: NodeFrame, reader: NodeFrame) -> bool
+    ensures { (result ≡ true) ↔ (get node_frame_cmp last.now read ≡ Some reader) }
 {
     match last.get(&read) {
         Some(by) => *by == reader,

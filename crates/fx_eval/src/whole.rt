@@ -3,8 +3,9 @@ ghost use Rattle.std.specs.Prelude.{◌≡◌, ◌<◌, ◌≤◌, length, map, 
 ghost use Rattle.std.specs.Arc.{arc_value};
 ghost use Rattle.std.specs.BTreeSet.{IsOrdered};
 ghost use Rattle.fx_effect.specs.Asked.{IsWindow};
-ghost use Rattle.fx_scene.specs.Reach.{IsNearFrame, IsPlace, moment_cmp};
-ghost use Rattle.fx_eval.specs.Sites.{IsSite, IsAsked, IsFree, StandsIn, effect_at, site_nodes, area_shown, image_shown};
+ghost use Rattle.fx_scene.specs.Reach.{IsNearFrame, IsPlace, node_frame_cmp};
+ghost use Rattle.fx_scene.specs.Sites.{IsAsked, StandsIn, effect_at};
+ghost use Rattle.fx_eval.specs.Setups.{IsSetup, IsFree, setup_nodes};
 ghost use Rattle.fx_eval.specs.Wholes.{AreWhole, IsOrder, IsReady, IsWhole, KeepsUnread};
 ghost use Rattle.fx_eval.specs.Readers.{Makes};
 ghost use Rattle.fx_eval.specs.Filled.{AreWindows};
@@ -12,24 +13,22 @@ ghost use Rattle.fx_eval.specs.Cuts.{pieces};
 ghost use Rattle.fx_eval.specs.Flights.{IsIdle, Drops, after_renders};
 ghost use Rattle.fx_eval.specs.Renders.{renders_at, renders_of};
 ghost use Rattle.fx_scene.specs.Nodes.{Effect};
-ghost use Rattle.fx_seq.specs.Held.{held};
-ghost use Rattle.fx_scene.specs.Scenes.{graph_shown, shown_frame};
+ghost use Rattle.fx_scene.specs.Scenes.{graph_shown};
 
 use crate::areas::areas_of;
 use crate::cuts::cut;
 use crate::inputs::inputs_of;
 use crate::readers::{last_readers, let_go};
-use crate::site::{EffectNode, Site, image_shown};
+use crate::setup::Setup;
 use crate::window::window_of;
 use fx_actions::region_of_definition;
 use fx_base::{Memory, Rect};
 use fx_core::Core;
 use fx_effect::{Catalogue, Inputs, Values};
 use fx_gate::GateSeat;
-use fx_graph::Work;
 use fx_image::Image;
-use fx_scene::{Key, Moment, frames_read, reads_of, use_values};
-use fx_seq::Store;
+use fx_scene::site::{EffectNode, NodeAt, node_at, source_area};
+use fx_scene::{Key, NodeFrame, frames_read, reads_of, use_values};
 use std::alloc::Global;
 use std::collections::{BTreeMap, BTreeSet};
 use std::rt::Clock;
@@ -48,27 +47,28 @@ pub(crate) struct Whole {
 pub(crate) fn wholes<R: Wait + Clock, E: Catalogue + Drop>(
     rt: &R,
     alloc: Global,
-    site: &Site<'_, E>,
+    setup: &Setup<'_, E>,
     core: &mut Core<Key, Image>,
     seat: &mut GateSeat,
-    moments: &BTreeSet<Moment>,
-) -> Result<BTreeMap<Moment, Whole>, Memory>
-    requires site { IsSite E.meaning E.number_of site.now }
+    node_frames: &BTreeSet<NodeFrame>,
+) -> Result<BTreeMap<NodeFrame, Whole>, Memory>
+    requires setup { IsSetup E.meaning E.number_of setup.now }
     requires idle { IsIdle core.old }
-    requires free { IsFree site.now seat.old }
-    requires order { IsOrder (site_nodes E.meaning site.now) (length site.now.graph.now.nodes.items) moments.now }
-    ensures whole { IfOk result (AreWhole (site_nodes E.meaning site.now)) }
-    ensures kept { IfOk result (KeepsUnread (site_nodes E.meaning site.now) moments.now) }
-    ensures lands { let nodes = site_nodes E.meaning site.now in
-        OnOk result (core.new ≡ after_renders core.old (renders_of nodes moments.now.keys)) }
-    ensures once { OnOk result (IsOrdered moment_cmp moments.now) }
+    requires free { IsFree setup.now seat.old }
+    requires order { let count = length setup.now.graph.now.nodes.items in
+        IsOrder (setup_nodes E.meaning setup.now) count node_frames.now }
+    ensures whole { IfOk result (AreWhole (setup_nodes E.meaning setup.now)) }
+    ensures kept { IfOk result (KeepsUnread (setup_nodes E.meaning setup.now) node_frames.now) }
+    ensures lands { let nodes = setup_nodes E.meaning setup.now in
+        OnOk result (core.new ≡ after_renders core.old (renders_of nodes node_frames.now.keys)) }
+    ensures once { OnOk result (IsOrdered node_frame_cmp node_frames.now) }
     ensures drops { OnErr result (Drops core.old core.new) }
     ensures seat { seat.new ≡ seat.old }
 {
-    let last = last_readers(alloc, site.graph, moments)?;
+    let last = last_readers(alloc, setup.graph, node_frames)?;
     let mut made = BTreeMap::new(alloc);
-    for moment in moments {
-        make(rt, alloc, site, core, seat, &last, *moment, &mut made)?;
+    for node_frame in node_frames {
+        make(rt, alloc, setup, core, seat, &last, *node_frame, &mut made)?;
     }
     Ok(made)
 }
@@ -77,127 +77,90 @@ pub(crate) fn wholes<R: Wait + Clock, E: Catalogue + Drop>(
 fn make<R: Wait + Clock, E: Catalogue + Drop>(
     rt: &R,
     alloc: Global,
-    site: &Site<'_, E>,
+    setup: &Setup<'_, E>,
     core: &mut Core<Key, Image>,
     seat: &mut GateSeat,
-    last: &BTreeMap<Moment, Moment>,
-    moment: Moment,
-    made: &mut BTreeMap<Moment, Whole>,
+    last: &BTreeMap<NodeFrame, NodeFrame>,
+    node_frame: NodeFrame,
+    made: &mut BTreeMap<NodeFrame, Whole>,
 ) -> Result<(), Memory>
-    requires site { IsSite E.meaning E.number_of site.now }
-    requires place { IsPlace (length site.now.graph.now.nodes.items) moment.node moment.frame }
-    requires whole { AreWhole (site_nodes E.meaning site.now) made.old }
-    requires ready { IsReady (site_nodes E.meaning site.now moment.node) moment.frame made.old }
+    requires setup { IsSetup E.meaning E.number_of setup.now }
+    requires place { IsPlace (length setup.now.graph.now.nodes.items) node_frame.node node_frame.frame }
+    requires whole { AreWhole (setup_nodes E.meaning setup.now) made.old }
+    requires ready { IsReady (setup_nodes E.meaning setup.now node_frame.node) node_frame.frame made.old }
     requires idle { IsIdle core.old }
-    requires free { IsFree site.now seat.old }
-    ensures whole { OnOk result (AreWhole (site_nodes E.meaning site.now) made.new) }
-    ensures makes { OnOk result (Makes last.now moment made.old made.new) }
-    ensures lands { let nodes = site_nodes E.meaning site.now in
-        OnOk result (core.new ≡ after_renders core.old (renders_at nodes moment.node moment.frame)) }
+    requires free { IsFree setup.now seat.old }
+    ensures whole { OnOk result (AreWhole (setup_nodes E.meaning setup.now) made.new) }
+    ensures makes { OnOk result (Makes last.now node_frame made.old made.new) }
+    ensures lands { let nodes = setup_nodes E.meaning setup.now in
+        OnOk result (core.new ≡ after_renders core.old (renders_at nodes node_frame.node node_frame.frame)) }
     ensures drops { OnErr result (Drops core.old core.new) }
     ensures seat { seat.new ≡ seat.old }
 {
-    let whole = whole_of(rt, alloc, site, core, seat, made, moment)?;
-    made.insert(moment, whole)?;
-    let reads = reads_of(alloc, site.graph, moment)?;
-    let_go(&reads, moment, last, made);
+    let whole = whole_of(rt, alloc, setup, core, seat, made, node_frame)?;
+    made.insert(node_frame, whole)?;
+    let reads = reads_of(alloc, setup.graph, node_frame)?;
+    let_go(&reads, node_frame, last, made);
     Ok(())
 }
 
 fn whole_of<R: Wait + Clock, E: Catalogue + Drop>(
     rt: &R,
     alloc: Global,
-    site: &Site<'_, E>,
+    setup: &Setup<'_, E>,
     core: &mut Core<Key, Image>,
     seat: &mut GateSeat,
-    made: &BTreeMap<Moment, Whole>,
-    moment: Moment,
+    made: &BTreeMap<NodeFrame, Whole>,
+    node_frame: NodeFrame,
 ) -> Result<Whole, Memory>
-    requires site { IsSite E.meaning E.number_of site.now }
-    requires place { IsPlace (length site.now.graph.now.nodes.items) moment.node moment.frame }
-    requires whole { AreWhole (site_nodes E.meaning site.now) made.now }
-    requires ready { IsReady (site_nodes E.meaning site.now moment.node) moment.frame made.now }
+    requires setup { IsSetup E.meaning E.number_of setup.now }
+    requires place { IsPlace (length setup.now.graph.now.nodes.items) node_frame.node node_frame.frame }
+    requires whole { AreWhole (setup_nodes E.meaning setup.now) made.now }
+    requires ready { IsReady (setup_nodes E.meaning setup.now node_frame.node) node_frame.frame made.now }
     requires idle { IsIdle core.old }
-    requires free { IsFree site.now seat.old }
-    ensures whole { IfOk result (IsWhole (site_nodes E.meaning site.now) moment.node moment.frame) }
-    ensures lands { let nodes = site_nodes E.meaning site.now in
-        OnOk result (core.new ≡ after_renders core.old (renders_at nodes moment.node moment.frame)) }
+    requires free { IsFree setup.now seat.old }
+    ensures whole { IfOk result (IsWhole (setup_nodes E.meaning setup.now) node_frame.node node_frame.frame) }
+    ensures lands { let nodes = setup_nodes E.meaning setup.now in
+        OnOk result (core.new ≡ after_renders core.old (renders_at nodes node_frame.node node_frame.frame)) }
     ensures drops { OnErr result (Drops core.old core.new) }
     ensures seat { seat.new ≡ seat.old }
 {
-    let Moment { node: n, frame } = moment;
-    let node = &site.graph.nodes[n as usize];
-    match &node.work {
-        Work::Source {
-            first,
-            last,
-            hold,
-            ..
-        } => Ok(Whole {
-            area: area_shown(site.store, n, *first, *last, *hold, frame),
+    match node_at(setup.graph, node_frame.node) {
+        NodeAt::Source(source) => Ok(Whole {
+            area: source_area(setup.store, node_frame, source),
             images: Vec::new(alloc),
         }),
-        Work::Effect {
-            effect,
-            context,
-            clips,
-            names,
-            optional,
-            masks,
-            params,
-        } => {
-            let used = EffectNode {
-                place: n,
-                depth: node.depth,
-                components: node.components,
-                effect,
-                context: *context,
-                clips: clips.as_slice(),
-                names,
-                optional,
-                masks,
-                params: params.as_slice(),
-            };
-            effect_whole(rt, alloc, site, core, seat, made, &used, frame)
+        NodeAt::Effect(node) => {
+            let frame = node_frame.frame;
+            effect_whole(rt, alloc, setup, core, seat, made, &node, frame)
         }
-    }
-}
-
-// The rectangle of the frame that a source shows.
-fn area_shown(store: &Store, n: u32, first: u32, last: u32, hold: bool, frame: i64) -> Rect
-    requires { first ≤ last }
-    ensures { result ≡ area_shown (image_shown (held store.now n) (shown_frame first last hold frame)) }
-{
-    match image_shown(store, n, first, last, hold, frame) {
-        None => Rect::of(0, 0, 0, 0),
-        Some(image) => image.rect(),
     }
 }
 
 fn effect_whole<R: Wait + Clock, E: Catalogue + Drop>(
     rt: &R,
     alloc: Global,
-    site: &Site<'_, E>,
+    setup: &Setup<'_, E>,
     core: &mut Core<Key, Image>,
     seat: &mut GateSeat,
-    made: &BTreeMap<Moment, Whole>,
+    made: &BTreeMap<NodeFrame, Whole>,
     node: &EffectNode<'_, E>,
     frame: i64,
 ) -> Result<Whole, Memory>
-    requires site { IsSite E.meaning E.number_of site.now }
-    requires there { StandsIn (graph_shown site.now.graph.now) node.now }
+    requires setup { IsSetup E.meaning E.number_of setup.now }
+    requires there { StandsIn (graph_shown setup.now.graph.now) node.now }
     requires near { IsNearFrame node.now.place frame }
-    requires whole { AreWhole (site_nodes E.meaning site.now) made.now }
-    requires ready { IsReady (Effect (effect_at E.meaning site.now.graph.now.project node.now)) frame made.now }
+    requires whole { AreWhole (setup_nodes E.meaning setup.now) made.now }
+    requires ready { IsReady (Effect (effect_at E.meaning setup.now.graph.now.project node.now)) frame made.now }
     requires idle { IsIdle core.old }
-    requires free { IsFree site.now seat.old }
-    ensures whole { IfOk result (IsWhole (site_nodes E.meaning site.now) node.now.place frame) }
-    ensures lands { let nodes = site_nodes E.meaning site.now in
+    requires free { IsFree setup.now seat.old }
+    ensures whole { IfOk result (IsWhole (setup_nodes E.meaning setup.now) node.now.place frame) }
+    ensures lands { let nodes = setup_nodes E.meaning setup.now in
         OnOk result (core.new ≡ after_renders core.old (renders_at nodes node.now.place frame)) }
     ensures drops { OnErr result (Drops core.old core.new) }
     ensures seat { seat.new ≡ seat.old }
 {
-    let project = site.graph.project;
+    let project = setup.graph.project;
     let values = use_values(alloc, project, node.clips, node.params, frame)?;
     let reads = frames_read(alloc, node.effect, node.names, &values)?;
     let frames = reads.as_slice();
@@ -210,8 +173,8 @@ fn effect_whole<R: Wait + Clock, E: Catalogue + Drop>(
         &values,
         areas.as_slice(),
     )?;
-    let inputs = inputs_of(alloc, site, made, node, frame, frames)?;
-    let images = images_of(rt, alloc, site, core, seat, node, area, &values, &inputs)?;
+    let inputs = inputs_of(alloc, setup, made, node, frame, frames)?;
+    let images = images_of(rt, alloc, setup, core, seat, node, area, &values, &inputs)?;
     Ok(Whole { area, images })
 }
 
@@ -219,7 +182,7 @@ fn effect_whole<R: Wait + Clock, E: Catalogue + Drop>(
 fn images_of<R: Wait + Clock, E: Catalogue + Drop>(
     rt: &R,
     alloc: Global,
-    site: &Site<'_, E>,
+    setup: &Setup<'_, E>,
     core: &mut Core<Key, Image>,
     seat: &mut GateSeat,
     node: &EffectNode<'_, E>,
@@ -227,10 +190,11 @@ fn images_of<R: Wait + Clock, E: Catalogue + Drop>(
     values: &Values,
     inputs: &Inputs<'_>,
 ) -> Result<Vec<Arc<Image>>, Memory>
-    requires asked { IsAsked E.meaning E.number_of site.now node.now values.now inputs.now }
+    requires setup { IsSetup E.meaning E.number_of setup.now }
+    requires asked { IsAsked (graph_shown setup.now.graph.now) node.now values.now inputs.now }
     requires area { IsWindow area }
     requires idle { IsIdle core.old }
-    requires free { IsFree site.now seat.old }
+    requires free { IsFree setup.now seat.old }
     ensures windows { let m = E.meaning node.now.effect.now in let depth = node.now.depth in
         IfOk result (λ images.
         AreWindows m values.now inputs.now depth node.now.components area (map arc_value images.items)) }
@@ -241,7 +205,7 @@ fn images_of<R: Wait + Clock, E: Catalogue + Drop>(
     let cuts = cut(alloc, area)?;
     let mut images = Vec::new(alloc);
     for region in &cuts {
-        let image = window_of(rt, alloc, site, core, seat, node, *region, values, inputs)?;
+        let image = window_of(rt, alloc, setup, core, seat, node, *region, values, inputs)?;
         images.push(image)?;
     }
     Ok(images)

@@ -3,12 +3,14 @@ ghost use Rattle.std.specs.Prelude.{◌≡◌, ◌≤◌, ◌*◌, ◌∷◌, []
 ghost use Rattle.std.specs.Arc.{arc_value};
 ghost use Rattle.fx_base.specs.Rect.{IsNear, columns};
 ghost use Rattle.fx_image.specs.Stored.{pixel_size};
-ghost use Rattle.fx_eval.specs.Sites.{IsAsked, IsFree};
+ghost use Rattle.fx_scene.specs.Scenes.{graph_shown};
+ghost use Rattle.fx_scene.specs.Sites.{IsAsked};
+ghost use Rattle.fx_scene.specs.Windows.{IsWindowOf};
+ghost use Rattle.fx_eval.specs.Setups.{IsFree, IsSetup};
 ghost use Rattle.fx_eval.specs.Cuts.{IsCut};
-ghost use Rattle.fx_eval.specs.Filled.{IsWindowOf};
 ghost use Rattle.fx_eval.specs.Flights.{IsIdle, FliesAlone, Drops, after_renders, one_landed, one_dropped};
 
-use crate::site::{EffectNode, Site};
+use crate::setup::Setup;
 use fx_base::{Memory, Rect};
 use fx_core::{Answer, Core, Flight, Ticket};
 use fx_effect::{Catalogue, Inputs, Values};
@@ -16,6 +18,7 @@ use fx_gate::GateSeat;
 use fx_image::Image;
 use fx_pixel::{Components, Depth};
 use fx_scene::Key;
+use fx_scene::site::EffectNode;
 use std::alloc::Global;
 use std::rt::Clock;
 use std::sync::{Arc, Wait};
@@ -29,7 +32,7 @@ pub(crate) const MOST_ASKS: u64 = 1 << 62;
 pub(crate) fn window_of<R: Wait + Clock, E: Catalogue + Drop>(
     rt: &R,
     alloc: Global,
-    site: &Site<'_, E>,
+    setup: &Setup<'_, E>,
     core: &mut Core<Key, Image>,
     seat: &mut GateSeat,
     node: &EffectNode<'_, E>,
@@ -37,9 +40,10 @@ pub(crate) fn window_of<R: Wait + Clock, E: Catalogue + Drop>(
     values: &Values,
     inputs: &Inputs<'_>,
 ) -> Result<Arc<Image>, Memory>
-    requires asked { IsAsked E.meaning E.number_of site.now node.now values.now inputs.now }
+    requires setup { IsSetup E.meaning E.number_of setup.now }
+    requires asked { IsAsked (graph_shown setup.now.graph.now) node.now values.now inputs.now }
     requires region { IsCut region }
-    requires free { IsFree site.now seat.old }
+    requires free { IsFree setup.now seat.old }
     requires idle { IsIdle core.old }
     ensures window { let m = E.meaning node.now.effect.now in let c = node.now.components in
         IfOk result (λ image. IsWindowOf m values.now inputs.now node.now.depth c region (arc_value image)) }
@@ -48,12 +52,12 @@ pub(crate) fn window_of<R: Wait + Clock, E: Catalogue + Drop>(
     ensures seat { seat.new ≡ seat.old }
 {
     if core.totals().asks >= MOST_ASKS {
-        return unasked(rt, alloc, site, seat, node, region, values, inputs);
+        return unasked(rt, alloc, setup, seat, node, region, values, inputs);
     }
-    let key = site.scene.key(alloc, node.place, values.frame, region)?;
+    let key = setup.scene.key(alloc, node.place, values.frame, region)?;
     match core.ask(alloc, key)? {
         Answer::Fly(flight) => flown(
-            rt, alloc, site, core, seat, node, region, values, inputs, flight,
+            rt, alloc, setup, core, seat, node, region, values, inputs, flight,
         ),
         // Nothing is kept.
         Answer::Here(_) => unreachable!(),
@@ -66,29 +70,30 @@ pub(crate) fn window_of<R: Wait + Clock, E: Catalogue + Drop>(
 fn unasked<R: Wait + Clock, E: Catalogue + Drop>(
     rt: &R,
     alloc: Global,
-    site: &Site<'_, E>,
+    setup: &Setup<'_, E>,
     seat: &mut GateSeat,
     node: &EffectNode<'_, E>,
     region: Rect,
     values: &Values,
     inputs: &Inputs<'_>,
 ) -> Result<Arc<Image>, Memory>
-    requires asked { IsAsked E.meaning E.number_of site.now node.now values.now inputs.now }
+    requires setup { IsSetup E.meaning E.number_of setup.now }
+    requires asked { IsAsked (graph_shown setup.now.graph.now) node.now values.now inputs.now }
     requires region { IsCut region }
-    requires free { IsFree site.now seat.old }
+    requires free { IsFree setup.now seat.old }
     ensures window { let m = E.meaning node.now.effect.now in let c = node.now.components in
         IfOk result (λ image. IsWindowOf m values.now inputs.now node.now.depth c region (arc_value image)) }
     ensures seat { seat.new ≡ seat.old }
 {
     let mut ticket = Ticket {
-        scene: site.scene.number(),
+        scene: setup.scene.number(),
         number: 0,
         stamped: false,
     };
     let window = made(
         rt,
         alloc,
-        site,
+        setup,
         seat,
         node,
         region,
@@ -108,7 +113,7 @@ fn unasked<R: Wait + Clock, E: Catalogue + Drop>(
 fn flown<R: Wait + Clock, E: Catalogue + Drop>(
     rt: &R,
     alloc: Global,
-    site: &Site<'_, E>,
+    setup: &Setup<'_, E>,
     core: &mut Core<Key, Image>,
     seat: &mut GateSeat,
     node: &EffectNode<'_, E>,
@@ -117,9 +122,10 @@ fn flown<R: Wait + Clock, E: Catalogue + Drop>(
     inputs: &Inputs<'_>,
     flight: Flight<Key>,
 ) -> Result<Arc<Image>, Memory>
-    requires asked { IsAsked E.meaning E.number_of site.now node.now values.now inputs.now }
+    requires setup { IsSetup E.meaning E.number_of setup.now }
+    requires asked { IsAsked (graph_shown setup.now.graph.now) node.now values.now inputs.now }
     requires region { IsCut region }
-    requires free { IsFree site.now seat.old }
+    requires free { IsFree setup.now seat.old }
     requires alone { FliesAlone core.old flight }
     ensures window { let m = E.meaning node.now.effect.now in let c = node.now.components in
         IfOk result (λ image. IsWindowOf m values.now inputs.now node.now.depth c region (arc_value image)) }
@@ -131,7 +137,7 @@ fn flown<R: Wait + Clock, E: Catalogue + Drop>(
     match made(
         rt,
         alloc,
-        site,
+        setup,
         seat,
         node,
         region,
@@ -177,7 +183,7 @@ fn landed(
 fn made<R: Wait + Clock, E: Catalogue + Drop>(
     rt: &R,
     alloc: Global,
-    site: &Site<'_, E>,
+    setup: &Setup<'_, E>,
     seat: &mut GateSeat,
     node: &EffectNode<'_, E>,
     region: Rect,
@@ -185,9 +191,10 @@ fn made<R: Wait + Clock, E: Catalogue + Drop>(
     inputs: &Inputs<'_>,
     ticket: &mut Ticket,
 ) -> Result<Arc<Image>, Memory>
-    requires asked { IsAsked E.meaning E.number_of site.now node.now values.now inputs.now }
+    requires setup { IsSetup E.meaning E.number_of setup.now }
+    requires asked { IsAsked (graph_shown setup.now.graph.now) node.now values.now inputs.now }
     requires region { IsCut region }
-    requires free { IsFree site.now seat.old }
+    requires free { IsFree setup.now seat.old }
     ensures window { let m = E.meaning node.now.effect.now in let c = node.now.components in
         IfOk result (λ image. IsWindowOf m values.now inputs.now node.now.depth c region (arc_value image)) }
     ensures number { ticket.new.number ≡ ticket.old.number }
@@ -196,8 +203,16 @@ fn made<R: Wait + Clock, E: Catalogue + Drop>(
 {
     let row_bytes = row_bytes_of(region, node.depth, node.components);
     let mut image = Image::new(alloc, region, node.depth, node.components, row_bytes)?;
-    site.life.render_image(
-        rt, alloc, site.gates, seat, node.place, values, inputs, ticket, &mut image,
+    setup.life.render_image(
+        rt,
+        alloc,
+        setup.gates,
+        seat,
+        node.place,
+        values,
+        inputs,
+        ticket,
+        &mut image,
     )?;
     Ok(Arc::new(alloc, image)?)
 }

@@ -19,9 +19,6 @@ pub chosen_either : (P : Bounds → Type 0) (nodes : Nodes) (n : ℕ) (t : ℤ) 
     → P (chosen nodes n t cut)
 chosen_either P nodes n t cut here whole = by_node P (nodes n) (area nodes n t) cut here whole
 
+-- what is chosen holds the cut
 pub is_choice : (nodes : Nodes) → IsChoice nodes (chosen nodes)
-is_choice nodes =
-    record {
-      holds = λ n t cut inside. chosen_either (IsWithin cut) nodes n t cut (λ x y h. h) inside;
-      inside = λ n t cut inside. chosen_either (λ q. IsWithin q (area nodes n t)) nodes n t cut inside (λ x y h. h);
-    }
+is_choice nodes n t cut inside = chosen_either (IsWithin cut) nodes n t cut (λ x y h. h) inside

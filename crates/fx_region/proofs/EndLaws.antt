@@ -2,7 +2,8 @@
 use Rattle.std.proofs.Common.{◌≡◌, ℕ, ◌<◌, ℤ, List, [], ◌∷◌, ◌++◌, get_or, Bool, true, false, cond, ◌&&◌, refl, sym, ap, ◌∙◌, Option, Some, None, inl, inr}
 use Rattle.std.proofs.lemmas.Bool.{cases_Bool, and_parts}
 use Rattle.fx_base.specs.Bounds.{Bounds}
-use Rattle.fx_base.specs.Rect.{Holds, is_empty, meet, within}
+use Rattle.fx_base.specs.Rect.{Holds, IsWithin, is_empty, meet, within}
+use Rattle.fx_base.proofs.RectLaws.{IsWithin-meet_second}
 use Rattle.fx_base.proofs.RectLemmas.{is_empty-holds, within-meet}
 use Rattle.fx_pixel.specs.declared.Depth.{Depth}
 use Rattle.fx_pixel.specs.declared.Depth.TheVariants.{Byte, Short}
@@ -27,7 +28,7 @@ use Rattle.fx_scene.proofs.Equations.{value_is}
 use Rattle.fx_scene.proofs.Outside.{given, not_in, not_within, outside_zero, value_formed}
 use Rattle.fx_scene.proofs.Places.{by_place}
 use Rattle.fx_scene.proofs.TableLemmas.{below_is}
-use Rattle.fx_region.specs.Ends.{Choice, EndShown, Ends, Frame, Render, Void, clip_end, cut_end, effect_end, effect_step, end_by, end_holds, end_pixel, frame_through, image_through, no_end, node_end, onward, source_end, source_step}
+use Rattle.fx_region.specs.Ends.{Choice, EndShown, Ends, Frame, IsChoice, Render, Void, clip_end, cut_end, effect_end, effect_step, end_by, end_holds, end_pixel, frame_through, image_through, no_end, node_end, onward, render_through, source_end, source_step}
 use Rattle.fx_region.specs.Suffice.{EndsSuffice, ShowsEnd}
 
 -- ---- the end of a node by those of the nodes that its clips are
@@ -165,6 +166,16 @@ frame_more (Source r) f through s to c x y = by_image (r.frames f)
     by_image None = sym (convert_zero s.depth to s.components c)
     by_image (Some image) = converted_more image.depth through s to c (pixel_at image x y)
 
+render_more : (nodes : Nodes) (node : ℕ) (f : ℤ) (region : Bounds) (through : List Step) (s : Step) (to : Depth)
+    (c : Components) (x y : ℤ)
+    → render_through nodes node f region (through ++ s ∷ []) to c x y
+    ≡ convert s.depth to c (render_through nodes node f region through s.depth s.components x y)
+render_more nodes node f region through s to c x y =
+    ap (λ (q : Pixel). cut_to region c q x y)
+    (converted_more (depth_at nodes node) through s to c (value nodes node f x y))
+    ∙ sym (convert_cond s.depth to s.components c (within region x y)
+    (converted (depth_at nodes node) through s.depth s.components (value nodes node f x y)))
+
 onward_pixel : (nodes : Nodes) (s : Step) (e : EndShown) (to : Depth) (c : Components) (x y : ℤ)
     → end_pixel nodes (onward s e) to c x y ≡ convert s.depth to c (end_pixel nodes e s.depth s.components x y)
 onward_pixel nodes s Void to c x y = sym (convert_zero s.depth to s.components c)
@@ -173,10 +184,9 @@ onward_pixel nodes s (Frame node frame region through) to c x y =
     ∙ sym (convert_cond s.depth to s.components c (within region x y)
     (frame_through (nodes node) frame through s.depth s.components x y))
 onward_pixel nodes s (Render node frame region cut through) to c x y =
-    ap (λ (q : Pixel). cut_to cut c q x y)
-    (converted_more (depth_at nodes node) through s to c (value nodes node frame x y))
+    ap (λ (q : Pixel). cut_to cut c q x y) (render_more nodes node frame region through s to c x y)
     ∙ sym (convert_cond s.depth to s.components c (within cut x y)
-    (converted (depth_at nodes node) through s.depth s.components (value nodes node frame x y)))
+    (render_through nodes node frame region through s.depth s.components x y))
 
 frame_shows : (s : SourceFrames) (o : Option Image) (to : Depth) (c : Components) (x y : ℤ)
     → image_through o (source_step s ∷ []) to c x y ≡ convert s.depth to c (frame_pixel s o x y)
@@ -210,17 +220,21 @@ plain : (o : EffectNode) (clip : ℕ) → is_mask (get_or (clip_names o.meaning.
     → seen o clip ≡ o.components
 plain o clip e = rw e refl
 
-module _ (choose : Choice) (nodes : Nodes) (ok : AreNodes nodes) where
+module _ (choose : Choice) (nodes : Nodes) (ok : AreNodes nodes) (is : IsChoice nodes choose) where
   effect_shows : (k : ℕ) (ends : Ends) (o : EffectNode) → IsEffectNode k o → nodes k ≡ Effect o
       → value nodes k ≡ node_value (depth_at nodes) (value nodes) (Effect o)
       → ((m : ℕ) → m < k → Shows nodes (depth_at nodes m) (value nodes m) (ends m))
-      → (t : ℤ) (r : Bounds) (p : Identity) → o.meaning.same (o.values t) r ≡ p → (to : Depth) (c : Components) (x y : ℤ)
+      → (t : ℤ) (r : Bounds) → IsWithin r (area nodes k t) → (p : Identity) → o.meaning.same (o.values t) r ≡ p
+      → (to : Depth) (c : Components) (x y : ℤ)
       → end_pixel nodes (effect_end choose ends k o t r p) to c x y
       ≡ cut_to r c (convert o.depth to c (node_value (depth_at nodes) (value nodes) (Effect o) t x y)) x y
-  effect_shows k ends o i e v h t r No s to c x y =
-      ap (λ (f : Pixels). cut_to r c (convert (depth_at nodes k) to c (f t x y)) x y) v
+  effect_shows k ends o i e v h t r inside No s to c x y =
+      cut_same r c (render_through nodes k t (choose k t r) [] to c x y)
+      (convert (depth_at nodes k) to c (value nodes k t x y)) x y
+      (λ w. let held : within (choose k t r) x y ≡ true = is k t r inside x y w in rw held refl)
+      ∙ ap (λ (f : Pixels). cut_to r c (convert (depth_at nodes k) to c (f t x y)) x y) v
       ∙ ap (λ (q : Node). cut_to r c (convert (node_depth q) to c (node_value (depth_at nodes) (value nodes) (Effect o) t x y)) x y) e
-  effect_shows k ends o i e v h t r (Same clip frame) s to c x y =
+  effect_shows k ends o i e v h t r inside (Same clip frame) s to c x y =
       let same = i.laws.identity_is_tap o.context (o.values t) r clip frame o.depth o.components
       (tap_value (depth_at nodes) (value nodes) o) (given nodes k (value nodes) o i (λ m l. value_formed nodes ok m) t) s in
       clip_shows nodes ends (value nodes) (effect_step o) (clip_node o clip) frame r to c x y
@@ -234,10 +248,12 @@ module _ (choose : Choice) (nodes : Nodes) (ok : AreNodes nodes) where
   node_shows : (k : ℕ) (ends : Ends) (node : Node) → IsNode k node → nodes k ≡ node
       → value nodes k ≡ node_value (depth_at nodes) (value nodes) node
       → ((m : ℕ) → m < k → Shows nodes (depth_at nodes m) (value nodes m) (ends m))
-      → Shows nodes (node_depth node) (node_value (depth_at nodes) (value nodes) node) (cut_end choose ends k node)
-  node_shows k ends (Source s) i e v h t r to c x y = source_shows nodes k s e (s.named t) r to c x y
-  node_shows k ends (Effect o) i e v h t r to c x y =
-      effect_shows k ends o i e v h t r (o.meaning.same (o.values t) r) refl to c x y
+      → (t : ℤ) (r : Bounds) → IsWithin r (area nodes k t) → (to : Depth) (c : Components) (x y : ℤ)
+      → end_pixel nodes (cut_end choose ends k node t r) to c x y
+      ≡ cut_to r c (convert (node_depth node) to c (node_value (depth_at nodes) (value nodes) node t x y)) x y
+  node_shows k ends (Source s) i e v h t r inside to c x y = source_shows nodes k s e (s.named t) r to c x y
+  node_shows k ends (Effect o) i e v h t r inside to c x y =
+      effect_shows k ends o i e v h t r inside (o.meaning.same (o.values t) r) refl to c x y
 
   void_shows : (r : Bounds) (b : Bool) (end : EndShown) (to : Depth) (c : Components) (p : Pixel) (x y : ℤ)
       → is_empty r ≡ b → end_pixel nodes end to c x y ≡ cut_to r c p x y
@@ -269,7 +285,7 @@ module _ (choose : Choice) (nodes : Nodes) (ok : AreNodes nodes) where
       ap (λ (q : EndShown). end_pixel nodes q to c x y) (end_is choose nodes ok n t r)
       ∙ void_shows r' (is_empty r') (cut_end choose ends n (nodes n) t r') to c
       (convert (depth_at nodes n) to c (value nodes n t x y)) x y refl
-      (node_shows n ends (nodes n) (ok n) refl (value_is nodes ok n) h t r' to c x y
+      (node_shows n ends (nodes n) (ok n) refl (value_is nodes ok n) h t r' (IsWithin-meet_second r (area nodes n t)) to c x y
       ∙ ap (λ (f : Pixels). cut_to r' c (convert (depth_at nodes n) to c (f t x y)) x y) (sym (value_is nodes ok n)))
       ∙ cut_area n t r to c x y)
 
@@ -303,4 +319,4 @@ module _ (choose : Choice) (nodes : Nodes) (ok : AreNodes nodes) where
       }
 
 pub ends_suffice : (nodes : Nodes) → AreNodes nodes → EndsSuffice nodes
-ends_suffice nodes ok choose n t r = shows_end choose nodes ok n t r
+ends_suffice nodes ok choose is n t r = shows_end choose nodes ok is n t r

@@ -2,7 +2,6 @@ pub mod ChoiceLaws
 pub mod EndLaws
 pub mod NeedLaws
 pub mod CountLaws
-pub mod SiteLemmas
 pub mod TableLemmas
 pub mod FollowLemmas
 pub mod DemandLemmas

@@ -22,22 +22,12 @@ use Rattle.fx_scene.specs.Areas.{area}
 use Rattle.fx_scene.specs.Frames.{clip_frames}
 use Rattle.fx_scene.specs.Nodes.{AreNodes, Effect, EffectNode, IsEffectNode, IsNode, Nodes, clip_node, components_at, depth_at, seen}
 use Rattle.fx_scene.specs.Value.{clip_value, tap_value, value}
-use Rattle.fx_scene.proofs.Members.{All-flat, In, all_in, in_flat, in_of, in_range}
+use Rattle.fx_scene.proofs.Members.{All-flat, In, contained, all_in, in_flat, in_of, in_range}
 use Rattle.fx_scene.proofs.Outside.{Covered, in_frames, not_within, outside_zero}
-use Rattle.fx_region.specs.Ends.{Choice, EndShown, Frame, Render, Void, end_by, end_holds, end_pixel}
+use Rattle.fx_region.specs.Ends.{Choice, EndShown, Frame, IsChoice, Render, Void, end_by, end_holds, end_pixel}
 use Rattle.fx_region.specs.Needs.{NeedShown, clip_needs, frame_needs, need_holds, needed, needs_at, needs_pixel, node_needs, tile_needs}
 use Rattle.fx_region.specs.Suffice.{NeedsSuffice, ShowsTaps}
 use Rattle.fx_region.proofs.EndLaws.{end_inside, end_shows}
-
--- ---- members
-
--- what is in a list is contained
-contained : {X : Type 0} (xs : List X) (y : X) → In xs y → Contains xs y
-contained [] y h = absurd h
-contained (x ∷ xs) y h = elim h [
-  | inl e ↦ (0, omega arith, e)
-  | inr i ↦ let at = contained xs y i in (suc at.0, (let low = at.1 in omega (arith, low)), at.2)
-]
 
 meet_in : (a b : Bounds) (x y : ℤ) → Holds a x y → Holds b x y → Holds (meet a b) x y
 meet_in a b x y h k = within-meet a b x y ∙ and_from _ _ h k
@@ -92,7 +82,7 @@ found_in g xs z k q p i h = elim h [
   | inr n ↦ inr (n.0, in_flat g xs z n.0 i n.1, n.2)
 ]
 
-module _ (choose : Choice) (nodes : Nodes) (ok : AreNodes nodes) where
+module _ (choose : Choice) (nodes : Nodes) (ok : AreNodes nodes) (choice : IsChoice nodes choose) where
   -- ---- each need shows its clip's value where it has the place
 
   -- the value of a clip, at the depth of the effect and the components of the clip
@@ -117,7 +107,7 @@ module _ (choose : Choice) (nodes : Nodes) (ok : AreNodes nodes) where
       → end_holds (end_by choose nodes m f r) x y ≡ true
       → end_pixel nodes (end_by choose nodes m f r) d k x y ≡ convert (depth_at nodes m) d k (value nodes m f x y)
   end_true m f r d k x y h =
-      end_shows choose nodes ok m f r d k x y ∙ (let e = end_inside choose nodes ok m f r x y h in rw e refl)
+      end_shows choose nodes ok choice m f r d k x y ∙ (let e = end_inside choose nodes ok m f r x y h in rw e refl)
 
   clip_true : (o : EffectNode) (side : ℕ) (interest : Bounds) (c : ℕ) (frames : List ℤ) (p : Option ℕ)
       → clip_node o c ≡ p → All (IsTrueNeed o) (clip_needs (end_by choose nodes) (area nodes) side interest c frames p)
@@ -151,7 +141,7 @@ module _ (choose : Choice) (nodes : Nodes) (ok : AreNodes nodes) where
       let r = meet b (area nodes m f) in
       let inside : within r x y ≡ true = meet_in b (area nodes m f) x y (Holds-tile_at side x y some) a in
       let shows : end_pixel nodes (end_by choose nodes m f r) d k x y ≡ convert (depth_at nodes m) d k (value nodes m f x y) =
-      end_shows choose nodes ok m f r d k x y ∙ (rw inside refl) in
+      end_shows choose nodes ok choice m f r d k x y ∙ (rw inside refl) in
       let wanted = meet interest (area nodes m f) in
       found_in (tile_needs (end_by choose nodes) (area nodes) c m f) (tiles_of side wanted) b k
       (convert (depth_at nodes m) d k (value nodes m f x y)) (tap c f x y)
@@ -255,4 +245,4 @@ module _ (choose : Choice) (nodes : Nodes) (ok : AreNodes nodes) where
       }
 
 pub needs_suffice : (nodes : Nodes) → AreNodes nodes → NeedsSuffice nodes
-needs_suffice nodes ok choose side n o t r some is = shows_taps choose nodes ok side n o t r some is
+needs_suffice nodes ok choose choice side n o t r some is = shows_taps choose nodes ok choice side n o t r some is

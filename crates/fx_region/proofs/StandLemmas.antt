@@ -15,7 +15,6 @@ use Rattle.fx_scene.specs.Frames.{clip_frames}
 use Rattle.fx_scene.specs.Nodes.{AreNodes, Effect, EffectNode, IsEffectNode, IsNode, Node, Nodes, Source, SourceFrames, clip_node}
 use Rattle.fx_scene.specs.Reach.{IsReadBy}
 use Rattle.fx_scene.proofs.Members.{In}
-use Rattle.fx_scene.proofs.NearLemmas.{listed_frames}
 use Rattle.fx_scene.proofs.Places.{by_place}
 use Rattle.fx_region.specs.Ends.{EndShown, Frame, Render, Void, chosen, clip_end, cut_end, effect_end, effect_step, end_of, onward, source_end}
 use Rattle.fx_region.specs.Follow.{GoesToRead, clip_stand}
@@ -26,7 +25,7 @@ use Rattle.fx_region.specs.declared.regions.Regions.{Regions}
 use Rattle.fx_region.proofs.ChoiceLaws.{chosen_either}
 use Rattle.fx_region.proofs.EndLaws.{end_is}
 use Rattle.fx_region.proofs.FollowLemmas.{same_read}
-use Rattle.fx_region.proofs.TableLemmas.{listed}
+use Rattle.fx_scene.proofs.NearLemmas.{listed, listed_frames}
 
 -- what is not empty is not the rectangle of no pixel
 not_none : (r : Bounds) → is_empty r ≡ false → r ≢ none

@@ -39,11 +39,10 @@ Ends = ℕ → ℤ → Bounds → EndShown
 abbrev pub Choice : Type 0
 Choice = ℕ → ℤ → Bounds → Bounds
 
--- of a cut of a node's area it holds the cut, and lies in the area
-pub record IsChoice (nodes : Nodes) (choose : Choice) : Type 0 where
-  pub holds : (n : ℕ) (t : ℤ) (cut : Bounds) → IsWithin cut (area nodes n t) → IsWithin cut (choose n t cut)
-  pub inside : (n : ℕ) (t : ℤ) (cut : Bounds) → IsWithin cut (area nodes n t)
-      → IsWithin (choose n t cut) (area nodes n t)
+-- what is rendered for a cut of a node's area holds the cut
+abbrev pub IsChoice : Nodes → Choice → Type 0
+IsChoice nodes choose =
+    (n : ℕ) (t : ℤ) (cut : Bounds) → IsWithin cut (area nodes n t) → IsWithin cut (choose n t cut)
 
 -- of an effect that renders no parts of an image the whole area, and else the cut alone (OpenFX 1.4,
 -- kOfxImageEffectPropSupportsTiles)
@@ -122,10 +121,15 @@ abbrev pub frame_through : Node → ℤ → List Step → Depth → Components �
 frame_through (Source s) f through to c x y = image_through (s.frames f) through to c x y
 frame_through (Effect o) f through to c x y = zero c
 
+-- the pixel of a render of a region: the node's value there, and nothing outside of the region
+abbrev pub render_through : Nodes → ℕ → ℤ → Bounds → List Step → Depth → Components → ℤ → ℤ → Pixel
+render_through nodes node frame region through to c x y =
+    if within region x y then converted (depth_at nodes node) through to c (value nodes node frame x y) else zero c
+
 -- the pixel of an end at a place, after its conversions and a last one, and zero where it doesn't have the place
 abbrev pub end_pixel : Nodes → EndShown → Depth → Components → ℤ → ℤ → Pixel
 end_pixel nodes Void to c x y = zero c
 end_pixel nodes (Frame node frame region through) to c x y =
     if within region x y then frame_through (nodes node) frame through to c x y else zero c
 end_pixel nodes (Render node frame region cut through) to c x y =
-    if within cut x y then converted (depth_at nodes node) through to c (value nodes node frame x y) else zero c
+    if within cut x y then render_through nodes node frame region through to c x y else zero c

@@ -2,7 +2,6 @@ pub mod Ends
 pub mod Needs
 pub mod Suffice
 pub mod Counts
-pub mod Sites
 pub mod Tables
 pub mod Follow
 pub mod Stands

@@ -9,7 +9,7 @@ use Rattle.fx_effect.specs.Tap.{Tap}
 use Rattle.fx_scene.specs.Nodes.{EffectNode, Effect, Nodes, components_at, depth_at, seen}
 use Rattle.fx_scene.specs.Areas.{area}
 use Rattle.fx_scene.specs.Value.{tap_value, value}
-use Rattle.fx_region.specs.Ends.{Choice, EndShown, end_by, end_holds, end_pixel}
+use Rattle.fx_region.specs.Ends.{Choice, EndShown, IsChoice, end_by, end_holds, end_pixel}
 use Rattle.fx_region.specs.Needs.{NeedShown, need_holds, needs_pixel, node_needs}
 
 -- An end shows a region of a node at a frame: it has places of the region alone; where it has a place it shows the
@@ -23,10 +23,11 @@ pub record ShowsEnd (nodes : Nodes) (n : ℕ) (t : ℤ) (r : Bounds) (e : EndSho
       → end_pixel nodes e to c x y ≡ convert (depth_at nodes n) to c (value nodes n t x y)
   pub zero : (x y : ℤ) → Holds r x y → end_holds e x y ≡ false → value nodes n t x y ≡ zero (components_at nodes n)
 
--- the end of each region of each node at each frame, whatever region is rendered for a cut
+-- the end of each region of each node at each frame, whatever region that holds the cut is rendered for it
 abbrev pub EndsSuffice : Nodes → Type 0
 EndsSuffice nodes =
-    (choose : Choice) (n : ℕ) (t : ℤ) (r : Bounds) → ShowsEnd nodes n t r (end_by choose nodes n t r)
+    (choose : Choice) → IsChoice nodes choose → (n : ℕ) (t : ℤ) (r : Bounds)
+    → ShowsEnd nodes n t r (end_by choose nodes n t r)
 
 -- one of the needs has the place that the tap reads
 pub record NeedsHold (needs : List NeedShown) (p : Tap) : Type 0 where
@@ -43,8 +44,8 @@ pub record ShowsTaps (nodes : Nodes) (o : EffectNode) (t : ℤ) (r : Bounds) (ne
   pub first : (x y : ℤ) (p : Tap) → Holds r x y → Contains (o.meaning.taps (o.values t) x y) p
       → needs_pixel nodes o.depth (seen o p.clip) needs p ≡ tap_value (depth_at nodes) (value nodes) o p
 
--- the needs of each region of each effect at each frame, by each grid, whatever region is rendered for a cut
+-- the needs of each region of each effect at each frame, by each grid, whatever region that holds a cut is rendered
 abbrev pub NeedsSuffice : Nodes → Type 0
 NeedsSuffice nodes =
-    (choose : Choice) (side n : ℕ) (o : EffectNode) (t : ℤ) (r : Bounds) → 0 < side → nodes n ≡ Effect o
-    → ShowsTaps nodes o t r (node_needs (end_by choose nodes) (area nodes) side (Effect o) t r)
+    (choose : Choice) → IsChoice nodes choose → (side n : ℕ) (o : EffectNode) (t : ℤ) (r : Bounds) → 0 < side
+    → nodes n ≡ Effect o → ShowsTaps nodes o t r (node_needs (end_by choose nodes) (area nodes) side (Effect o) t r)

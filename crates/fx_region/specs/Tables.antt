@@ -8,20 +8,19 @@ use Rattle.std.specs.declared.alloc.Global.{Global}
 use Rattle.std.specs.declared.vec.Vec.{Vec}
 use Rattle.fx_base.specs.Bounds.{Bounds}
 use Rattle.fx_effect.specs.Meaning.{Meaning}
-use Rattle.fx_scene.specs.declared.reaching.Moment.{Moment}
+use Rattle.fx_scene.specs.declared.reaching.NodeFrame.{NodeFrame}
 use Rattle.fx_scene.specs.Areas.{area}
-use Rattle.fx_scene.specs.Frames.{clip_frames, items_of}
 use Rattle.fx_scene.specs.Nodes.{Effect, EffectNode, Node, Nodes, Source}
-use Rattle.fx_scene.specs.Reach.{IsPlace, IsReached, IsReadBy, has, moment, moment_cmp}
+use Rattle.fx_scene.specs.Reach.{IsPlace, IsReached, IsReadBy, has, node_frame, node_frame_cmp}
 use Rattle.fx_scene.specs.Scenes.{Shot}
-use Rattle.fx_region.specs.Sites.{scene_nodes}
+use Rattle.fx_scene.specs.Sites.{AreReads, scene_nodes}
 use Rattle.fx_region.specs.declared.regions.Asked.{Asked}
 use Rattle.fx_region.specs.declared.regions.Reached.{Reached}
 use Rattle.fx_region.specs.declared.regions.Regions.{Regions}
 
 -- what the table has of a node at a frame
 abbrev pub known : Regions → ℕ → ℤ → Option Reached
-known regions n t = get moment_cmp regions.reached (moment n t)
+known regions n t = get node_frame_cmp regions.reached (node_frame n t)
 
 -- the region of a node at a frame, where the table has it
 abbrev pub look : Regions → ℕ → ℤ → Option Bounds
@@ -34,10 +33,6 @@ Has regions n t = IsSome (known regions n t)
 -- each region is the node's area at the frame
 abbrev pub AreAreas : Nodes → Regions → Type 0
 AreAreas nodes regions = (n : ℕ) (t : ℤ) (r : Bounds) → look regions n t ≡ Some r → r ≡ area nodes n t
-
--- for each clip the frames that are read of it
-abbrev pub AreReads : EffectNode → ℤ → List (Vec ℤ Global) → Type 0
-AreReads o t reads = map items_of reads ≡ map (clip_frames o t) (range_with_len 0 (length o.clips))
 
 -- how a node is asked at a frame: an effect with its values there, for the frames that it reads
 abbrev pub IsAskedSo : Node → ℤ → Option Asked → Type 0
@@ -77,17 +72,18 @@ pub record IsTable (nodes : Nodes) (count : ℕ) (regions : Regions) : Type 0 wh
   pub places : (n : ℕ) (t : ℤ) → Has regions n t → IsPlace count n t
 
 -- near places, with all that is read at them
-pub record IsOrder (nodes : Nodes) (count : ℕ) (moments : BTreeSet Moment) : Type 0 where
-  pub places : (n : ℕ) (t : ℤ) → has moments n t ≡ true → IsPlace count n t
+pub record IsOrder (nodes : Nodes) (count : ℕ) (node_frames : BTreeSet NodeFrame) : Type 0 where
+  pub places : (n : ℕ) (t : ℤ) → has node_frames n t ≡ true → IsPlace count n t
   pub reads :
-      (n : ℕ) (t : ℤ) → has moments n t ≡ true → (m : ℕ) (f : ℤ) → IsReadBy (nodes n) t m f → has moments m f ≡ true
+      (n : ℕ) (t : ℤ) → has node_frames n t ≡ true → (m : ℕ) (f : ℤ) → IsReadBy (nodes n) t m f
+      → has node_frames m f ≡ true
 
--- exactly these moments, each with its node's area and with how it is asked
-pub record AreAreasOf (nodes : Nodes) (moments : BTreeSet Moment) (regions : Regions) : Type 0 where
+-- exactly these nodes at frames, each with its node's area and with how it is asked
+pub record AreAreasOf (nodes : Nodes) (node_frames : BTreeSet NodeFrame) (regions : Regions) : Type 0 where
   pub right : AreAreas nodes regions
   pub asked : AreAskedSo nodes regions
-  pub all : (n : ℕ) (t : ℤ) → has moments n t ≡ true → Has regions n t
-  pub only : (n : ℕ) (t : ℤ) → Has regions n t → has moments n t ≡ true
+  pub all : (n : ℕ) (t : ℤ) → has node_frames n t ≡ true → Has regions n t
+  pub only : (n : ℕ) (t : ℤ) → Has regions n t → has node_frames n t ≡ true
 
 -- for each clip the effect's region of interest for a region
 abbrev pub IsInterest : EffectNode → ℤ → Bounds → List Bounds → Type 0

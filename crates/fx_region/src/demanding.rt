@@ -9,19 +9,19 @@ ghost use Rattle.fx_scene.specs.Reach.{IsNearFrame};
 ghost use Rattle.fx_scene.specs.Scenes.{graph_shown};
 ghost use Rattle.fx_region.specs.Ends.{end_of, end_shown};
 ghost use Rattle.fx_region.specs.Needs.{clip_needs, frame_needs, need_shown, needed, needs_of, node_needs, tile_needs};
-ghost use Rattle.fx_region.specs.Sites.{StandsIn, effect_at, scene_nodes, site_nodes};
+ghost use Rattle.fx_scene.specs.Sites.{AreReads, StandsIn, effect_at, scene_nodes, site_nodes};
 ghost use Rattle.fx_region.specs.Stands.{NeedStands};
 ghost use Rattle.fx_region.specs.Suffice.{ShowsTaps};
-ghost use Rattle.fx_region.specs.Tables.{AreReads, Has, HasClip, HasReads, IsAskedSo, IsInterest, IsMadeOf, IsTable};
+ghost use Rattle.fx_region.specs.Tables.{Has, HasClip, HasReads, IsAskedSo, IsInterest, IsMadeOf, IsTable};
 
 use crate::ends::Need;
 use crate::regions::{Asked, Regions};
-use crate::site::{EffectNode, NodeAt, Site, node_at, site_of};
 use crate::tiles::add_tiles;
 use fx_actions::Asking;
 use fx_base::{Grid, Memory, Rect};
 use fx_effect::Catalogue;
 use fx_scene::Scene;
+use fx_scene::site::{EffectNode, NodeAt, Site, node_at, site_of};
 use std::alloc::Global;
 
 // Room for so many needs is made at once: a region of the size of a tile seldom has more.

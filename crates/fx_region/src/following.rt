@@ -9,17 +9,17 @@ ghost use Rattle.fx_scene.specs.Nodes.{AreNodes, Effect, IsEffectNode, SourceFra
 ghost use Rattle.fx_scene.specs.Reach.{IsPlace};
 ghost use Rattle.fx_region.specs.Ends.{Choice, Ends, chosen, cut_end, effect_end, end_of, end_shown, onward, source_end, source_step, whole_or_cut};
 ghost use Rattle.fx_region.specs.Follow.{GoesToRead, clip_stand, stand_end};
-ghost use Rattle.fx_region.specs.Sites.{effect_at, scene_nodes, site_nodes};
+ghost use Rattle.fx_scene.specs.Sites.{effect_at, scene_nodes, site_nodes};
 ghost use Rattle.fx_region.specs.Stands.{StandsBelow};
 ghost use Rattle.fx_region.specs.Suffice.{ShowsEnd};
 ghost use Rattle.fx_region.specs.Tables.{Has, IsAskedSo, IsMadeOf, IsTable};
 
 use crate::ends::End;
 use crate::regions::{Reached, Regions};
-use crate::site::{EffectNode, NodeAt, Site, node_at, site_of};
 use fx_actions::Asking;
 use fx_base::{Memory, Rect};
 use fx_effect::{Catalogue, Identity, Step, Steps, Values};
+use fx_scene::site::{EffectNode, NodeAt, Site, node_at, site_of};
 use fx_scene::{Scene, shown_frame};
 use std::alloc::Global;
 

@@ -3,12 +3,15 @@ ghost use Rattle.std.specs.Prelude.{ℕ, ℤ};
 ghost use Rattle.fx_base.specs.Bounds.{Bounds};
 ghost use Rattle.fx_scene.specs.Nodes.{Nodes, AreNodes};
 ghost use Rattle.fx_region.specs.Counts.{IsSumOfKinds, tile_counts};
+ghost use Rattle.fx_region.specs.Ends.{IsChoice, chosen};
 ghost use Rattle.fx_region.specs.Suffice.{EndsSuffice, NeedsSuffice};
 
-/// Where a region of a node ends, its value is shown there, whatever region that holds the cut is rendered. It
+/// Where a region of a node ends, its value is shown there, whatever region that holds the cut is rendered: so where it
+/// is the whole region of definition of effects that render no parts of an image, and the cut of the others. It
 /// computes nothing.
 pub fn ends_suffice()
-    ensures { (nodes : Nodes) → AreNodes nodes → EndsSuffice nodes }
+    ensures shown { (nodes : Nodes) → AreNodes nodes → EndsSuffice nodes }
+    ensures chosen { (nodes : Nodes) → IsChoice nodes (chosen nodes) }
 {}
 
 /// What a region of an effect needs shows each tap of its pixels. It computes nothing.

@@ -7,7 +7,6 @@ mod ends;
 mod following;
 pub mod laws;
 mod regions;
-pub mod site;
 mod tiles;
 
 pub use demanding::{demand, demand_by};

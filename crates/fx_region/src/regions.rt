@@ -1,29 +1,24 @@
 //! The regions of definition of the nodes that are reached.
 ghost use Rattle.std.specs.Prelude.{◌≡◌, ◌≤◌, ◌≤ℤ◌, ◌∷◌, ℕ, ℤ, List, pos, neg_ℤ, Some, length, map, All, IfOk, IsSome, OnOk};
 ghost use Rattle.std.specs.BTreeMap.{Updates};
-ghost use Rattle.std.specs.Option.{option_copied};
-ghost use Rattle.fx_base.specs.Bounds.{none};
 ghost use Rattle.fx_base.specs.Rect.{Holds};
 ghost use Rattle.fx_base.specs.declared.limits.TheConstants.{LAST_FRAME};
 ghost use Rattle.fx_pixel.specs.Pixel.{zero};
-ghost use Rattle.fx_seq.specs.Held.{held};
 ghost use Rattle.fx_graph.specs.Kept.{use_values};
 ghost use Rattle.fx_scene.specs.Areas.{area, clip_area, clip_areas, hull_all};
 ghost use Rattle.fx_scene.specs.Frames.{frames_of};
 ghost use Rattle.fx_scene.specs.Nodes.{AreNodes, Effect, Nodes, components_at};
-ghost use Rattle.fx_scene.specs.Reach.{IsNearFrame, IsPlace, moment_cmp};
-ghost use Rattle.fx_scene.specs.Scenes.{graph_shown, shown_frame};
+ghost use Rattle.fx_scene.specs.Reach.{IsNearFrame, IsPlace, node_frame_cmp};
+ghost use Rattle.fx_scene.specs.Scenes.{graph_shown};
 ghost use Rattle.fx_scene.specs.Value.{value};
-ghost use Rattle.fx_region.specs.Sites.{StandsIn, area_shown, effect_at, image_shown, scene_nodes, site_nodes};
-ghost use Rattle.fx_region.specs.Tables.{AreAreas, AreAreasOf, AreAskedSo, AreReads, AreRegions, Has, HasClip, HasReads, IsAskedSo, IsOrder, known, look};
+ghost use Rattle.fx_scene.specs.Sites.{AreReads, StandsIn, effect_at, scene_nodes, site_nodes};
+ghost use Rattle.fx_region.specs.Tables.{AreAreas, AreAreasOf, AreAskedSo, AreRegions, Has, HasClip, HasReads, IsAskedSo, IsOrder, known, look};
 
-use crate::site::{EffectNode, NodeAt, Site, SourceNode, node_at, site_of};
 use fx_actions::region_of_definition;
 use fx_base::{Memory, Rect};
 use fx_effect::{Catalogue, ImageEffect, Values};
-use fx_image::Image;
-use fx_scene::{Moment, Scene, frames_read, reach, shown_frame, use_values};
-use fx_seq::Store;
+use fx_scene::site::{EffectNode, NodeAt, Site, node_at, site_of, source_area};
+use fx_scene::{NodeFrame, Scene, frames_read, reach, use_values};
 use std::alloc::Global;
 use std::collections::{BTreeMap, BTreeSet};
 
@@ -31,7 +26,7 @@ use std::collections::{BTreeMap, BTreeSet};
 /// pixels, and how an effect is asked there. Contracts see what the table has of a node at a frame.
 #[derive(Drop)]
 pub struct Regions {
-    reached: BTreeMap<Moment, Reached>,
+    reached: BTreeMap<NodeFrame, Reached>,
 }
 
 /// What is known of a node at a frame: its region of definition, and of an effect how it is asked there.
@@ -74,8 +69,8 @@ impl Regions {
             IfOk result (AreRegions nodes count scene.now.graph.output frame) }
     {
         let site = site_of(scene);
-        let moments = reach(alloc, site.graph, frame, frame)?;
-        fill(alloc, &site, &moments)
+        let node_frames = reach(alloc, site.graph, frame, frame)?;
+        fill(alloc, &site, &node_frames)
     }
 
     /// The region of definition of a node at a frame at which it is reached.
@@ -96,7 +91,7 @@ impl Regions {
         ensures area { (nodes : Nodes) → AreAreas nodes self.now → result.now.area ≡ area nodes node frame }
         ensures asked { (nodes : Nodes) → AreAskedSo nodes self.now → IsAskedSo (nodes node) frame result.now.asked }
     {
-        match self.reached.get(&Moment { node, frame }) {
+        match self.reached.get(&NodeFrame { node, frame }) {
             Some(reached) => reached,
             None => unreachable!(),
         }
@@ -107,26 +102,26 @@ impl Regions {
 fn fill<E: Catalogue>(
     alloc: Global,
     site: &Site<'_, E>,
-    moments: &BTreeSet<Moment>,
+    node_frames: &BTreeSet<NodeFrame>,
 ) -> Result<Regions, Memory>
     requires nodes { AreNodes (site_nodes E.meaning site.now) }
-    requires order { IsOrder (site_nodes E.meaning site.now) (length site.now.graph.now.nodes.items) moments.now }
-    ensures { IfOk result (AreAreasOf (site_nodes E.meaning site.now) moments.now) }
+    requires order { IsOrder (site_nodes E.meaning site.now) (length site.now.graph.now.nodes.items) node_frames.now }
+    ensures { IfOk result (AreAreasOf (site_nodes E.meaning site.now) node_frames.now) }
 {
     let mut regions = Regions {
         reached: BTreeMap::new(alloc),
     };
-    for moment in moments {
-        let reached = reached_at(alloc, site, &regions, *moment)?;
-        put(&mut regions, *moment, reached)?;
+    for node_frame in node_frames {
+        let reached = reached_at(alloc, site, &regions, *node_frame)?;
+        put(&mut regions, *node_frame, reached)?;
     }
     Ok(regions)
 }
 
-fn put(regions: &mut Regions, moment: Moment, reached: Reached) -> Result<(), Memory>
-    ensures { OnOk result (Updates moment_cmp regions.old.reached regions.new.reached moment (Some reached)) }
+fn put(regions: &mut Regions, node_frame: NodeFrame, reached: Reached) -> Result<(), Memory>
+    ensures { OnOk result (Updates node_frame_cmp regions.old.reached regions.new.reached node_frame (Some reached)) }
 {
-    regions.reached.insert(moment, reached)?;
+    regions.reached.insert(node_frame, reached)?;
     Ok(())
 }
 
@@ -135,45 +130,22 @@ fn reached_at<E: Catalogue>(
     alloc: Global,
     site: &Site<'_, E>,
     regions: &Regions,
-    moment: Moment,
+    node_frame: NodeFrame,
 ) -> Result<Reached, Memory>
     requires nodes { AreNodes (site_nodes E.meaning site.now) }
-    requires place { IsPlace (length site.now.graph.now.nodes.items) moment.node moment.frame }
+    requires place { IsPlace (length site.now.graph.now.nodes.items) node_frame.node node_frame.frame }
     requires right { AreAreas (site_nodes E.meaning site.now) regions.now }
-    requires reads { HasReads regions.now (site_nodes E.meaning site.now moment.node) moment.frame }
-    ensures area { IfOk result (λ r. r.area ≡ area (site_nodes E.meaning site.now) moment.node moment.frame) }
-    ensures asked { IfOk result (λ r. IsAskedSo (site_nodes E.meaning site.now moment.node) moment.frame r.asked) }
+    requires reads { HasReads regions.now (site_nodes E.meaning site.now node_frame.node) node_frame.frame }
+    ensures area { IfOk result (λ r. r.area ≡ area (site_nodes E.meaning site.now) node_frame.node node_frame.frame) }
+    ensures asked { let node = site_nodes E.meaning site.now node_frame.node in
+        IfOk result (λ r. IsAskedSo node node_frame.frame r.asked) }
 {
-    match node_at(site.graph, moment.node) {
+    match node_at(site.graph, node_frame.node) {
         NodeAt::Source(source) => Ok(Reached {
-            area: source_area(site.store, moment, source),
+            area: source_area(site.store, node_frame, source),
             asked: None,
         }),
-        NodeAt::Effect(node) => effect_reached(alloc, site, regions, &node, moment.frame),
-    }
-}
-
-// The rectangle of the frame that a source shows.
-fn source_area(store: &Store, moment: Moment, source: SourceNode) -> Rect
-    requires { source.first ≤ source.last }
-    ensures { let named = shown_frame source.first source.last source.hold moment.frame in
-        result ≡ area_shown (image_shown (held store.now moment.node) named) }
-{
-    match image_shown(store, moment, source) {
-        None => Rect::of(0, 0, 0, 0),
-        Some(image) => image.rect(),
-    }
-}
-
-// The image that a source shows at a frame, if it shows one that was fetched.
-fn image_shown<'s>(store: &'s Store, moment: Moment, source: SourceNode) -> Option<&'s Image>
-    requires { source.first ≤ source.last }
-    ensures { let named = shown_frame source.first source.last source.hold moment.frame in
-        option_copied result ≡ image_shown (held store.now moment.node) named }
-{
-    match shown_frame(source.first, source.last, source.hold, moment.frame) {
-        None => None,
-        Some(frame) => store.frame(moment.node, i64::from(frame)),
+        NodeAt::Effect(node) => effect_reached(alloc, site, regions, &node, node_frame.frame),
     }
 }
 

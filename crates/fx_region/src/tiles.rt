@@ -7,16 +7,16 @@ ghost use Rattle.fx_scene.specs.Areas.{area};
 ghost use Rattle.fx_scene.specs.Nodes.{AreNodes};
 ghost use Rattle.fx_region.specs.Ends.{end_of, end_shown};
 ghost use Rattle.fx_region.specs.Needs.{frame_needs, need_shown, needed, tile_needs};
-ghost use Rattle.fx_region.specs.Sites.{site_nodes};
+ghost use Rattle.fx_scene.specs.Sites.{site_nodes};
 ghost use Rattle.fx_region.specs.Tables.{Has, IsTable};
 
 use crate::ends::{End, Need};
 use crate::following::find;
 use crate::regions::Regions;
-use crate::site::Site;
 use fx_actions::Asking;
 use fx_base::{Grid, Memory, Rect};
 use fx_effect::Catalogue;
+use fx_scene::site::Site;
 use std::alloc::Global;
 
 /// Adds each tile that is needed of a node at a frame.

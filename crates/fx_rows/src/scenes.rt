@@ -4,7 +4,7 @@ use crate::worked::Whole;
 use fx_base::Memory;
 use fx_graph::{Graph, accept};
 use fx_scene::laws::{value_depends_on_reach, value_is_mix, zero_outside_area};
-use fx_scene::{Moment, reach, reads_of, shown_frame, wants};
+use fx_scene::{NodeFrame, reach, reads_of, shown_frame, wants};
 use fx_seq::Wanted;
 use fx_shipped::Shipped;
 use fx_text::{GraphFault, read_graph};
@@ -147,10 +147,13 @@ fn the_frames_that_are_reached_are_wanted(rt: HostRuntime) -> Result<(), Fail> {
 }
 
 // Node and frame of each.
-fn told_moments(alloc: Global, moments: &BTreeSet<Moment>) -> Result<String, AllocError> {
+fn told_node_frames(
+    alloc: Global,
+    node_frames: &BTreeSet<NodeFrame>,
+) -> Result<String, AllocError> {
     let mut text = String::new(alloc);
-    for moment in moments {
-        let (node, frame) = (moment.node, moment.frame);
+    for node_frame in node_frames {
+        let (node, frame) = (node_frame.node, node_frame.frame);
         let one = format!(in alloc; "{node} {frame}, ")?;
         text.push_str(one.as_str())?;
     }
@@ -161,10 +164,10 @@ fn told_moments(alloc: Global, moments: &BTreeSet<Moment>) -> Result<String, All
 fn what_is_reached_stands_by_node_and_frame(rt: HostRuntime) -> Result<(), Fail> {
     let alloc = rt.alloc();
     let graph = graph_of(alloc, TEN, TWICE).ok().ok_or("refused")?;
-    let moments = reach(alloc, &graph, 4, 4)?;
+    let node_frames = reach(alloc, &graph, 4, 4)?;
     same(
         &rt,
-        told_moments(alloc, &moments)?.as_str(),
+        told_node_frames(alloc, &node_frames)?.as_str(),
         "0 2, 0 3, 0 4, 0 5, 0 6, 1 3, 1 4, 1 5, 2 4, ",
     );
     same(&rt, reach(alloc, &graph, 4, 3)?.len(), 0);
@@ -234,11 +237,11 @@ fn read_by(
     graph: &Graph<Shipped>,
     node: u32,
     frame: i64,
-) -> Result<BTreeSet<Moment>, Memory> {
+) -> Result<BTreeSet<NodeFrame>, Memory> {
     if node as usize >= graph.nodes.len() || frame < -9 || 99 < frame {
         return Err(Memory);
     }
-    reads_of(alloc, graph, Moment { node, frame })
+    reads_of(alloc, graph, NodeFrame { node, frame })
 }
 
 #[test]
@@ -250,7 +253,7 @@ fn a_node_reads_its_clips(rt: HostRuntime) -> Result<(), Fail> {
         same_at(
             &rt,
             &(&node, &frame, &effects),
-            told_moments(alloc, &reads)?.as_str(),
+            told_node_frames(alloc, &reads)?.as_str(),
             *expected,
         );
     }
@@ -287,7 +290,7 @@ fn a_deep_diamond_is_reached_by_its_edges(rt: HostRuntime) -> Result<(), Fail> {
     let nodes = deep_diamond(alloc, source, 63)?;
     let graph = graph_of(alloc, nodes.as_str(), "").ok().ok_or("refused")?;
     // The blend and the merge of the level that is k below the highest are reached at 2 k + 1 frames, in all at
-    // 2 * 63^2 moments; the output at one, and the source at 127.
+    // 2 * 63^2 nodes at frames; the output at one, and the source at 127.
     same(&rt, reach(alloc, &graph, 300, 300)?.len(), 8066);
     let wanted = wants(alloc, &graph, 300, 300)?;
     same(&rt, wanted.len(), 127);

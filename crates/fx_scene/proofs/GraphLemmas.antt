@@ -24,7 +24,7 @@ use Rattle.fx_graph.specs.Shown as does
 use Rattle.fx_graph.specs.Nodes.{Form}
 use Rattle.fx_graph.specs.Kept as kept
 use Rattle.fx_graph.specs.KeptLaws.{lawful_use}
-use Rattle.fx_scene.specs.declared.reaching.Moment.{Moment}
+use Rattle.fx_scene.specs.declared.reaching.NodeFrame.{NodeFrame}
 use Rattle.fx_scene.specs.Frames.{frames_of, has_frame, in_some}
 use Rattle.fx_scene.specs.Nodes.{AreNodes, Effect, EffectNode, IsFrameImage, Node, Nodes, Source, clip_node}
 use Rattle.fx_scene.specs.Reach.{Adds, IsClipRead, IsReadBy, IsTakenBy}
@@ -128,7 +128,7 @@ taken_clip o t names reads n f are all r =
 -- what is added of an effect
 pub effect_adds : {E : Type 0} (meaning : E → Meaning) (g : GraphShown E) (k : ℕ) (n : Shown E) (e : E) (context : Context)
     (clips : List (Option ℕ)) (names : List (List ℕ)) (optional masks : List Bool) (params : List Parameter) (t : ℤ)
-    (values : Values) (reads : List (List ℤ)) (old new : BTreeSet Moment)
+    (values : Values) (reads : List (List ℤ)) (old new : BTreeSet NodeFrame)
     → slice_get g.nodes k ≡ Some n → n.does ≡ does.Effect e context clips names optional masks params
     → values ≡ kept.use_values g.project t clips params
     → reads ≡ each_clip names (λ c. frames_of ((meaning e).spans values c)) → length names ≡ length clips
@@ -144,7 +144,7 @@ effect_adds meaning g k n e context clips names optional masks params t values r
 
 -- of a source nothing is
 pub source_adds : {E : Type 0} (meaning : E → Meaning) (g : GraphShown E) (k : ℕ) (n : Shown E) (pattern : List ℕ)
-    (first last : ℕ) (hold : Bool) (t : ℤ) (old : BTreeSet Moment) → slice_get g.nodes k ≡ Some n
+    (first last : ℕ) (hold : Bool) (t : ℤ) (old : BTreeSet NodeFrame) → slice_get g.nodes k ≡ Some n
     → n.does ≡ does.Source pattern first last hold → Adds (IsReadBy (graph_nodes meaning g no_images k) t) old old
 source_adds meaning g k n pattern first last hold t old there is =
     let same = node_is meaning g no_images k n (does.Source pattern first last hold) there is in

@@ -15,3 +15,6 @@ pub mod StepLemmas
 pub mod WantLemmas
 pub mod DependLemmas
 pub mod StoreLemmas
+pub mod SiteLemmas
+pub mod ClipLemmas
+pub mod FrameLaws

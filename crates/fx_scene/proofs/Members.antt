@@ -27,6 +27,14 @@ in_at (x ∷ xs) y (suc k) l e = inr (in_at xs y k (omega arith) e)
 pub in_of : {X : Type 0} (xs : List X) (y : X) → Contains xs y → In xs y
 in_of xs y c = in_at xs y c.0 c.1 c.2
 
+-- what is in a list is contained
+pub contained : {X : Type 0} (xs : List X) (y : X) → In xs y → Contains xs y
+contained [] y h = absurd h
+contained (x ∷ xs) y h = elim h [
+  | inl e ↦ (0, omega arith, e)
+  | inr i ↦ let at = contained xs y i in (suc at.0, (let low = at.1 in omega (arith, low)), at.2)
+]
+
 pub all_in : {X : Type 0} (P : X → Type 0) (xs : List X) (y : X) → All P xs → In xs y → P y
 all_in P [] y a h = absurd h
 all_in {X} P (x ∷ xs) y a h = elim h [ inl e ↦ subst P e (All-head P x xs a) | inr i ↦ all_in P xs y (All-tail P x xs a) i ]

@@ -20,14 +20,15 @@ le_of : (a b : ℤ) → le_z a b ≡ true → a ≤ℤ b
 le_of a b h = grind (arith, ints)
 
 -- the span in which a frame lies
-some_span : (ps : List (ℤ × ℤ)) (f : ℤ) → in_some ps f ≡ true → (p : ℤ × ℤ) × In ps p × (p.0 ≤ℤ f) × (f ≤ℤ p.1)
+pub some_span : (ps : List (ℤ × ℤ)) (f : ℤ) → in_some ps f ≡ true → (p : ℤ × ℤ) × In ps p × (p.0 ≤ℤ f) × (f ≤ℤ p.1)
 some_span [] f h = absurd (false≢true h)
 some_span (q ∷ qs) f h = elim (or_cases (le_z q.0 f && le_z f q.1) (in_some qs f) h) [
   | inl e ↦ let both = and_parts (le_z q.0 f) (le_z f q.1) e in (q, inl refl, le_of q.0 f both.0, le_of f q.1 both.1)
   | inr e ↦ let r = some_span qs f e in (r.0, inr r.1, r.2, r.3)
 ]
 
-listed : (fs : List ℤ) (f : ℤ) → In fs f → has_frame fs f ≡ true
+-- what is in the list is listed
+pub listed : (fs : List ℤ) (f : ℤ) → In fs f → has_frame fs f ≡ true
 listed [] f h = absurd h
 listed (g ∷ fs) f h = elim h [
   | inl e ↦ or_left (int_eq g f) (has_frame fs f) (subst (λ (k : ℤ). int_eq k f ≡ true) (sym e) (own_frame f))

@@ -5,11 +5,11 @@ use Rattle.std.proofs.lemmas.Bool.{or_cases, or_left, or_right, cases_eq, cases_
 use Rattle.std.proofs.lemmas.List.{take_more, get_or-take, length-take-le, get_or_default, get_or-map, length-map}
 use Rattle.std.specs.Ordering.{int_eq}
 use Rattle.std.specs.BTreeSet.{BTreeSet, Updates}
-use Rattle.fx_scene.specs.declared.reaching.Moment.{Moment}
+use Rattle.fx_scene.specs.declared.reaching.NodeFrame.{NodeFrame}
 use Rattle.std.specs.declared.alloc.Global.{Global}
 use Rattle.std.specs.declared.vec.Vec.{Vec}
 use Rattle.fx_scene.specs.Frames.{has_frame, items_of}
-use Rattle.fx_scene.specs.Reach.{Adds, IsClipRead, has, moment, moment_cmp}
+use Rattle.fx_scene.specs.Reach.{Adds, IsClipRead, has, node_frame, node_frame_cmp}
 use Rattle.fx_scene.proofs.ReachLemmas.{IsAt, adds_as, adds_none, adds_one, adds_then}
 
 pub same_frame : (f t : ℤ) → int_eq f t ≡ true → t ≡ f
@@ -38,14 +38,14 @@ last_one [] f = or_left (int_eq f f) false (own_frame f)
 last_one (g ∷ fs) f = or_right (int_eq g f) (has_frame (fs ++ f ∷ []) f) (last_one fs f)
 
 -- a node at the first frames, and at one more
-pub one_frame : (node : ℕ) (frames : List ℤ) (i : ℕ) (f : ℤ) (first old new : BTreeSet Moment)
+pub one_frame : (node : ℕ) (frames : List ℤ) (i : ℕ) (f : ℤ) (first old new : BTreeSet NodeFrame)
     → i < length frames → f ≡ get_or frames i (pos 0)
     → Adds (λ n t. (n ≡ node) × (has_frame (take i frames) t ≡ true)) first old
-    → Updates moment_cmp old new (moment node f) true
+    → Updates node_frame_cmp old new (node_frame node f) true
     → Adds (λ n t. (n ≡ node) × (has_frame (take (i + 1) frames) t ≡ true)) first new
 one_frame node frames i f first old new low is a u =
     subst (λ (fs : List ℤ). Adds (λ n t. (n ≡ node) × (has_frame fs t ≡ true)) first new) (sym front)
-    (adds_then _ (IsAt (moment node f)) _ first old new a (adds_one old new (moment node f) u)
+    (adds_then _ (IsAt (node_frame node f)) _ first old new a (adds_one old new (node_frame node f) u)
     (λ n t h. (h.0, before (take i frames) f t h.1))
     (λ n t h. (h.0, subst (λ (g : ℤ). has_frame (take i frames ++ f ∷ []) g ≡ true) (sym h.1) (last_one (take i frames) f)))
     (λ n t h. elim (behind (take i frames) f t h.1) [ inl e ↦ inl (h.0, e) | inr e ↦ inr (h.0, e) ]))
@@ -54,13 +54,13 @@ one_frame node frames i f first old new low is a u =
     front = take_more frames i (pos 0) low ∙ ap (λ (g : ℤ). take i frames ++ g ∷ []) (sym is)
 
 -- a node at the frames before f, and at f
-pub one_of_range : (node : ℕ) (low last f : ℤ) (first old new : BTreeSet Moment) → low ≤ℤ f → f ≤ℤ last
+pub one_of_range : (node : ℕ) (low last f : ℤ) (first old new : BTreeSet NodeFrame) → low ≤ℤ f → f ≤ℤ last
     → Adds (λ n t. (n ≡ node) × (low ≤ℤ t) × (t ≤ℤ last) × (t <ℤ f)) first old
-    → Updates moment_cmp old new (moment node f) true
+    → Updates node_frame_cmp old new (node_frame node f) true
     → Adds (λ n t. (n ≡ node) × (low ≤ℤ t) × (t ≤ℤ last) × (t <ℤ (f +ℤ pos 1))) first new
 one_of_range node low last f first old new from to a u =
-    adds_then (λ n t. (n ≡ node) × (low ≤ℤ t) × (t ≤ℤ last) × (t <ℤ f)) (IsAt (moment node f))
-    (λ n t. (n ≡ node) × (low ≤ℤ t) × (t ≤ℤ last) × (t <ℤ (f +ℤ pos 1))) first old new a (adds_one old new (moment node f) u)
+    adds_then (λ n t. (n ≡ node) × (low ≤ℤ t) × (t ≤ℤ last) × (t <ℤ f)) (IsAt (node_frame node f))
+    (λ n t. (n ≡ node) × (low ≤ℤ t) × (t ≤ℤ last) × (t <ℤ (f +ℤ pos 1))) first old new a (adds_one old new (node_frame node f) u)
     (λ n t h. let d = h.3 in (h.0, h.1, h.2, omega (arith, ints, d)))
     (λ n t h. let e = h.1 in (h.0, omega (arith, ints, e), omega (arith, ints, e), omega (arith, ints, e)))
     (λ n t h. elim (below_or_at t f h.3) [ inl e ↦ inl (h.0, h.1, h.2, e) | inr e ↦ inr (h.0, e) ])
@@ -69,7 +69,7 @@ one_of_range node low last f first old new from to a u =
     below_or_at t f h = grind (arith, ints)
 
 -- all before the end
-pub whole_range : (node : ℕ) (low last f : ℤ) (first new : BTreeSet Moment) → (last +ℤ pos 1) ≤ℤ f
+pub whole_range : (node : ℕ) (low last f : ℤ) (first new : BTreeSet NodeFrame) → (last +ℤ pos 1) ≤ℤ f
     → Adds (λ n t. (n ≡ node) × (low ≤ℤ t) × (t ≤ℤ last) × (t <ℤ f)) first new
     → Adds (λ n t. (n ≡ node) × (low ≤ℤ t) × (t ≤ℤ last)) first new
 whole_range node low last f first new past a =
@@ -136,7 +136,7 @@ clip_itself clips reads i frames n t low is node frame =
     }
 
 -- the reads of one clip more
-pub one_clip : (clips : List (Option ℕ)) (reads : List (List ℤ)) (c : ℕ) (frames : List ℤ) (first old new : BTreeSet Moment)
+pub one_clip : (clips : List (Option ℕ)) (reads : List (List ℤ)) (c : ℕ) (frames : List ℤ) (first old new : BTreeSet NodeFrame)
     → c < length reads → frames ≡ get_or reads c []
     → Adds (IsClipRead clips (take c reads)) first old
     → Adds (λ n t. (slice_index_or clips c None ≡ Some n) × (has_frame frames t ≡ true)) old new

@@ -1,4 +1,4 @@
--- Moments by their rank, which falls with each that is taken, so that the search for what is reached ends.
+-- NodeFrames by their rank, which falls with each that is taken, so that the search for what is reached ends.
 use Rattle.std.proofs.Common.{◌≡◌, ℕ, zero, suc, ◌<◌, ◌≤◌, ◌+◌, ◌-◌, ◌*◌, ℤ, pos, negsuc, neg_ℤ, ◌≤ℤ◌, ◌<ℤ◌, ◌+ℤ◌, Bool, true, false, List, [], ◌∷◌, refl, sym, ap, ◌∙◌, subst, arith, ◌⊎◌, inl, inr, All, max}
 use Rattle.std.proofs.lemmas.Int.{ints}
 use Rattle.std.proofs.lemmas.Bool.{or_cases, or_left, or_right, false≢true}
@@ -12,10 +12,10 @@ use Rattle.std.specs.Ordering.{nat_cmp, int_cmp, ordering_then, MatchOrdering}
 use Rattle.std.specs.BTreeMap.{is_at}
 use Rattle.std.specs.BTreeSet.{BTreeSet}
 use Rattle.fx_base.specs.declared.limits.TheConstants.{MOST_NODES}
-use Rattle.fx_scene.specs.declared.reaching.Moment.{Moment}
-use Rattle.fx_scene.specs.Reach.{IsNearFrame, IsPlace, has, moment, moment_cmp}
+use Rattle.fx_scene.specs.declared.reaching.NodeFrame.{NodeFrame}
+use Rattle.fx_scene.specs.Reach.{IsNearFrame, IsPlace, has, node_frame, node_frame_cmp}
 use Rattle.fx_scene.proofs.Members.{In, gap_is}
-use Rattle.fx_scene.proofs.ReachLemmas.{exact_moments, moments_total}
+use Rattle.fx_scene.proofs.ReachLemmas.{exact_node_frames, node_frames_total}
 
 -- how far a frame is behind the first that is near
 abbrev pub offset : ℤ → ℕ
@@ -46,10 +46,10 @@ rank_earlier n t f low a b =
     omega (arith, less)
 
 -- what a comparison says
-abbrev pub IsLower : Moment → Moment → Type 0
+abbrev pub IsLower : NodeFrame → NodeFrame → Type 0
 IsLower p q = (p.node < q.node) ⊎ ((p.node ≡ q.node) × (p.frame <ℤ q.frame))
 
-lower_by : (p q : Moment) (a b : Ordering) → MatchOrdering a (p.node < q.node) (p.node ≡ q.node) (q.node < p.node)
+lower_by : (p q : NodeFrame) (a b : Ordering) → MatchOrdering a (p.node < q.node) (p.node ≡ q.node) (q.node < p.node)
     → MatchOrdering b (p.frame <ℤ q.frame) (p.frame ≡ q.frame) (q.frame <ℤ p.frame) → ordering_then a b ≡ Less → IsLower p q
 lower_by p q Less b x y e = inl x
 lower_by p q Equal Less x y e = inr (x, y)
@@ -57,12 +57,12 @@ lower_by p q Equal Equal x y e = absurd cc
 lower_by p q Equal Greater x y e = absurd cc
 lower_by p q Greater b x y e = absurd cc
 
-pub is_lower : (p q : Moment) → moment_cmp p q ≡ Less → IsLower p q
+pub is_lower : (p q : NodeFrame) → node_frame_cmp p q ≡ Less → IsLower p q
 is_lower p q e =
     lower_by p q (nat_cmp p.node q.node) (int_cmp p.frame q.frame) (ranked p.node q.node (nat_cmp p.node q.node) refl)
     (int_ranked p.frame q.frame (int_cmp p.frame q.frame) refl) e
 
-pub rank_lower : (count : ℕ) (p q : Moment) → IsLower p q → IsPlace count p.node p.frame → IsPlace count q.node q.frame
+pub rank_lower : (count : ℕ) (p q : NodeFrame) → IsLower p q → IsPlace count p.node p.frame → IsPlace count q.node q.frame
     → rank p.node p.frame < rank q.node q.frame
 rank_lower count p q h a b = elim h [
   | inl low ↦ rank_below p.node q.node p.frame q.frame low a.near
@@ -72,47 +72,47 @@ rank_lower count p q h a b = elim h [
 
 -- ---- the members of a set
 
-found : (m : Moment) (ks : List Moment) → list_any (is_at (moment_cmp m)) ks ≡ true → In ks m
+found : (m : NodeFrame) (ks : List NodeFrame) → list_any (is_at (node_frame_cmp m)) ks ≡ true → In ks m
 found m [] h = absurd (false≢true h)
-found m (k ∷ ks) h = elim (or_cases (is_at (moment_cmp m) k) (list_any (is_at (moment_cmp m)) ks) h) [
-  | inl e ↦ inl (sym (exact_moments m k ((Equal-is _).0 e)))
+found m (k ∷ ks) h = elim (or_cases (is_at (node_frame_cmp m) k) (list_any (is_at (node_frame_cmp m)) ks) h) [
+  | inl e ↦ inl (sym (exact_node_frames m k ((Equal-is _).0 e)))
   | inr e ↦ inr (found m ks e)
 ]
 
-at_itself : (m : Moment) → is_at (moment_cmp m) m ≡ true
-at_itself m = (Equal-is _).1 (tied_itself moments_total m)
+at_itself : (m : NodeFrame) → is_at (node_frame_cmp m) m ≡ true
+at_itself m = (Equal-is _).1 (tied_itself node_frames_total m)
 
-finds : (m : Moment) (ks : List Moment) → In ks m → list_any (is_at (moment_cmp m)) ks ≡ true
+finds : (m : NodeFrame) (ks : List NodeFrame) → In ks m → list_any (is_at (node_frame_cmp m)) ks ≡ true
 finds m [] h = absurd h
 finds m (k ∷ ks) h = elim h [
-  | inl e ↦ or_left (is_at (moment_cmp m) k) (list_any (is_at (moment_cmp m)) ks)
-      (subst (λ (p : Moment). is_at (moment_cmp m) p ≡ true) (sym e) (at_itself m))
-  | inr i ↦ or_right (is_at (moment_cmp m) k) (list_any (is_at (moment_cmp m)) ks) (finds m ks i)
+  | inl e ↦ or_left (is_at (node_frame_cmp m) k) (list_any (is_at (node_frame_cmp m)) ks)
+      (subst (λ (p : NodeFrame). is_at (node_frame_cmp m) p ≡ true) (sym e) (at_itself m))
+  | inr i ↦ or_right (is_at (node_frame_cmp m) k) (list_any (is_at (node_frame_cmp m)) ks) (finds m ks i)
 ]
 
--- a moment that the set has is one of its keys
-pub key_of : (s : BTreeSet Moment) (n : ℕ) (t : ℤ) → has s n t ≡ true → In s.keys (moment n t)
-key_of s n t h = found (moment n t) s.keys h
+-- a node at a frame that the set has is one of its keys
+pub key_of : (s : BTreeSet NodeFrame) (n : ℕ) (t : ℤ) → has s n t ≡ true → In s.keys (node_frame n t)
+key_of s n t h = found (node_frame n t) s.keys h
 
-pub has_key : (s : BTreeSet Moment) (m : Moment) → In s.keys m → has s m.node m.frame ≡ true
+pub has_key : (s : BTreeSet NodeFrame) (m : NodeFrame) → In s.keys m → has s m.node m.frame ≡ true
 has_key s m i = finds m s.keys i
 
 -- ---- above all ranks
 
-abbrev pub top : List Moment → ℕ
+abbrev pub top : List NodeFrame → ℕ
 top [] = 0
 top (k ∷ ks) = max (suc (rank k.node k.frame)) (top ks)
 
-pub top_least : (ks : List Moment) (above : ℕ) → ((k : Moment) → In ks k → rank k.node k.frame < above) → top ks ≤ above
+pub top_least : (ks : List NodeFrame) (above : ℕ) → ((k : NodeFrame) → In ks k → rank k.node k.frame < above) → top ks ≤ above
 top_least [] above h = omega arith
 top_least (k ∷ ks) above h =
     let here = h k (inl refl) in
     let rest = top_least ks above (λ j i. h j (inr i)) in
     omega (arith, here, rest)
 
-pub top_above : (ks : List Moment) (m : Moment) → In ks m → rank m.node m.frame < top ks
+pub top_above : (ks : List NodeFrame) (m : NodeFrame) → In ks m → rank m.node m.frame < top ks
 top_above [] m h = absurd h
 top_above (k ∷ ks) m h = elim h [
-  | inl e ↦ subst (λ (p : Moment). rank p.node p.frame < top (k ∷ ks)) e (omega arith)
+  | inl e ↦ subst (λ (p : NodeFrame). rank p.node p.frame < top (k ∷ ks)) e (omega arith)
   | inr i ↦ let rest = top_above ks m i in omega (arith, rest)
 ]

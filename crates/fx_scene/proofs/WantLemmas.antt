@@ -1,4 +1,4 @@
--- The frames that are wanted, moment by moment.
+-- The frames that are wanted, one after the other.
 use Rattle.std.proofs.Common.{◌≡◌, ◌≢◌, ℕ, zero, suc, ◌<◌, ◌≤◌, ◌+◌, ◌-◌, ℤ, pos, negsuc, ◌≤ℤ◌, ◌<ℤ◌, Bool, true, false, ◌&&◌, ◌||◌, nat_eq, cond, List, [], ◌∷◌, ◌++◌, length, get_or, slice_get, Option, Some, None, refl, sym, ap, ◌∙◌, subst, arith, ◌⊎◌, inl, inr, All, AllPairs}
 use Rattle.std.proofs.lemmas.Int.{ints, clamps}
 use Rattle.std.proofs.lemmas.Bool.{and_parts, cases_Bool, false≢true}
@@ -23,9 +23,9 @@ use Rattle.fx_seq.specs.Filling.{IsApart}
 use Rattle.fx_seq.specs.declared.wanted.Wanted.{Wanted}
 use Rattle.fx_graph.specs.Shown.{Does, GraphShown, Shown}
 use Rattle.fx_graph.specs.Shown as does
-use Rattle.fx_scene.specs.declared.reaching.Moment.{Moment}
+use Rattle.fx_scene.specs.declared.reaching.NodeFrame.{NodeFrame}
 use Rattle.fx_scene.specs.Nodes.{Effect, Node, Nodes, Source}
-use Rattle.fx_scene.specs.Reach.{IsReach, IsReached, has, moment, moment_cmp}
+use Rattle.fx_scene.specs.Reach.{IsReach, IsReached, has, node_frame, node_frame_cmp}
 use Rattle.fx_scene.specs.Scenes.{graph_nodes, is_between, nearest, no_images, node_of, shown_frame}
 use Rattle.fx_scene.specs.Wants.{AreWanted, IsBefore, IsNamedBy, IsNamedIn, IsWanted, Lists, Shows, WantsIn, WantsShown, entry, is_last, is_of, with_entry, with_shown}
 use Rattle.fx_scene.proofs.GraphLemmas.{node_is}
@@ -192,7 +192,7 @@ shown_natural first last hold t f e =
     let is = shown_is first last hold t f e in
     natural f (subst (λ (z : ℤ). pos 0 ≤ℤ z) is (omega (arith, ints, clamps)))
 
--- ---- the frames that the moments show
+-- ---- the frames that the nodes at frames show
 
 module _ {E : Type 0} (meaning : E → Meaning) (g : GraphShown E) where
   abbrev nodes_in : Nodes
@@ -207,7 +207,7 @@ module _ {E : Type 0} (meaning : E → Meaning) (g : GraphShown E) where
       → Shows (node_of meaning g.project (no_images k) n.depth n.components n.does) t f → Shows (nodes_in k) t f
   shows_out k n t f there h = subst (λ (node : Node). Shows node t f) (sym (node_is meaning g no_images k n n.does there refl)) h
 
-  -- a later moment shows no earlier frame
+  -- a later node at a frame shows no earlier frame
   does_rise : (k : ℕ) (d : Depth) (c : Components) (work : Does E) (t u f h : ℤ) → t ≤ℤ u
       → Shows (node_of meaning g.project (no_images k) d c work) t f
       → Shows (node_of meaning g.project (no_images k) d c work) u h → f ≤ℤ h
@@ -216,42 +216,42 @@ module _ {E : Type 0} (meaning : E → Meaning) (g : GraphShown E) where
       (subst (λ (z : ℤ). nearest first last t ≤ℤ z) (shown_is first last hold u h b) (nearest_rises first last t u low))
   does_rise k d c (does.Effect e context clips names optional masks params) t u f h low a b = absurd a
 
-  -- what was wanted of the moments so far, where these are left
-  pub record IsWanting (moments : BTreeSet Moment) (rest : List Moment) (wanted : List Wanted) : Type 0 where
-    pub only : (w : Wanted) → In wanted w → (t : ℤ) × (has moments w.node t ≡ true) × Shows (nodes_in w.node) t w.frame
-    pub all : (n : ℕ) (t f : ℤ) → has moments n t ≡ true → Shows (nodes_in n) t f → Lists wanted n f ⊎ In rest (moment n t)
-    pub later : (w : Wanted) → In wanted w → (k : Moment) → In rest k → (f : ℤ) → Shows (nodes_in k.node) k.frame f
+  -- what was wanted of the nodes at frames so far, where these are left
+  pub record IsWanting (node_frames : BTreeSet NodeFrame) (rest : List NodeFrame) (wanted : List Wanted) : Type 0 where
+    pub only : (w : Wanted) → In wanted w → (t : ℤ) × (has node_frames w.node t ≡ true) × Shows (nodes_in w.node) t w.frame
+    pub all : (n : ℕ) (t f : ℤ) → has node_frames n t ≡ true → Shows (nodes_in n) t f → Lists wanted n f ⊎ In rest (node_frame n t)
+    pub later : (w : Wanted) → In wanted w → (k : NodeFrame) → In rest k → (f : ℤ) → Shows (nodes_in k.node) k.frame f
         → IsUpTo w k.node f
     pub rises : Rises wanted
     pub named : (w : Wanted) → In wanted w → IsNamedIn g w
-    pub sorted : IsStrictlySortedBy moment_cmp rest
-    pub within : (k : Moment) → In rest k → has moments k.node k.frame ≡ true
+    pub sorted : IsStrictlySortedBy node_frame_cmp rest
+    pub within : (k : NodeFrame) → In rest k → has node_frames k.node k.frame ≡ true
 
   -- before the first
-  pub wanting_start : (moments : BTreeSet Moment) → IsStrictlySortedBy moment_cmp moments.keys → IsWanting moments moments.keys []
-  wanting_start moments sorted =
+  pub wanting_start : (node_frames : BTreeSet NodeFrame) → IsStrictlySortedBy node_frame_cmp node_frames.keys → IsWanting node_frames node_frames.keys []
+  wanting_start node_frames sorted =
       record {
         only = λ w i. absurd i;
-        all = λ n t f h s. inr (key_of moments n t h);
+        all = λ n t f h s. inr (key_of node_frames n t h);
         later = λ w i. absurd i;
         rises = tt;
         named = λ w i. absurd i;
         sorted = sorted;
-        within = λ k i. has_key moments k i;
+        within = λ k i. has_key node_frames k i;
       }
 
   -- behind the last
-  pub wanting_end : (moments : BTreeSet Moment) (wanted : List Wanted) (output : ℕ) (first last : ℤ)
-      → IsReach nodes_in output first last (has moments) → IsWanting moments [] wanted
+  pub wanting_end : (node_frames : BTreeSet NodeFrame) (wanted : List Wanted) (output : ℕ) (first last : ℤ)
+      → IsReach nodes_in output first last (has node_frames) → IsWanting node_frames [] wanted
       → AreWanted nodes_in output first last wanted
-  wanting_end moments wanted output first last reach w =
+  wanting_end node_frames wanted output first last reach w =
       record {
         only = λ v c. let o = w.only v (in_of wanted v c) in record { at = o.0; reached = reach.only v.node o.0 o.1; shows = o.2 };
         all = λ n f i. elim (w.all n i.at f (reach.all n i.at i.reached) i.shows) [ inl e ↦ e | inr e ↦ absurd e ];
         order = pairs_of wanted w.rises;
       }
 
-  -- a moment shows one frame at most
+  -- a node at a frame shows one frame at most
   does_once : (k : ℕ) (d : Depth) (c : Components) (work : Does E) (t f h : ℤ)
       → Shows (node_of meaning g.project (no_images k) d c work) t f
       → Shows (node_of meaning g.project (no_images k) d c work) t h → f ≡ h
@@ -263,51 +263,51 @@ module _ {E : Type 0} (meaning : E → Meaning) (g : GraphShown E) where
   shows_once k n t f h there a b =
       does_once k n.depth n.components n.does t f h (shows_in k n t f there a) (shows_in k n t h there b)
 
-  -- the moment's frame, if it shows one, is there already
-  same_step : (moments : BTreeSet Moment) (m : Moment) (rest : List Moment) (wanted : List Wanted)
-      → IsWanting moments (m ∷ rest) wanted
-      → ((f : ℤ) → Shows (nodes_in m.node) m.frame f → Lists wanted m.node f) → IsWanting moments rest wanted
-  same_step moments m rest wanted w there =
+  -- the frame of a node at a frame, if it shows one, is there already
+  same_step : (node_frames : BTreeSet NodeFrame) (m : NodeFrame) (rest : List NodeFrame) (wanted : List Wanted)
+      → IsWanting node_frames (m ∷ rest) wanted
+      → ((f : ℤ) → Shows (nodes_in m.node) m.frame f → Lists wanted m.node f) → IsWanting node_frames rest wanted
+  same_step node_frames m rest wanted w there =
       record {
         only = w.only;
         all = λ n t f h s. elim (w.all n t f h s) [
           | inl e ↦ inl e
           | inr i ↦ elim i [
-            | inl e ↦ inl (subst (λ (k : Moment). Lists wanted k.node f) e
-                (there f (subst (λ (k : Moment). Shows (nodes_in k.node) k.frame f) (sym e) s)))
+            | inl e ↦ inl (subst (λ (k : NodeFrame). Lists wanted k.node f) e
+                (there f (subst (λ (k : NodeFrame). Shows (nodes_in k.node) k.frame f) (sym e) s)))
             | inr j ↦ inr j
           ]
         ];
         later = λ v i k j. w.later v i k (inr j);
         rises = w.rises;
         named = w.named;
-        sorted = sorted_tail moment_cmp m rest w.sorted;
+        sorted = sorted_tail node_frame_cmp m rest w.sorted;
         within = λ k i. w.within k (inr i);
       }
 
   -- it is added
-  more_step : (moments : BTreeSet Moment) (m : Moment) (rest : List Moment) (wanted : List Wanted) (v : Wanted) (n : Shown E)
-      → IsWanting moments (m ∷ rest) wanted → slice_get g.nodes m.node ≡ Some n → v.node ≡ m.node
+  more_step : (node_frames : BTreeSet NodeFrame) (m : NodeFrame) (rest : List NodeFrame) (wanted : List Wanted) (v : Wanted) (n : Shown E)
+      → IsWanting node_frames (m ∷ rest) wanted → slice_get g.nodes m.node ≡ Some n → v.node ≡ m.node
       → Shows (nodes_in m.node) m.frame v.frame → IsNamedBy n.does v → is_last wanted m.node v.frame ≡ false
-      → IsWanting moments rest (wanted ++ v ∷ [])
-  more_step moments m rest wanted v n w there at s name fresh =
+      → IsWanting node_frames rest (wanted ++ v ∷ [])
+  more_step node_frames m rest wanted v n w there at s name fresh =
       record {
         only = λ x i. elim (in_behind wanted v x i) [
           | inl j ↦ w.only x j
-          | inr e ↦ subst (λ (y : Wanted). (t : ℤ) × (has moments y.node t ≡ true) × Shows (nodes_in y.node) t y.frame) e (
+          | inr e ↦ subst (λ (y : Wanted). (t : ℤ) × (has node_frames y.node t ≡ true) × Shows (nodes_in y.node) t y.frame) e (
             m.frame,
-            subst (λ (k : ℕ). has moments k m.frame ≡ true) (sym at) (w.within m (inl refl)),
+            subst (λ (k : ℕ). has node_frames k m.frame ≡ true) (sym at) (w.within m (inl refl)),
             subst (λ (k : ℕ). Shows (nodes_in k) m.frame v.frame) (sym at) s,
           )
         ];
         all = λ k t f h r. elim (w.all k t f h r) [
           | inl l ↦ inl (record { entry = l.entry; listed = contains_of (wanted ++ v ∷ []) l.entry (in_before wanted v l.entry (in_of wanted l.entry l.listed)); node = l.node; frame = l.frame })
           | inr i ↦ elim i [
-            | inl e ↦ inl (subst (λ (j : Moment). Lists (wanted ++ v ∷ []) j.node f) e (record {
+            | inl e ↦ inl (subst (λ (j : NodeFrame). Lists (wanted ++ v ∷ []) j.node f) e (record {
               entry = v;
               listed = contains_of (wanted ++ v ∷ []) v (in_last wanted v);
               node = at;
-              frame = shows_once m.node n m.frame v.frame f there s (subst (λ (j : Moment). Shows (nodes_in j.node) j.frame f) (sym e) r);
+              frame = shows_once m.node n m.frame v.frame f there s (subst (λ (j : NodeFrame). Shows (nodes_in j.node) j.frame f) (sym e) r);
             }))
             | inr j ↦ inr j
           ]
@@ -324,33 +324,33 @@ module _ {E : Type 0} (meaning : E → Meaning) (g : GraphShown E) where
           | inr e ↦ subst (λ (y : Wanted). IsNamedIn g y) e (λ o is.
               subst (λ (p : Shown E). IsNamedBy p.does v) (same_Some n o (sym there ∙ ap (slice_get g.nodes) (sym at) ∙ is)) name)
         ];
-        sorted = sorted_tail moment_cmp m rest w.sorted;
+        sorted = sorted_tail node_frame_cmp m rest w.sorted;
         within = λ k i. w.within k (inr i);
       }
     where
-      below_head : (ks : List Moment) (k : Moment) → AllByRecursion (λ (j : Moment). moment_cmp m j ≡ Less) ks → In ks k → moment_cmp m k ≡ Less
+      below_head : (ks : List NodeFrame) (k : NodeFrame) → AllByRecursion (λ (j : NodeFrame). node_frame_cmp m j ≡ Less) ks → In ks k → node_frame_cmp m k ≡ Less
       below_head [] k a i = absurd i
-      below_head (j ∷ ks) k a i = elim i [ inl e ↦ subst (λ (x : Moment). moment_cmp m x ≡ Less) e a.0 | inr l ↦ below_head ks k a.1 l ]
+      below_head (j ∷ ks) k a i = elim i [ inl e ↦ subst (λ (x : NodeFrame). node_frame_cmp m x ≡ Less) e a.0 | inr l ↦ below_head ks k a.1 l ]
 
-      lower : (k : Moment) → In rest k → IsLower m k
-      lower k i = is_lower m k (below_head rest k (sorted_head moment_cmp m rest w.sorted) i)
+      lower : (k : NodeFrame) → In rest k → IsLower m k
+      lower k i = is_lower m k (below_head rest k (sorted_head node_frame_cmp m rest w.sorted) i)
 
       rise : (k : ℕ) (t f : ℤ) → m.node ≡ k → m.frame <ℤ t → Shows (nodes_in k) t f → v.frame ≤ℤ f
       rise k t f same low r =
           let here = subst (λ (j : ℕ). Shows (nodes_in j) t f) (sym same) r in
           does_rise m.node n.depth n.components n.does m.frame t v.frame f (omega (arith, ints, low)) (shows_in m.node n m.frame v.frame there s) (shows_in m.node n t f there here)
 
-      up : (k : Moment) → In rest k → (f : ℤ) → Shows (nodes_in k.node) k.frame f → IsUpTo v k.node f
+      up : (k : NodeFrame) → In rest k → (f : ℤ) → Shows (nodes_in k.node) k.frame f → IsUpTo v k.node f
       up k i f r = elim (lower k i) [
         | inl low ↦ inl (subst (λ (j : ℕ). j < k.node) (sym at) low)
         | inr e ↦ inr (at ∙ e.0, rise k.node k.frame f e.0 e.1 r)
       ]
 
-  -- with what a moment shows
-  pub wants_step : (moments : BTreeSet Moment) (m : Moment) (rest : List Moment) (wanted new : List Wanted) (n : Shown E)
-      → IsWanting moments (m ∷ rest) wanted → slice_get g.nodes m.node ≡ Some n → WantsIn g m wanted new
-      → IsWanting moments rest new
-  wants_step moments m rest wanted new n w there a = by_work n.does refl (a n there)
+  -- with what a node at a frame shows
+  pub wants_step : (node_frames : BTreeSet NodeFrame) (m : NodeFrame) (rest : List NodeFrame) (wanted new : List Wanted) (n : Shown E)
+      → IsWanting node_frames (m ∷ rest) wanted → slice_get g.nodes m.node ≡ Some n → WantsIn g m wanted new
+      → IsWanting node_frames rest new
+  wants_step node_frames m rest wanted new n w there a = by_work n.does refl (a n there)
     where
       shown_of : (work : Does E) → n.does ≡ work → (f : ℤ) → Shows (nodes_in m.node) m.frame f
           → Shows (node_of meaning g.project (no_images m.node) n.depth n.components work) m.frame f
@@ -367,10 +367,10 @@ module _ {E : Type 0} (meaning : E → Meaning) (g : GraphShown E) where
 
       by_entry : (pattern : List ℕ) (first last : ℕ) (hold : Bool) (k : ℕ) (b : Bool) → n.does ≡ does.Source pattern first last hold
           → shown_frame first last hold m.frame ≡ Some (pos k) → is_last wanted m.node (pos k) ≡ b
-          → new ≡ cond b wanted (wanted ++ entry m.node pattern k ∷ []) → IsWanting moments rest new
+          → new ≡ cond b wanted (wanted ++ entry m.node pattern k ∷ []) → IsWanting node_frames rest new
       by_entry pattern first last hold k true is shown last_is e =
-          subst (λ (ws : List Wanted). IsWanting moments rest ws) (sym e)
-          (same_step moments m rest wanted w (λ f s.
+          subst (λ (ws : List Wanted). IsWanting node_frames rest ws) (sym e)
+          (same_step node_frames m rest wanted w (λ f s.
           let l = last_lists wanted m.node (pos k) last_is in
           record {
             entry = l.0;
@@ -379,8 +379,8 @@ module _ {E : Type 0} (meaning : E → Meaning) (g : GraphShown E) where
             frame = l.3 ∙ same_Some (pos k) f (sym shown ∙ shown_of (does.Source pattern first last hold) is f s);
           }))
       by_entry pattern first last hold k false is shown last_is e =
-          subst (λ (ws : List Wanted). IsWanting moments rest ws) (sym e)
-          (more_step moments m rest wanted (entry m.node pattern k) n w there refl
+          subst (λ (ws : List Wanted). IsWanting node_frames rest ws) (sym e)
+          (more_step node_frames m rest wanted (entry m.node pattern k) n w there refl
           (shows_of (does.Source pattern first last hold) is (pos k) shown)
           (subst (λ (x : Does E). IsNamedBy x (entry m.node pattern k)) (sym is) (λ j same. ap (name_of pattern) (pos_once k j same)))
           last_is)
@@ -388,20 +388,20 @@ module _ {E : Type 0} (meaning : E → Meaning) (g : GraphShown E) where
       by_shown : (pattern : List ℕ) (first last : ℕ) (hold : Bool) (r : Option ℤ) → n.does ≡ does.Source pattern first last hold
           → shown_frame first last hold m.frame ≡ r
           → ((k : Option ℕ) → option_map pos k ≡ shown_frame first last hold m.frame → new ≡ with_shown wanted m.node pattern k)
-          → IsWanting moments rest new
+          → IsWanting node_frames rest new
       by_shown pattern first last hold None is shown b =
-          subst (λ (ws : List Wanted). IsWanting moments rest ws) (sym (b None (sym shown)))
-          (same_step moments m rest wanted w (λ f s.
+          subst (λ (ws : List Wanted). IsWanting node_frames rest ws) (sym (b None (sym shown)))
+          (same_step node_frames m rest wanted w (λ f s.
           absurd (none-some f (sym shown ∙ shown_of (does.Source pattern first last hold) is f s))))
       by_shown pattern first last hold (Some f) is shown b =
           let k = shown_natural first last hold m.frame f shown in
           let here = shown ∙ ap Some k.1 in
           by_entry pattern first last hold k.0 (is_last wanted m.node (pos k.0)) is here refl (b (Some k.0) (sym here))
 
-      by_work : (work : Does E) → n.does ≡ work → WantsShown work m.node m.frame wanted new → IsWanting moments rest new
+      by_work : (work : Does E) → n.does ≡ work → WantsShown work m.node m.frame wanted new → IsWanting node_frames rest new
       by_work (does.Source pattern first last hold) is b =
           by_shown pattern first last hold (shown_frame first last hold m.frame) is refl b
       by_work (does.Effect e context clips names optional masks params) is b =
-          subst (λ (ws : List Wanted). IsWanting moments rest ws) (sym b)
-          (same_step moments m rest wanted w (λ f s.
+          subst (λ (ws : List Wanted). IsWanting node_frames rest ws) (sym b)
+          (same_step node_frames m rest wanted w (λ f s.
           absurd (shown_of (does.Effect e context clips names optional masks params) is f s)))

@@ -1,5 +1,5 @@
--- Which frames a clip's spans have: each frame of a span once, rising.
-use Rattle.std.specs.Prelude.{ℕ, zero, suc, ℤ, pos, neg_ℤ, ◌+ℤ◌, ◌≤ℤ◌, List, [], ◌∷◌, filter, Bool, false, ◌&&◌, ◌||◌}
+-- Which frames a clip's spans have.
+use Rattle.std.specs.Prelude.{ℕ, zero, suc, ℤ, pos, neg_ℤ, ◌+ℤ◌, ◌≤ℤ◌, ◌<ℤ◌, List, [], ◌∷◌, filter, Contains, AllPairs, Bool, false, ◌&&◌, ◌||◌}
 use Rattle.std.specs.Int.{int_min, int_max, int_gap}
 use Rattle.std.specs.Int.Signed.{le_z}
 use Rattle.std.specs.Ordering.{int_eq}
@@ -38,10 +38,26 @@ abbrev pub last_greatest : List (ℤ × ℤ) → ℤ
 last_greatest [] = pos 0
 last_greatest (p ∷ ps) = greatest p.1 (p ∷ ps)
 
--- each frame of the spans once and rising
+-- each frame of the spans once and rising, which AreFramesIn says
 unfoldable pub frames_of : List (ℤ × ℤ) → List ℤ
 frames_of [] = []
 frames_of (p ∷ ps) = filter (in_some (p ∷ ps)) (int_span (least p.0 ps) (greatest p.1 ps))
+
+-- the frame lies in one of the spans
+pub record LiesIn (spans : List (ℤ × ℤ)) (f : ℤ) : Type 0 where
+  pub span : ℤ × ℤ
+  pub listed : Contains spans span
+  pub first : span.0 ≤ℤ f
+  pub last : f ≤ℤ span.1
+
+abbrev pub IsEarlier : ℤ → ℤ → Type 0
+IsEarlier f g = f <ℤ g
+
+-- exactly the frames of the spans, each once and rising
+pub record AreFramesIn (spans : List (ℤ × ℤ)) (frames : List ℤ) : Type 0 where
+  pub all : (f : ℤ) → LiesIn spans f → Contains frames f
+  pub only : (f : ℤ) → Contains frames f → LiesIn spans f
+  pub rising : AllPairs IsEarlier frames
 
 -- the frames that an effect at a frame needs of a clip
 abbrev pub clip_frames : EffectNode → ℤ → ℕ → List ℤ

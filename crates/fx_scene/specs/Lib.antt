@@ -7,3 +7,5 @@ pub mod Reach
 pub mod Wants
 pub mod Depends
 pub mod Scenes
+pub mod Sites
+pub mod Windows

@@ -6,7 +6,7 @@ use Rattle.fx_base.specs.Pattern.{name_of}
 use Rattle.fx_seq.specs.declared.wanted.Wanted.{Wanted}
 use Rattle.fx_graph.specs.Shown.{Does, GraphShown, Shown}
 use Rattle.fx_graph.specs.Shown as does
-use Rattle.fx_scene.specs.declared.reaching.Moment.{Moment}
+use Rattle.fx_scene.specs.declared.reaching.NodeFrame.{NodeFrame}
 use Rattle.fx_scene.specs.Nodes.{Node, Nodes, Source, Effect}
 use Rattle.fx_scene.specs.Reach.{IsReached}
 use Rattle.fx_scene.specs.Scenes.{shown_frame}
@@ -77,6 +77,6 @@ WantsShown (does.Source pattern first last hold) n t old new =
     (k : Option ℕ) → option_map pos k ≡ shown_frame first last hold t → new ≡ with_shown old n pattern k
 WantsShown (does.Effect e context clips names optional masks params) n t old new = new ≡ old
 
--- what is wanted with the frame that a moment's node shows
-abbrev pub WantsIn : {E : Type 0} → GraphShown E → Moment → List Wanted → List Wanted → Type 0
+-- what is wanted with the frame that a node at a frame shows
+abbrev pub WantsIn : {E : Type 0} → GraphShown E → NodeFrame → List Wanted → List Wanted → Type 0
 WantsIn {E} g m old new = (n : Shown E) → slice_get g.nodes m.node ≡ Some n → WantsShown n.does m.node m.frame old new

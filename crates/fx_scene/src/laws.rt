@@ -1,7 +1,8 @@
 //! What is known of every list of nodes whose effects keep their laws, and so of every graph and scene.
-ghost use Rattle.std.specs.Prelude.{◌<◌, ◌≤◌, length};
+ghost use Rattle.std.specs.Prelude.{◌<◌, ◌≤◌, ℤ, List, length};
 ghost use Rattle.fx_base.specs.declared.limits.TheConstants.{MOST_NODES};
 ghost use Rattle.fx_effect.specs.Shape.{IsProject};
+ghost use Rattle.fx_scene.specs.Frames.{AreFramesIn, frames_of};
 ghost use Rattle.fx_scene.specs.Nodes.{Nodes, AreNodes};
 ghost use Rattle.fx_scene.specs.Value.{ValueIsMix};
 ghost use Rattle.fx_scene.specs.Areas.{ZeroOutsideArea};
@@ -43,3 +44,8 @@ pub fn scene_nodes<E: Catalogue>(scene: &Scene<E>)
     let _graph = scene.graph();
     let _store = scene.store();
 }
+
+/// The frames of a list of spans are those that lie in one of them, each once and rising. It computes nothing.
+pub fn frames_once_and_rising()
+    ensures { (spans : List (ℤ × ℤ)) → AreFramesIn spans (frames_of spans) }
+{}

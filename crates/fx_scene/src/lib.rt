@@ -8,11 +8,12 @@ pub mod laws;
 mod reaching;
 mod reads;
 mod scene;
+pub mod site;
 mod values;
 mod wanting;
 
 pub use key::Key;
-pub use reaching::{Moment, reach, reads_of};
+pub use reaching::{NodeFrame, reach, reads_of};
 pub use reads::frames_read;
 pub use scene::Scene;
 pub use values::use_values;

@@ -15,7 +15,7 @@ use std::collections::BTreeSet;
 
 /// A node at a frame. They are ordered by node and then frame.
 #[derive(Clone, Copy, Debug, PartialEq, Eq, PartialOrd, Ord, Drop)]
-pub struct Moment {
+pub struct NodeFrame {
     pub node: u32,
     pub frame: i64,
 }
@@ -29,20 +29,20 @@ pub fn reach<E: Catalogue>(
     graph: &Graph<E>,
     first: i64,
     last: i64,
-) -> Result<BTreeSet<Moment>, Memory>
+) -> Result<BTreeSet<NodeFrame>, Memory>
     requires low { neg_ℤ (pos LAST_FRAME) ≤ℤ first }
     requires high { last ≤ℤ pos LAST_FRAME }
     ensures least { let nodes = graph_nodes E.meaning (graph_shown graph.now) no_images in
-        IfOk result (λ moments. IsReach nodes graph.now.output first last (has moments)) }
-    ensures places { IfOk result (λ moments. (n : ℕ) (t : ℤ) → has moments n t ≡ true
+        IfOk result (λ node_frames. IsReach nodes graph.now.output first last (has node_frames)) }
+    ensures places { IfOk result (λ node_frames. (n : ℕ) (t : ℤ) → has node_frames n t ≡ true
         → IsPlace (length graph.now.nodes.items) n t) }
 {
     let mut pending = BTreeSet::new(alloc);
     open_range(graph.output, first, last, &mut pending)?;
     let mut reached = BTreeSet::new(alloc);
-    while let Some(moment) = pending.pop_last() {
-        open_reads(alloc, graph, moment, &mut pending)?;
-        reached.insert(moment)?;
+    while let Some(node_frame) = pending.pop_last() {
+        open_reads(alloc, graph, node_frame, &mut pending)?;
+        reached.insert(node_frame)?;
     }
     Ok(reached)
 }
@@ -52,16 +52,16 @@ pub fn reach<E: Catalogue>(
 pub fn reads_of<E: Catalogue>(
     alloc: Global,
     graph: &Graph<E>,
-    moment: Moment,
-) -> Result<BTreeSet<Moment>, Memory>
-    requires { IsPlace (length graph.now.nodes.items) moment.node moment.frame }
-    ensures all { let node = graph_nodes E.meaning (graph_shown graph.now) no_images moment.node in
-        IfOk result (λ reads. (m : ℕ) (f : ℤ) → IsReadBy node moment.frame m f → has reads m f ≡ true) }
-    ensures only { let node = graph_nodes E.meaning (graph_shown graph.now) no_images moment.node in
-        IfOk result (λ reads. (m : ℕ) (f : ℤ) → has reads m f ≡ true → IsReadBy node moment.frame m f) }
+    node_frame: NodeFrame,
+) -> Result<BTreeSet<NodeFrame>, Memory>
+    requires { IsPlace (length graph.now.nodes.items) node_frame.node node_frame.frame }
+    ensures all { let node = graph_nodes E.meaning (graph_shown graph.now) no_images node_frame.node in
+        IfOk result (λ reads. (m : ℕ) (f : ℤ) → IsReadBy node node_frame.frame m f → has reads m f ≡ true) }
+    ensures only { let node = graph_nodes E.meaning (graph_shown graph.now) no_images node_frame.node in
+        IfOk result (λ reads. (m : ℕ) (f : ℤ) → has reads m f ≡ true → IsReadBy node node_frame.frame m f) }
 {
     let mut reads = BTreeSet::new(alloc);
-    open_reads(alloc, graph, moment, &mut reads)?;
+    open_reads(alloc, graph, node_frame, &mut reads)?;
     Ok(reads)
 }
 
@@ -70,14 +70,14 @@ fn open_range(
     node: u32,
     first: i64,
     last: i64,
-    pending: &mut BTreeSet<Moment>,
+    pending: &mut BTreeSet<NodeFrame>,
 ) -> Result<(), Memory>
     requires low { neg_ℤ (pos LAST_FRAME) ≤ℤ first }
     requires high { last ≤ℤ pos LAST_FRAME }
     ensures { OnOk result (Adds (λ n t. (n ≡ node) × (first ≤ℤ t) × (t ≤ℤ last)) pending.old pending.new) }
 {
     for frame in first..last + 1 {
-        pending.insert(Moment { node, frame })?;
+        pending.insert(NodeFrame { node, frame })?;
     }
     Ok(())
 }
@@ -86,14 +86,14 @@ fn open_range(
 fn open_reads<E: Catalogue>(
     alloc: Global,
     graph: &Graph<E>,
-    moment: Moment,
-    pending: &mut BTreeSet<Moment>,
+    node_frame: NodeFrame,
+    pending: &mut BTreeSet<NodeFrame>,
 ) -> Result<(), Memory>
-    requires place { IsPlace (length graph.now.nodes.items) moment.node moment.frame }
+    requires place { IsPlace (length graph.now.nodes.items) node_frame.node node_frame.frame }
     ensures { let nodes = graph_nodes E.meaning (graph_shown graph.now) no_images in
-        OnOk result (Adds (IsReadBy (nodes moment.node) moment.frame) pending.old pending.new) }
+        OnOk result (Adds (IsReadBy (nodes node_frame.node) node_frame.frame) pending.old pending.new) }
 {
-    match &graph.nodes[moment.node as usize].work {
+    match &graph.nodes[node_frame.node as usize].work {
         Work::Source { .. } => Ok(()),
         Work::Effect {
             effect,
@@ -107,7 +107,7 @@ fn open_reads<E: Catalogue>(
                 graph.project,
                 clips.as_slice(),
                 params.as_slice(),
-                moment.frame,
+                node_frame.frame,
             )?;
             let reads = frames_read(alloc, effect, names, &values)?;
             open_clips(clips.as_slice(), reads.as_slice(), pending)
@@ -119,7 +119,7 @@ fn open_reads<E: Catalogue>(
 fn open_clips(
     clips: &[Option<u32>],
     reads: &[Vec<i64>],
-    pending: &mut BTreeSet<Moment>,
+    pending: &mut BTreeSet<NodeFrame>,
 ) -> Result<(), Memory>
     requires { length reads.now ≤ length clips.now }
     ensures { OnOk result (Adds (IsClipRead clips.now (map items_of reads.now)) pending.old pending.new) }
@@ -133,7 +133,7 @@ fn open_clips(
 fn open_clip(
     clip: Option<u32>,
     frames: &[i64],
-    pending: &mut BTreeSet<Moment>,
+    pending: &mut BTreeSet<NodeFrame>,
 ) -> Result<(), Memory>
     ensures { OnOk result (Adds (λ n t. (clip ≡ Some n) × (has_frame frames.now t ≡ true)) pending.old pending.new) }
 {
@@ -144,11 +144,11 @@ fn open_clip(
 }
 
 // Opens a node at each of these frames.
-fn open_frames(node: u32, frames: &[i64], pending: &mut BTreeSet<Moment>) -> Result<(), Memory>
+fn open_frames(node: u32, frames: &[i64], pending: &mut BTreeSet<NodeFrame>) -> Result<(), Memory>
     ensures { OnOk result (Adds (λ n t. (n ≡ node) × (has_frame frames.now t ≡ true)) pending.old pending.new) }
 {
     for frame in frames {
-        pending.insert(Moment {
+        pending.insert(NodeFrame {
             node,
             frame: *frame,
         })?;

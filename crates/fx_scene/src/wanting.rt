@@ -7,7 +7,7 @@ ghost use Rattle.fx_scene.specs.Reach.{IsPlace, IsReach, has};
 ghost use Rattle.fx_scene.specs.Scenes.{graph_nodes, graph_shown, no_images, shown_frame};
 ghost use Rattle.fx_scene.specs.Wants.{AreWanted, IsNamedIn, WantsIn, is_last, with_entry};
 
-use crate::reaching::{Moment, reach};
+use crate::reaching::{NodeFrame, reach};
 use fx_base::{Memory, Pattern};
 use fx_effect::Catalogue;
 use fx_graph::{Graph, Work};
@@ -31,27 +31,27 @@ pub fn wants<E: Catalogue>(
     ensures names { IfOk result (λ wanted. All (IsNamedIn (graph_shown graph.now)) wanted.items) }
     ensures apart { IfOk result (λ wanted. AllPairs IsApart wanted.items) }
 {
-    let moments = reach(alloc, graph, i64::from(first), i64::from(last))?;
-    wants_at(alloc, graph, &moments)
+    let node_frames = reach(alloc, graph, i64::from(first), i64::from(last))?;
+    wants_at(alloc, graph, &node_frames)
 }
 
-// The frames that sources show at these moments.
+// The frames that sources show at these nodes at frames.
 fn wants_at<E: Catalogue>(
     alloc: Global,
     graph: &Graph<E>,
-    moments: &BTreeSet<Moment>,
+    node_frames: &BTreeSet<NodeFrame>,
 ) -> Result<Vec<Wanted>, Memory>
     requires { let count = length graph.now.nodes.items in
-        (n : ℕ) (t : ℤ) → has moments.now n t ≡ true → IsPlace count n t }
+        (n : ℕ) (t : ℤ) → has node_frames.now n t ≡ true → IsPlace count n t }
     ensures exact { let nodes = graph_nodes E.meaning (graph_shown graph.now) no_images in
-        (output : ℕ) (first last : ℤ) → IsReach nodes output first last (has moments.now)
+        (output : ℕ) (first last : ℤ) → IsReach nodes output first last (has node_frames.now)
         → IfOk result (λ wanted. AreWanted nodes output first last wanted.items) }
     ensures names { IfOk result (λ wanted. All (IsNamedIn (graph_shown graph.now)) wanted.items) }
     ensures apart { IfOk result (λ wanted. AllPairs IsApart wanted.items) }
 {
     let mut wanted = Vec::new(alloc);
-    for moment in moments {
-        want(alloc, graph, *moment, &mut wanted)?;
+    for node_frame in node_frames {
+        want(alloc, graph, *node_frame, &mut wanted)?;
     }
     Ok(wanted)
 }
@@ -60,22 +60,22 @@ fn wants_at<E: Catalogue>(
 fn want<E: Catalogue>(
     alloc: Global,
     graph: &Graph<E>,
-    moment: Moment,
+    node_frame: NodeFrame,
     wanted: &mut Vec<Wanted>,
 ) -> Result<(), Memory>
-    requires { moment.node < length graph.now.nodes.items }
-    ensures { OnOk result (WantsIn (graph_shown graph.now) moment wanted.old.items wanted.new.items) }
+    requires { node_frame.node < length graph.now.nodes.items }
+    ensures { OnOk result (WantsIn (graph_shown graph.now) node_frame wanted.old.items wanted.new.items) }
 {
-    match &graph.nodes[moment.node as usize].work {
+    match &graph.nodes[node_frame.node as usize].work {
         Work::Effect { .. } => Ok(()),
         Work::Source {
             pattern,
             first,
             last,
             hold,
-        } => match shown_frame(*first, *last, *hold, moment.frame) {
+        } => match shown_frame(*first, *last, *hold, node_frame.frame) {
             None => Ok(()),
-            Some(frame) => want_frame(alloc, moment.node, pattern, frame, wanted),
+            Some(frame) => want_frame(alloc, node_frame.node, pattern, frame, wanted),
         },
     }
 }

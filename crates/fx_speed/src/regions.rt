@@ -3,7 +3,7 @@
 ghost use Rattle.std.specs.Prelude.{All, IfOk, pos};
 ghost use Rattle.fx_base.specs.Rect.{IsWithin};
 ghost use Rattle.fx_scene.specs.Areas.{area};
-ghost use Rattle.fx_region.specs.Sites.{scene_nodes};
+ghost use Rattle.fx_scene.specs.Sites.{scene_nodes};
 ghost use Rattle.fx_region.specs.Tables.{Has, IsMadeOf};
 ghost use Rattle.fx_speed.specs.Reached.{IsReachedAt};
 
@@ -13,7 +13,7 @@ use fx_effect::Catalogue;
 use fx_graph::{Graph, accept};
 use fx_outside::SureLibrary;
 use fx_region::{Regions, demand_by};
-use fx_scene::{Moment, Scene, reach, wants};
+use fx_scene::{NodeFrame, Scene, reach, wants};
 use fx_seq::{Store, Wanted};
 use fx_shipped::Shipped;
 use fx_text::{GraphFault, read_graph};
@@ -37,10 +37,10 @@ const GRAPH: &str =
 /// what is needed. Where the graph or its frames are refused it is want of memory.
 pub(crate) fn ask_regions(alloc: Global, times: u32) -> Result<u64, Memory> {
     let scene = scene(alloc)?;
-    let moments = moments_of(alloc, &scene)?;
+    let node_frames = node_frames_of(alloc, &scene)?;
     let mut needs = 0;
     for _ in 0..times {
-        needs = needs_of_frame(alloc, &scene, moments.as_slice())?;
+        needs = needs_of_frame(alloc, &scene, node_frames.as_slice())?;
     }
     Ok(needs)
 }
@@ -82,32 +82,32 @@ fn file(alloc: Global) -> Result<Vec<u8>, Memory> {
 // ---- what is asked
 
 // The nodes at frames that are reached.
-fn moments_of<E: Catalogue>(alloc: Global, scene: &Scene<E>) -> Result<Vec<Moment>, Memory>
-    ensures { IfOk result (λ moments. All (IsReachedAt E.meaning scene.now (pos FRAME)) moments.items) }
+fn node_frames_of<E: Catalogue>(alloc: Global, scene: &Scene<E>) -> Result<Vec<NodeFrame>, Memory>
+    ensures { IfOk result (λ node_frames. All (IsReachedAt E.meaning scene.now (pos FRAME)) node_frames.items) }
 {
     let frame = i64::from(FRAME);
     let reached = reach(alloc, scene.graph(), frame, frame)?;
-    let mut moments = Vec::new(alloc);
-    for moment in &reached {
-        moments.push(*moment)?;
+    let mut node_frames = Vec::new(alloc);
+    for node_frame in &reached {
+        node_frames.push(*node_frame)?;
     }
-    Ok(moments)
+    Ok(node_frames)
 }
 
 // How many parts each tile of each of these nodes needs.
 fn needs_of_frame<E: Catalogue>(
     alloc: Global,
     scene: &Scene<E>,
-    moments: &[Moment],
+    node_frames: &[NodeFrame],
 ) -> Result<u64, Memory>
-    requires { All (IsReachedAt E.meaning scene.now (pos FRAME)) moments.now }
+    requires { All (IsReachedAt E.meaning scene.now (pos FRAME)) node_frames.now }
 {
     let regions = Regions::of(alloc, scene, i64::from(FRAME))?;
     let tiles = Grid { side: 64 }.tiles_of(alloc, ROUND)?;
     let mut asking = Asking::new(alloc)?;
     let mut needs = 0u64;
-    for moment in moments {
-        let more = needs_of_node(alloc, &mut asking, scene, &regions, *moment, &tiles)?;
+    for node_frame in node_frames {
+        let more = needs_of_node(alloc, &mut asking, scene, &regions, *node_frame, &tiles)?;
         needs = needs.wrapping_add(more);
     }
     Ok(needs)
@@ -119,16 +119,16 @@ fn needs_of_node<E: Catalogue>(
     asking: &mut Asking,
     scene: &Scene<E>,
     regions: &Regions,
-    moment: Moment,
+    node_frame: NodeFrame,
     tiles: &[Rect],
 ) -> Result<u64, Memory>
     requires regions { IsMadeOf E.meaning scene.now regions.now }
-    requires reached { Has regions.now moment.node moment.frame }
+    requires reached { Has regions.now node_frame.node node_frame.frame }
 {
-    let area = regions.rod(moment.node, moment.frame);
+    let area = regions.rod(node_frame.node, node_frame.frame);
     let mut needs = 0u64;
     for tile in tiles {
-        let more = needs_of_tile(alloc, asking, scene, regions, moment, tile.meet(area))?;
+        let more = needs_of_tile(alloc, asking, scene, regions, node_frame, tile.meet(area))?;
         needs = needs.wrapping_add(more);
     }
     Ok(needs)
@@ -140,17 +140,17 @@ fn needs_of_tile<E: Catalogue>(
     asking: &mut Asking,
     scene: &Scene<E>,
     regions: &Regions,
-    moment: Moment,
+    node_frame: NodeFrame,
     tile: Rect,
 ) -> Result<u64, Memory>
     requires regions { IsMadeOf E.meaning scene.now regions.now }
-    requires reached { Has regions.now moment.node moment.frame }
-    requires within { IsWithin tile (area (scene_nodes E.meaning scene.now) moment.node moment.frame) }
+    requires reached { Has regions.now node_frame.node node_frame.frame }
+    requires within { IsWithin tile (area (scene_nodes E.meaning scene.now) node_frame.node node_frame.frame) }
 {
     if tile.is_empty() {
         return Ok(0);
     }
-    let Moment { node, frame } = moment;
+    let NodeFrame { node, frame } = node_frame;
     let needs = demand_by(
         alloc,
         asking,

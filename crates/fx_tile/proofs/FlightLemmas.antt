@@ -12,15 +12,15 @@ use Rattle.fx_scene.specs.Nodes.{Nodes}
 use Rattle.fx_scene.specs.Scenes.{Shot}
 use Rattle.fx_region.specs.Counts.{is_asked}
 use Rattle.fx_region.specs.Ends.{end_shown}
-use Rattle.fx_region.specs.Sites.{scene_nodes}
+use Rattle.fx_scene.specs.Sites.{scene_nodes}
 use Rattle.fx_region.specs.declared.ends.End.{End}
 use Rattle.fx_region.specs.declared.ends.End.TheVariants as code
 use Rattle.fx_region.specs.declared.ends.Need.{Need}
 use Rattle.fx_tile.specs.Counts.{AskedOnce, Fetched, Follows, IsUnasked, Lands, Met, Within, one_if_some}
-use Rattle.fx_tile.specs.Sites.{IsFound, IsKeyOf, IsTileOf, MayBeTileOf, renders_of}
+use Rattle.fx_tile.specs.Setups.{IsFound, IsKeyOf, IsTileOf, MayBeTileOf, renders_of}
 use Rattle.fx_tile.specs.Tiles.{IsRightTile, IsTile}
-use Rattle.fx_tile.specs.declared.count.Tally.{Tally}
-use Rattle.fx_tile.specs.declared.site.Site.{Site}
+use Rattle.fx_tile.specs.declared.count.RenderCount.{RenderCount}
+use Rattle.fx_tile.specs.declared.setup.Setup.{Setup}
 
 -- ---- keys
 
@@ -62,12 +62,12 @@ left old mid new x joins leaves = leaves old [] joins ∙ nil_right old
 
 -- ---- counts
 
-pub follows_more : (a b c : Tally) (l m n : Made) → Follows a b l m → Follows b c m n → Follows a c l n
+pub follows_more : (a b c : RenderCount) (l m n : Made) → Follows a b l m → Follows b c m n → Follows a c l n
 follows_more a b c l m n f g =
     let f1 = f.landed in let f2 = f.hits in let g1 = g.landed in let g2 = g.hits in
     record { landed = omega (arith, f1, g1); hits = omega (arith, f2, g2) }
 
-pub within_later : (a b : Tally) (m n : Made) → Within a m → Follows a b m n → Within b n
+pub within_later : (a b : RenderCount) (m n : Made) → Within a m → Follows a b m n → Within b n
 within_later a b m n w f =
     let f1 = f.landed in let f2 = f.hits in let w1 = w.landed in let w2 = w.hits in
     record { landed = omega (arith, f1, w1); hits = omega (arith, f2, w2) }
@@ -84,10 +84,10 @@ fetched_from r l m n d a b got =
           (subst (λ (k : ℕ). ((n.landed ≡ m.landed) × (n.hits ≡ k + 1)) ⊎ ((m.landed < n.landed) × (m.landed + k + 1 + r ≤ n.landed + n.hits))) b got.way);
     }
 
-pub follows_from : (a t b : Tally) (l m n : Made) → t ≡ a → m.landed ≡ l.landed → m.hits ≡ l.hits → Follows t b m n → Follows a b l n
+pub follows_from : (a t b : RenderCount) (l m n : Made) → t ≡ a → m.landed ≡ l.landed → m.hits ≡ l.hits → Follows t b m n → Follows a b l n
 follows_from a t b l m n is p q f =
     let f1 = f.landed in let f2 = f.hits in
-    subst (λ (u : Tally). Follows u b l n) is (record { landed = omega (arith, p, f1); hits = omega (arith, q, f2) })
+    subst (λ (u : RenderCount). Follows u b l n) is (record { landed = omega (arith, p, f1); hits = omega (arith, q, f2) })
 
 -- what was met, and one that landed
 pub met_lands : (r : ℕ) (l m n : Made) → Met r l m → Lands m n → Fetched r l n
@@ -160,7 +160,7 @@ tile_there nodes (code.Frame node frame region through) t is = tt
 tile_there nodes (code.Render node frame region cut through) t is = is
 
 -- One need more, where of those behind it h are met already.
-module _ {E : Type 0} {c e : _} (meaning : E → Meaning) (site : Site E c e) (needs : List Need) (i : ℕ) (need : Need) (low : i < length needs) (there : need ≡ get_or needs i need)
+module _ {E : Type 0} {c e : _} (meaning : E → Meaning) (setup : Setup E c e) (needs : List Need) (i : ℕ) (need : Need) (low : i < length needs) (there : need ≡ get_or needs i need)
     (h : ℕ) (l m n : Made) where
   same_as : (b : Bool) → is_render need ≡ b → is_render (get_or needs i need) ≡ b
   same_as b is = sym (ap is_render there) ∙ is
@@ -183,11 +183,11 @@ module _ {E : Type 0} {c e : _} (meaning : E → Meaning) (site : Site E c e) (n
       met_less (renders_of (take i needs) + h + 1) (renders_of (take (i + 1) needs) + h) l n (omega (arith, count))
       (met_fetched (renders_of (take i needs) + h) q l m n met got)
 
-  met_by : (end : End) → need.end ≡ end → Met (renders_of (take i needs) + h) l m → IsFound meaning site end m n → Met (renders_of (take (i + 1) needs) + h) l n
+  met_by : (end : End) → need.end ≡ end → Met (renders_of (take i needs) + h) l m → IsFound meaning setup end m n → Met (renders_of (take (i + 1) needs) + h) l n
   met_by code.Void is met found = no_more (ap (λ (z : End). is_asked (end_shown z)) is) met found
   met_by (code.Frame node frame region through) is met found = no_more (ap (λ (z : End). is_asked (end_shown z)) is) met found
   met_by (code.Render node frame region cut through) is met found = one_more _ (ap (λ (z : End). is_asked (end_shown z)) is) met found
 
   -- it is met now
-  pub met_more : Met (renders_of (take i needs) + h) l m → IsFound meaning site need.end m n → Met (renders_of (take (i + 1) needs) + h) l n
+  pub met_more : Met (renders_of (take i needs) + h) l m → IsFound meaning setup need.end m n → Met (renders_of (take (i + 1) needs) + h) l n
   met_more met found = met_by need.end refl met found

@@ -10,12 +10,12 @@ use Rattle.fx_effect.specs.Meaning.{Meaning}
 use Rattle.fx_image.specs.Stored.{Stored}
 use Rattle.fx_region.specs.Counts.{is_asked}
 use Rattle.fx_region.specs.Ends.{end_shown}
-use Rattle.fx_region.specs.Sites.{scene_nodes}
+use Rattle.fx_scene.specs.Sites.{scene_nodes}
 use Rattle.fx_region.specs.declared.ends.Need.{Need}
 use Rattle.fx_scene.specs.Nodes.{Nodes}
 use Rattle.fx_tile.specs.Counts.{Met, one_if_some}
-use Rattle.fx_tile.specs.Sites.{AreTilesOf, IsFound, IsTileOf, MayBeTileOf, MayBeTilesOf, renders_of}
-use Rattle.fx_tile.specs.declared.site.Site.{Site}
+use Rattle.fx_tile.specs.Setups.{AreTilesOf, IsFound, IsTileOf, MayBeTileOf, MayBeTilesOf, renders_of}
+use Rattle.fx_tile.specs.declared.setup.Setup.{Setup}
 use Rattle.fx_tile.proofs.FlightLemmas.{met_already, met_more, met_same, there_by, tile_there}
 use Rattle.fx_tile.proofs.PieceLemmas.{first_left, others_left, some_left, tiles_more}
 
@@ -25,18 +25,18 @@ element (x ∷ xs) zero low = (x, refl)
 element (x ∷ xs) (suc i) low = element xs i (omega (arith, low))
 
 -- before a need: those before it have their images, and of the others some are there
-pub record Gathers {E : Type 0} {c e : _} (meaning : E → Meaning) (site : Site E c e) (needs : List Need) (i : ℕ) (early tiles : List (Option (Arc Stored Global)))
+pub record Gathers {E : Type 0} {c e : _} (meaning : E → Meaning) (setup : Setup E c e) (needs : List Need) (i : ℕ) (early tiles : List (Option (Arc Stored Global)))
     (l m : Made) : Type 0 where
   pub met : Met (renders_of (take i needs) + sum_by one_if_some (drop i early)) l m
   pub long : length early ≡ length needs
-  pub early_are : MayBeTilesOf (scene_nodes meaning site.scene.now) (drop i needs) (drop i early)
-  pub tiles_are : AreTilesOf (scene_nodes meaning site.scene.now) (take i needs) tiles
+  pub early_are : MayBeTilesOf (scene_nodes meaning setup.scene.now) (drop i needs) (drop i early)
+  pub tiles_are : AreTilesOf (scene_nodes meaning setup.scene.now) (take i needs) tiles
 
-module _ {E : Type 0} {c e : _} (meaning : E → Meaning) (site : Site E c e) (needs : List Need) (i : ℕ) (early next tiles more : List (Option (Arc Stored Global)))
-    (l m n : Made) (low : i < length needs) (gathers : Gathers meaning site needs i early tiles l m) (old : Option (Arc Stored Global)) (was : old ≡ get_or early i old)
+module _ {E : Type 0} {c e : _} (meaning : E → Meaning) (setup : Setup E c e) (needs : List Need) (i : ℕ) (early next tiles more : List (Option (Arc Stored Global)))
+    (l m n : Made) (low : i < length needs) (gathers : Gathers meaning setup needs i early tiles l m) (old : Option (Arc Stored Global)) (was : old ≡ get_or early i old)
     (after : next ≡ set early i None) where
   abbrev nodes : Nodes
-  nodes = scene_nodes meaning site.scene.now
+  nodes = scene_nodes meaning setup.scene.now
 
   behind : drop (i + 1) next ≡ drop (i + 1) early
   behind = ap (drop (i + 1)) after ∙ drop-set-lt (i + 1) early i None (omega arith)
@@ -57,7 +57,7 @@ module _ {E : Type 0} {c e : _} (meaning : E → Meaning) (site : Site E c e) (n
       (others_left (MayBeTileOf nodes) needs early i need.0 old low gathers.long need.1 was gathers.early_are)
 
   -- the image of the need was there
-  pub gathers_early : (t : Arc Stored Global) → old ≡ Some t → more ≡ tiles ++ Some t ∷ [] → Gathers meaning site needs (i + 1) next more l m
+  pub gathers_early : (t : Arc Stored Global) → old ≡ Some t → more ≡ tiles ++ Some t ∷ [] → Gathers meaning setup needs (i + 1) next more l m
   gathers_early t is pushed =
       let need = element needs i low in
       let h = sum_by one_if_some (drop (i + 1) next) in
@@ -67,7 +67,7 @@ module _ {E : Type 0} {c e : _} (meaning : E → Meaning) (site : Site E c e) (n
       let one : one_if_some old ≡ 1 = ap (λ (o : Option (Arc Stored Global)). one_if_some o) is in
       let count = some_behind in
       record {
-        met = met_already meaning site needs i need.0 low need.1 h l m m (there_by nodes need.0.end t there)
+        met = met_already meaning setup needs i need.0 low need.1 h l m m (there_by nodes need.0.end t there)
             (met_same (renders_of (take i needs) + sum_by one_if_some (drop i early)) (renders_of (take i needs) + (1 + h)) l m (omega (arith, one, count)) gathers.met);
         long = as_long;
         early_are = early_behind;
@@ -75,14 +75,14 @@ module _ {E : Type 0} {c e : _} (meaning : E → Meaning) (site : Site E c e) (n
       }
 
   -- it was found now
-  pub gathers_now : (need : Need) (tile : Option (Arc Stored Global)) → old ≡ None → need ≡ get_or needs i need → IsFound meaning site need.end m n
-      → IsTileOf nodes need.end tile → more ≡ tiles ++ tile ∷ [] → Gathers meaning site needs (i + 1) next more l n
+  pub gathers_now : (need : Need) (tile : Option (Arc Stored Global)) → old ≡ None → need ≡ get_or needs i need → IsFound meaning setup need.end m n
+      → IsTileOf nodes need.end tile → more ≡ tiles ++ tile ∷ [] → Gathers meaning setup needs (i + 1) next more l n
   gathers_now need tile is there found of pushed =
       let h = sum_by one_if_some (drop (i + 1) next) in
       let none : one_if_some old ≡ 0 = ap (λ (o : Option (Arc Stored Global)). one_if_some o) is in
       let count = some_behind in
       record {
-        met = met_more meaning site needs i need low there h l m n
+        met = met_more meaning setup needs i need low there h l m n
             (met_same (renders_of (take i needs) + sum_by one_if_some (drop i early)) (renders_of (take i needs) + h) l m (omega (arith, none, count)) gathers.met)
             found;
         long = as_long;

@@ -3,7 +3,7 @@ pub mod FoundLemmas
 pub mod NeedLemmas
 pub mod PieceLemmas
 pub mod ReadyLemmas
-pub mod SiteLemmas
+pub mod SetupLemmas
 pub mod RenderLemmas
 pub mod FlightLemmas
 pub mod WindowLemmas

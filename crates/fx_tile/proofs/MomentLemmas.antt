@@ -19,13 +19,13 @@ use Rattle.fx_pool.specs.Working.{numbers_below, numbers_of}
 use Rattle.fx_scene.specs.Scenes.{images_in, picture}
 use Rattle.fx_region.specs.Counts.{is_asked, is_passed, is_void, window_ends, window_tiles}
 use Rattle.fx_region.specs.Ends.{EndShown, Frame, Render, Void, end_of}
-use Rattle.fx_region.specs.Sites.{scene_nodes}
+use Rattle.fx_scene.specs.Sites.{scene_nodes}
 use Rattle.fx_tile.specs.declared.count.TileCount.{TileCount}
 use Rattle.fx_tile.specs.declared.job.Drawn.{Drawn}
 use Rattle.fx_tile.specs.declared.job.TileJob.{TileJob}
 use Rattle.fx_tile.specs.Counts.{CountsEnd, CountsRises, CountsWay}
 use Rattle.fx_tile.specs.Moments.{CountsTiles, Cover, FitsInto, IsDrawn, IsWindowTile, ShowsPicture, ShowsTiles, count_of_all, job_tile}
-use Rattle.fx_tile.specs.Sites.{end_renders}
+use Rattle.fx_tile.specs.Setups.{end_renders}
 use Rattle.fx_tile.proofs.PaintLemmas.{same_picture}
 use Rattle.fx_tile.proofs.SumLemmas.{map-numbered, sum_by-le-both, sum_by-tests}
 

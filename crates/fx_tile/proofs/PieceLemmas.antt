@@ -27,7 +27,7 @@ use Rattle.fx_region.specs.Needs.{need_holds, need_shown, needs_pixel}
 use Rattle.std.proofs.Common.{map}
 use Rattle.fx_tile.specs.Inputs.{AddsPiece, AreInputs, ArePiecesOf, IsPieceOf, piece_of}
 use Rattle.fx_tile.specs.Counts.{one_if_some}
-use Rattle.fx_tile.specs.Sites.{EachTile}
+use Rattle.fx_tile.specs.Setups.{EachTile}
 use Rattle.fx_tile.specs.Tiles.{IsTile}
 
 -- ---- the piece of a need
@@ -64,7 +64,8 @@ tile_piece nodes need m f region cut through image is tile holds =
           let inside : within cut x y ≡ true = sym (ap (λ (e : EndShown). end_holds e x y) found) ∙ h in
           let one : converted (depth_at nodes m) through to c (value nodes m f x y) ≡ converted image.depth through to c (shown image x y) =
           ap (λ (d : Depth). converted d through to c (value nodes m f x y)) (sym tile.depth) ∙ ap (converted image.depth through to c) (sym (tile.pixels x y (holds x y inside))) in
-          let two : end_pixel nodes (Render m f region cut through) to c x y ≡ converted image.depth through to c (shown image x y) = rw inside one in
+          let held : within region x y ≡ true = holds x y inside in
+          let two : end_pixel nodes (Render m f region cut through) to c x y ≡ converted image.depth through to c (shown image x y) = rw (inside, held) one in
           sym (ap (λ (e : EndShown). end_pixel nodes e to c x y) found ∙ two);
     }
 

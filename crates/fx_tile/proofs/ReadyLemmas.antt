@@ -22,11 +22,11 @@ use Rattle.fx_region.specs.declared.ends.Need.{Need}
 use Rattle.fx_region.specs.Counts.{is_asked}
 use Rattle.fx_region.specs.Ends.{Void, end_shown}
 use Rattle.fx_region.specs.Needs.{NeedShown, need_shown}
-use Rattle.fx_region.specs.Sites.{scene_nodes}
+use Rattle.fx_scene.specs.Sites.{scene_nodes}
 use Rattle.fx_region.specs.Stands.{NeedStands, StandsBelow}
 use Rattle.fx_tile.specs.Founds.{IsFoundIn, IsOfFrame}
-use Rattle.fx_tile.specs.declared.site.Site.{Site}
-use Rattle.fx_tile.specs.Sites.{IsReady, IsShown, renders_of}
+use Rattle.fx_tile.specs.declared.setup.Setup.{Setup}
+use Rattle.fx_tile.specs.Setups.{IsReady, IsShown, renders_of}
 use Rattle.fx_tile.specs.Tiles.{IsSmall}
 use Rattle.fx_tile.proofs.NeedLemmas.{IsNeedIn}
 use Rattle.fx_tile.proofs.SizeLemmas.{small_within}
@@ -79,12 +79,12 @@ small_either : (q r : Bounds) → IsProper q → IsSmall r → IsWithin q r ⊎ 
 small_either q r proper small (inl inside) = small_within q r proper inside small
 small_either q r proper small (inr own) = own
 
-module _ {E : Type 0} {c e : _} (meaning : E → Meaning) (site : Site E c e) (store : site.scene.now.store ≡ site.store.now) where
-  frame_ready : (r : Bounds) (m : ℕ) (f : ℤ) (q : Bounds) → IsOfFrame (scene_nodes meaning site.scene.now) r m f q
-      → IsShown meaning site m f q
+module _ {E : Type 0} {c e : _} (meaning : E → Meaning) (setup : Setup E c e) (store : setup.scene.now.store ≡ setup.store.now) where
+  frame_ready : (r : Bounds) (m : ℕ) (f : ℤ) (q : Bounds) → IsOfFrame (scene_nodes meaning setup.scene.now) r m f q
+      → IsShown meaning setup m f q
   frame_ready r m f q found =
-      let s = site.scene.now.store in
-      let at = frames_are meaning site.scene.now.graph (images_in s) m f found.image found.source found.there found.shown in
+      let s = setup.scene.now.store in
+      let at = frames_are meaning setup.scene.now.graph (images_in s) m f found.image found.source found.there found.shown in
       let is = stored_as (held s m f) found.image at in
       record {
         source = found.source;
@@ -97,8 +97,8 @@ module _ {E : Type 0} {c e : _} (meaning : E → Meaning) (site : Site E c e) (s
       }
 
   pub end_ready : (n : ℕ) (r : Bounds) (end : End) → IsSmall r
-      → StandsBelow (scene_nodes meaning site.scene.now) site.regions.now n (end_shown end)
-      → IsFoundIn (scene_nodes meaning site.scene.now) r (end_shown end) → IsReady meaning site n end
+      → StandsBelow (scene_nodes meaning setup.scene.now) setup.regions.now n (end_shown end)
+      → IsFoundIn (scene_nodes meaning setup.scene.now) r (end_shown end) → IsReady meaning setup n end
   end_ready n r code.Void small stands found = tt
   end_ready n r (code.Frame m f q through) small stands found = frame_ready r m f q found
   end_ready n r (code.Render m f q cut through) small stands found =
@@ -115,22 +115,22 @@ module _ {E : Type 0} {c e : _} (meaning : E → Meaning) (site : Site E c e) (s
       )
 
   need_ready : (n count side : ℕ) (need : Need) → side ≤ MOST_SIDE
-      → NeedStands (scene_nodes meaning site.scene.now) site.regions.now n (need_shown need)
-      → IsNeedIn (scene_nodes meaning site.scene.now) count side (need_shown need) → IsReady meaning site n need.end
+      → NeedStands (scene_nodes meaning setup.scene.now) setup.regions.now n (need_shown need)
+      → IsNeedIn (scene_nodes meaning setup.scene.now) count side (need_shown need) → IsReady meaning setup n need.end
   need_ready n count side need few stands is =
       let w = is.wide in let h = is.high in
       end_ready n is.tile need.end (omega (arith, w, few), omega (arith, h, few)) stands is.found
 
   pub needs_ready : (n count side : ℕ) (needs : List Need) → side ≤ MOST_SIDE
-      → All (NeedStands (scene_nodes meaning site.scene.now) site.regions.now n) (map need_shown needs)
-      → All (IsNeedIn (scene_nodes meaning site.scene.now) count side) (map need_shown needs)
-      → All (λ need. IsReady meaning site n need.end) needs
-  needs_ready n count side [] few stands are = All-nil (λ (need : Need). IsReady meaning site n need.end)
+      → All (NeedStands (scene_nodes meaning setup.scene.now) setup.regions.now n) (map need_shown needs)
+      → All (IsNeedIn (scene_nodes meaning setup.scene.now) count side) (map need_shown needs)
+      → All (λ need. IsReady meaning setup n need.end) needs
+  needs_ready n count side [] few stands are = All-nil (λ (need : Need). IsReady meaning setup n need.end)
   needs_ready n count side (x ∷ xs) few stands are =
-      let nodes = scene_nodes meaning site.scene.now in
-      let S = NeedStands nodes site.regions.now n in
+      let nodes = scene_nodes meaning setup.scene.now in
+      let S = NeedStands nodes setup.regions.now n in
       let I = IsNeedIn nodes count side in
-      All-cons (λ (need : Need). IsReady meaning site n need.end) x xs
+      All-cons (λ (need : Need). IsReady meaning setup n need.end) x xs
       (need_ready n count side x few (All-head S (need_shown x) (map need_shown xs) stands) (All-head I (need_shown x) (map need_shown xs) are))
       (needs_ready n count side xs few (All-tail S (need_shown x) (map need_shown xs) stands) (All-tail I (need_shown x) (map need_shown xs) are))
 

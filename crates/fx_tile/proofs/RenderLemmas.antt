@@ -33,89 +33,21 @@ use Rattle.fx_scene.specs.Value.{Pixels, node_value, tap_value, value}
 use Rattle.fx_scene.proofs.Equations.{value_is}
 use Rattle.fx_scene.proofs.Members.{In, all_in, map_same}
 use Rattle.fx_scene.proofs.Outside.{Covered, dot, in_dot}
-use Rattle.fx_region.specs.declared.site.EffectNode.{EffectNode}
+use Rattle.fx_scene.specs.declared.site.EffectNode.{EffectNode}
 use Rattle.fx_region.specs.declared.ends.Need.{Need}
 use Rattle.fx_region.specs.Needs.{need_shown, needs_pixel}
-use Rattle.fx_region.specs.Sites.{StandsIn, effect_at}
+use Rattle.fx_scene.specs.Sites.{StandsIn}
+use Rattle.fx_scene.specs.Windows.{IsWindowOf}
 use Rattle.fx_region.specs.Suffice.{ShowsTaps}
-use Rattle.fx_region.proofs.SiteLemmas.{is_effect, is_use}
-use Rattle.fx_tile.specs.Inputs.{AreInputs, seen_in}
+use Rattle.fx_tile.specs.Inputs.{AreInputs}
 use Rattle.fx_tile.specs.Tiles.{IsTile}
-use Rattle.fx_tile.specs.Windows.{IsWindowOf}
 use Rattle.fx_tile.proofs.PieceLemmas.{pieces_pixel}
 
-map_map : {A B C : Type 0} (f : B → C) (g : A → B) (xs : List A) → map f (map g xs) ≡ map (λ x. f (g x)) xs
-map_map f g [] = refl
-map_map f g (x ∷ xs) = ap (λ ys. f (g x) ∷ ys) (map_map f g xs)
-
--- the components of clips by their masks are those in which the effect sees them
-seen_shown : (s : Shape) (context : Context) (c : Components) (masks : List Bool) → masks ≡ map is_mask (clip_names s context)
-    → map (seen_in c) masks ≡ shown_components s context c
-seen_shown s context c masks is = ap (map (seen_in c)) is ∙ map_map (seen_in c) is_mask (clip_names s context)
-
-seen_at : (s : Shape) (context : Context) (c : Components) (masks : List Bool) (clip : ℕ)
-    → masks ≡ map is_mask (clip_names s context) → clip < length (s.clips context)
-    → get_or (map (seen_in c) masks) clip Rgba ≡ seen_as s context c clip
-seen_at s context c masks clip is low =
-    let names = clip_names s context in
-    let named : length names ≡ length (s.clips context) = length-map (s.clips context) (λ clip. clip.name) in
-    ap (λ (cs : List Components). get_or cs clip Rgba) (seen_shown s context c masks is)
-    ∙ get_or-map (shown_as c) names clip [] Rgba (omega (arith, named, low))
-
--- as many masks as clips
-clips_counted : (s : Shape) (before : ℕ) (c : Context) (clips : List (Option ℕ)) (names : List (List ℕ))
-    (optional masks : List Bool) (params : List Parameter) → graph.IsUse s before c clips names optional masks params
-    → (length clips ≡ length (s.clips c)) × (length masks ≡ length clips)
-clips_counted s before c clips names optional masks params u =
-    let flags = flag_for_each (s.clips c) (map is_some clips) u.connected in
-    let connected = length-map clips (λ (o : Option ℕ). is_some o) in
-    let named = length-map (s.clips c) (λ clip. clip.name) in
-    let mask = ap (λ (bs : List Bool). length bs) u.masks_are in
-    let each = length-map (clip_names s c) is_mask in
-    (omega (arith, flags, connected), omega (arith, flags, connected, named, mask, each))
-
--- its place is one of the graph's
-pub place_below : {E : Type 0} (g : GraphShown E) (n : EffectNode E) → StandsIn g n → n.place < length g.nodes
-place_below g n at = slice_get_within g.nodes n.place at.node at.there
-
-module _ {E : Type 0} (meaning : E → Meaning) (g : GraphShown E) where
-  -- its instance is in the life
-  pub has_instance : (number : E → ℕ) (life : Lives E) → HasLife number g life → (n : EffectNode E) → StandsIn g n
-      → Plays number life n.place n.effect.now
-  has_instance number life has n at =
-      has n.place at.node (record { effect = n.effect.now; context = n.context }) at.there (ap used_by at.does)
-
-  module _ (form : Form) (kept : graph.AreNodes meaning form g.nodes) where
-    -- the components in which it sees its clips
-    pub sees : (n : EffectNode E) → StandsIn g n → (clip : ℕ) → clip < length n.clips.now
-        → get_or (map (seen_in n.components) n.masks.now) clip Rgba ≡ seen (effect_at meaning g.project n) clip
-    sees n at clip low =
-        let u = is_use meaning g form kept n at in
-        let s = (meaning n.effect.now).shape in
-        let counted = clips_counted s _ n.context n.clips.now n.names.now n.optional.now n.masks.now n.params.now u in
-        let clips = counted.0 in
-        seen_at s n.context n.components n.masks.now clip u.masks_are (omega (arith, clips, low))
-
-    -- it may be asked to render what shows its clips
-    pub may_render : (images : Images) → AreNodes (graph_nodes meaning g images) → (n : EffectNode E) → StandsIn g n
-        → (v : Values) (given : Given) → v ≡ use_values g.project v.frame n.clips.now n.params.now → given.depth ≡ n.depth
-        → given.components ≡ map (seen_in n.components) n.masks.now
-        → MayRender (meaning n.effect.now).shape v given n.depth n.components
-    may_render images are n at v given is depth components =
-        let i = is_effect meaning g images are n at in
-        let s = (meaning n.effect.now).shape in
-        record {
-          context = n.context;
-          lawful = subst (λ (w : Values). IsLawfulIn s n.context w) (sym is) (i.lawful v.frame);
-          supported = i.supported;
-          depth_is = depth;
-          clips = components ∙ seen_shown s n.context n.components n.masks.now (is_use meaning g form kept n at).masks_are;
-        }
-
-    pub masks_counted : (n : EffectNode E) → StandsIn g n → length n.masks.now ≡ length n.clips.now
-    masks_counted n at =
-        let s = (meaning n.effect.now).shape in
-        (clips_counted s _ n.context n.clips.now n.names.now n.optional.now n.masks.now n.params.now (is_use meaning g form kept n at)).1
+-- its instance is in the life
+pub has_instance : {E : Type 0} (g : GraphShown E) (number : E → ℕ) (life : Lives E) → HasLife number g life
+    → (n : EffectNode E) → StandsIn g n → Plays number life n.place n.effect.now
+has_instance g number life has n at =
+    has n.place at.node (record { effect = n.effect.now; context = n.context }) at.there (ap used_by at.does)
 
 -- ---- windows that were rendered
 

@@ -28,14 +28,14 @@ use Rattle.fx_region.specs.declared.ends.End.TheVariants as code
 use Rattle.fx_region.specs.declared.ends.Need.{Need}
 use Rattle.fx_region.specs.Ends.{EndShown, Frame, Render, Void, end_holds, end_pixel, end_shown}
 use Rattle.fx_region.specs.Needs.{need_shown, needs_pixel}
-use Rattle.fx_region.specs.Sites.{scene_nodes}
+use Rattle.fx_scene.specs.Sites.{scene_nodes}
 use Rattle.fx_region.specs.Suffice.{ShowsEnd}
-use Rattle.fx_tile.specs.declared.count.Tally.{Tally}
+use Rattle.fx_tile.specs.declared.count.RenderCount.{RenderCount}
 use Rattle.fx_tile.specs.declared.count.TileCount.{TileCount}
-use Rattle.fx_tile.specs.declared.site.Site.{Site}
+use Rattle.fx_tile.specs.declared.setup.Setup.{Setup}
 use Rattle.fx_tile.specs.Counts.{CountsEnd, CountsRises, Follows, IsUnasked}
 use Rattle.fx_tile.specs.Inputs.{AddsPiece}
-use Rattle.fx_tile.specs.Sites.{IsFound, end_renders}
+use Rattle.fx_tile.specs.Setups.{IsFound, end_renders}
 use Rattle.fx_tile.proofs.PieceLemmas.{pieces_pixel}
 
 -- ---- one need alone shows its end
@@ -125,25 +125,25 @@ asked_by : (r : ℕ) (m n : Made) (a b : ℕ) → n.landed ≡ m.landed + a → 
 asked_by r m n a b l h (inl w) = let w0 = w.0 in let w1 = w.1 in inl (omega (arith, l, w0), omega (arith, h, w1))
 asked_by r m n a b l h (inr w) = let w0 = w.0 in let w1 = w.1 in inr (omega (arith, l, w0), omega (arith, l, h, w1))
 
-module _ {E : Type 0} {c e : _} (meaning : E → Meaning) (site : Site E c e) (m n : Made) (count : TileCount)
+module _ {E : Type 0} {c e : _} (meaning : E → Meaning) (setup : Setup E c e) (m n : Made) (count : TileCount)
     (landed : n.landed ≡ m.landed + count.landed) (hits : n.hits ≡ m.hits + count.hits) where
   unasked : (r : ℕ) → IsUnasked m n → count.asked ≡ 0 → CountsRises r m n count
   unasked r un none =
       record { dropped = un.dropped; landed = landed; hits = hits; way = λ one. not_asked count.asked none one }
 
-  rises_by : (end : End) → IsFound meaning site end m n → CountsEnd (end_shown end) count
-      → CountsRises (end_renders (scene_nodes meaning site.scene.now) site.shared.now.grid (end_shown end)) m n count
+  rises_by : (end : End) → IsFound meaning setup end m n → CountsEnd (end_shown end) count
+      → CountsRises (end_renders (scene_nodes meaning setup.scene.now) setup.shared.now.grid (end_shown end)) m n count
   rises_by code.Void found ends = unasked _ found ends.2
   rises_by (code.Frame node frame region through) found ends = unasked _ found ends.2
   rises_by (code.Render node frame region cut through) found ends =
       record { dropped = found.dropped; landed = landed; hits = hits; way = λ one. asked_by _ m n count.landed count.hits landed hits found.way }
 
 -- the count of a tile rises as the seat's counts do
-pub rises : {E : Type 0} {c e : _} (meaning : E → Meaning) (site : Site E c e) (m n : Made) (old new : Tally) (count : TileCount) (end : End)
+pub rises : {E : Type 0} {c e : _} (meaning : E → Meaning) (setup : Setup E c e) (m n : Made) (old new : RenderCount) (count : TileCount) (end : End)
     → old ≡ record { landed = 0; hits = 0 } → Follows old new m n → count.landed ≡ new.landed → count.hits ≡ new.hits
-    → IsFound meaning site end m n → CountsEnd (end_shown end) count
-    → CountsRises (end_renders (scene_nodes meaning site.scene.now) site.shared.now.grid (end_shown end)) m n count
-rises meaning site m n old new count end start follows landed hits found ends =
-    let l0 = ap (λ (t : Tally). t.landed) start in let h0 = ap (λ (t : Tally). t.hits) start in
+    → IsFound meaning setup end m n → CountsEnd (end_shown end) count
+    → CountsRises (end_renders (scene_nodes meaning setup.scene.now) setup.shared.now.grid (end_shown end)) m n count
+rises meaning setup m n old new count end start follows landed hits found ends =
+    let l0 = ap (λ (t : RenderCount). t.landed) start in let h0 = ap (λ (t : RenderCount). t.hits) start in
     let l1 = follows.landed in let h1 = follows.hits in
-    rises_by meaning site m n count (omega (arith, l0, l1, landed)) (omega (arith, h0, h1, hits)) end found ends
+    rises_by meaning setup m n count (omega (arith, l0, l1, landed)) (omega (arith, h0, h1, hits)) end found ends

@@ -2,16 +2,16 @@
 use Rattle.std.specs.Prelude.{◌≡◌, ◌<◌, ◌≤◌, ◌+◌, ◌^◌, ◌⊎◌, ℕ, Option, None, Some}
 use Rattle.fx_directory.specs.Seats.{Made}
 use Rattle.fx_region.specs.Ends.{EndShown, Frame, Render, Void}
-use Rattle.fx_tile.specs.declared.count.Tally.{Tally}
+use Rattle.fx_tile.specs.declared.count.RenderCount.{RenderCount}
 use Rattle.fx_tile.specs.declared.count.TileCount.{TileCount}
 
--- the tally rose as the seat's counts did
-pub record Follows (old new : Tally) (m n : Made) : Type 0 where
+-- the count rose as the seat's counts did
+pub record Follows (old new : RenderCount) (m n : Made) : Type 0 where
   pub landed : new.landed + m.landed ≡ old.landed + n.landed
   pub hits : new.hits + m.hits ≡ old.hits + n.hits
 
--- no more was tallied than the seat counted
-pub record Within (t : Tally) (m : Made) : Type 0 where
+-- no more was counted than the seat counted
+pub record Within (t : RenderCount) (m : Made) : Type 0 where
   pub landed : t.landed ≤ m.landed
   pub hits : t.hits ≤ m.hits
 

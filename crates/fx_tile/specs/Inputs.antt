@@ -1,20 +1,15 @@
 -- What a render reads: pieces that show what its needs are found to be.
-use Rattle.std.specs.Prelude.{◌≡◌, ◌++◌, ℕ, ℤ, List, [], ◌∷◌, Bool, true, if◌then◌else◌}
+use Rattle.std.specs.Prelude.{◌≡◌, ◌++◌, ℕ, ℤ, List, [], ◌∷◌, true}
 use Rattle.fx_base.specs.Bounds.{Bounds}
 use Rattle.fx_base.specs.Rect.{within}
 use Rattle.fx_pixel.specs.declared.Depth.{Depth}
 use Rattle.fx_pixel.specs.declared.Components.{Components}
-use Rattle.fx_pixel.specs.declared.Components.TheVariants as components
 use Rattle.fx_image.specs.Stored.{Stored}
 use Rattle.fx_effect.specs.Given.{Given, GivenPiece, piece_pixel}
 use Rattle.fx_effect.specs.declared.steps.Step.{Step}
 use Rattle.fx_region.specs.declared.ends.Need.{Need}
 use Rattle.fx_region.specs.Ends.{end_holds, end_pixel, end_shown}
 use Rattle.fx_scene.specs.Nodes.{Nodes}
-
--- the components in which a clip is seen that is a mask or not
-abbrev pub seen_in : Components → Bool → Components
-seen_in c mask = if mask then components.Alpha else c
 
 -- the piece of a region of an image
 abbrev pub piece_of : ℕ → ℤ → Bounds → List Step → Stored → GivenPiece

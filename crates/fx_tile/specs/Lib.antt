@@ -2,7 +2,6 @@ pub mod Tiles
 pub mod Founds
 pub mod KeyLaws
 pub mod Counts
-pub mod Sites
+pub mod Setups
 pub mod Inputs
-pub mod Windows
 pub mod Moments

@@ -11,7 +11,7 @@ use Rattle.fx_pam.specs.Laws.{components_for}
 use Rattle.fx_scene.specs.Scenes.{Shot, images_in, picture}
 use Rattle.fx_region.specs.Counts.{is_asked, is_passed, is_void, window_tiles}
 use Rattle.fx_region.specs.Ends.{EndShown, end_of}
-use Rattle.fx_region.specs.Sites.{scene_nodes}
+use Rattle.fx_scene.specs.Sites.{scene_nodes}
 use Rattle.fx_region.specs.Tables.{AreRegions}
 use Rattle.fx_tile.specs.declared.count.TileCount.{TileCount}
 use Rattle.fx_tile.specs.declared.job.Drawn.{Drawn}
@@ -20,7 +20,7 @@ use Rattle.fx_tile.specs.declared.moment.Ground.{Ground}
 use Rattle.fx_tile.specs.declared.share.Shared.{Shared}
 use Rattle.fx_tile.specs.declared.share.TileSeat.{TileSeat}
 use Rattle.fx_tile.specs.Counts.{CountsEnd, CountsWay}
-use Rattle.fx_tile.specs.Sites.{end_renders}
+use Rattle.fx_tile.specs.Setups.{end_renders}
 use Rattle.fx_tile.specs.Tiles.{IsRegion}
 
 -- the seat has one part of the directory and of the gates, no flight and no gate

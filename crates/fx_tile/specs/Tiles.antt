@@ -10,7 +10,7 @@ use Rattle.fx_scene.specs.declared.key.Key.{Key}
 use Rattle.fx_scene.specs.Nodes.{Nodes, components_at, depth_at}
 use Rattle.fx_scene.specs.Scenes.{Shot, node_values}
 use Rattle.fx_scene.specs.Value.{value}
-use Rattle.fx_region.specs.Sites.{scene_nodes}
+use Rattle.fx_scene.specs.Sites.{scene_nodes}
 
 -- the image of a region of a node at a frame
 pub record IsTile (nodes : Nodes) (node : ℕ) (frame : ℤ) (region : Bounds) (image : Stored) : Type 0 where

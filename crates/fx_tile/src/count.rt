@@ -32,7 +32,7 @@ impl TileCount {
 
 /// How many renders landed, and how many were found kept, so far.
 #[derive(Clone, Copy, Debug, Drop)]
-pub(crate) struct Tally {
+pub(crate) struct RenderCount {
     pub landed: u64,
     pub hits: u64,
 }

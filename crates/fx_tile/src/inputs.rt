@@ -2,40 +2,39 @@
 ghost use Rattle.std.specs.Prelude.{◌≡◌, ◌≢◌, ◌<◌, ◌++◌, ◌∷◌, [], All, IfOk, OnOk, length, map};
 ghost use Rattle.fx_base.specs.Rect.{IsWithin};
 ghost use Rattle.fx_region.specs.declared.ends.End.TheVariants as ends;
-ghost use Rattle.fx_region.specs.Sites.{scene_nodes};
-ghost use Rattle.fx_tile.specs.Sites.{AreTilesOf, IsReady, IsSite, IsTileOf};
-ghost use Rattle.fx_tile.specs.Inputs.{AddsPiece, AreInputs, piece_of, seen_in};
+ghost use Rattle.fx_scene.specs.Sites.{scene_nodes, seen_in};
+ghost use Rattle.fx_tile.specs.Setups.{AreTilesOf, IsReady, IsSetup, IsTileOf};
+ghost use Rattle.fx_tile.specs.Inputs.{AddsPiece, AreInputs, piece_of};
 
-use crate::site::Site;
+use crate::setup::Setup;
 use fx_base::{Memory, Rect};
-use fx_effect::{Catalogue, Flags, Inputs, Piece, Steps};
+use fx_effect::{Catalogue, Inputs, Piece, Steps};
 use fx_image::Image;
-use fx_pixel::Components;
-use fx_region::site::EffectNode;
 use fx_region::{End, Need};
+use fx_scene::site::{EffectNode, seen_components};
 use std::alloc::Global;
 use std::sync::Arc;
 
 /// What the render of a node reads, by the frames and the images of its needs.
 pub(crate) fn inputs_of<'s, E: Catalogue>(
     alloc: Global,
-    site: &'s Site<'s, E>,
+    setup: &'s Setup<'s, E>,
     node: &EffectNode<'_, E>,
     needs: &[Need],
     tiles: &'s [Option<Arc<Image>>],
 ) -> Result<Inputs<'s>, Memory>
     requires clips { All (λ need. need.clip < length node.now.masks.now) needs.now }
     requires found { All (λ need. need.end ≢ ends.Void) needs.now }
-    requires ready { All (λ need. IsReady E.meaning site.now node.now.place need.end) needs.now }
-    requires tiles { AreTilesOf (scene_nodes E.meaning site.now.scene.now) needs.now tiles.now }
+    requires ready { All (λ need. IsReady E.meaning setup.now node.now.place need.end) needs.now }
+    requires tiles { AreTilesOf (scene_nodes E.meaning setup.now.scene.now) needs.now tiles.now }
     ensures { let seen = map (seen_in node.now.components) node.now.masks.now in
-        let nodes = scene_nodes E.meaning site.now.scene.now in
+        let nodes = scene_nodes E.meaning setup.now.scene.now in
         IfOk result (AreInputs nodes node.now.depth seen needs.now) }
 {
     let components = seen_components(alloc, node.masks, node.components)?;
     let mut inputs = Inputs::new(alloc, node.depth, components)?;
     for i in 0..needs.len() {
-        add_piece(alloc, site, node.place, &needs[i], &tiles[i], &mut inputs)?;
+        add_piece(alloc, setup, node.place, &needs[i], &tiles[i], &mut inputs)?;
     }
     Ok(inputs)
 }
@@ -43,7 +42,7 @@ pub(crate) fn inputs_of<'s, E: Catalogue>(
 /// Adds the piece of a need.
 pub(crate) fn add_piece<'s, E: Catalogue>(
     alloc: Global,
-    site: &'s Site<'s, E>,
+    setup: &'s Setup<'s, E>,
     _before: u32,
     need: &Need,
     tile: &'s Option<Arc<Image>>,
@@ -51,10 +50,10 @@ pub(crate) fn add_piece<'s, E: Catalogue>(
 ) -> Result<(), Memory>
     requires clip { need.now.clip < length inputs.old.components }
     requires found { need.now.end ≢ ends.Void }
-    requires ready { IsReady E.meaning site.now _before need.now.end }
-    requires tile { IsTileOf (scene_nodes E.meaning site.now.scene.now) need.now.end tile.now }
+    requires ready { IsReady E.meaning setup.now _before need.now.end }
+    requires tile { IsTileOf (scene_nodes E.meaning setup.now.scene.now) need.now.end tile.now }
     ensures { OnOk result
-        (AddsPiece (scene_nodes E.meaning site.now.scene.now) need.now inputs.old inputs.new) }
+        (AddsPiece (scene_nodes E.meaning setup.now.scene.now) need.now inputs.old inputs.new) }
 {
     match &need.end {
         End::Void => unreachable!(),
@@ -64,7 +63,7 @@ pub(crate) fn add_piece<'s, E: Catalogue>(
             region,
             through,
         } => {
-            let Some(image) = site.store.frame(*node, *frame) else {
+            let Some(image) = setup.store.frame(*node, *frame) else {
                 unreachable!()
             };
             push_view(
@@ -102,25 +101,4 @@ fn push_view<'s>(
     let through = Steps::of(Vec::from_slice(alloc, through.items())?);
     let view = image.view(region);
     inputs.push(alloc, clip, frame, Piece::Frame { view, through })
-}
-
-// The components in which clips are seen: Alpha for a mask, and those of the node for every other.
-fn seen_components(
-    alloc: Global,
-    masks: &Flags,
-    components: Components,
-) -> Result<Vec<Components>, Memory>
-    ensures { IfOk result (λ seen. seen.items ≡ map (seen_in components) masks.now) }
-{
-    let mut seen = Vec::new(alloc);
-    for mask in masks.items() {
-        seen.push(seen_in(*mask, components))?;
-    }
-    Ok(seen)
-}
-
-fn seen_in(mask: bool, components: Components) -> Components
-    ensures { result ≡ seen_in components mask }
-{
-    if mask { Components::Alpha } else { components }
 }

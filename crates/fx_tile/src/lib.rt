@@ -9,8 +9,8 @@ pub mod laws;
 mod moment;
 mod name;
 mod render;
+mod setup;
 mod share;
-mod site;
 mod tile;
 mod window;
 

@@ -7,7 +7,7 @@ ghost use Rattle.fx_image.specs.Stored.{SameFrame, image_of};
 ghost use Rattle.fx_life.specs.Seats.{HasLife};
 ghost use Rattle.fx_pool.specs.Weights.{plus, weigh};
 ghost use Rattle.fx_region.specs.Counts.{window_ends, window_tiles};
-ghost use Rattle.fx_region.specs.Sites.{scene_nodes};
+ghost use Rattle.fx_scene.specs.Sites.{scene_nodes};
 ghost use Rattle.fx_scene.specs.Scenes.{images_in, picture};
 ghost use Rattle.fx_tile.specs.Counts.{CanCount};
 ghost use Rattle.fx_tile.specs.Moments.{CountsTiles, Cover, FitsInto, IsFree, IsGround, IsWindowTile, Paints, ShowsTiles, count_of_all, count_weight, seat_weight};

@@ -5,13 +5,13 @@ ghost use Rattle.fx_base.specs.declared.limits.TheConstants.{MOST_SIDE};
 ghost use Rattle.fx_base.specs.Rect.{IsNear, columns};
 ghost use Rattle.fx_image.specs.Stored.{pixel_size};
 ghost use Rattle.fx_scene.specs.Scenes.{graph_shown};
-ghost use Rattle.fx_region.specs.Sites.{StandsIn, scene_nodes};
+ghost use Rattle.fx_scene.specs.Sites.{IsAsked, StandsIn, scene_nodes};
+ghost use Rattle.fx_scene.specs.Windows.{IsWindowOf};
 ghost use Rattle.fx_tile.specs.Tiles.{IsRegion, IsTile};
-ghost use Rattle.fx_tile.specs.Sites.{AreNeeds, AreTilesOf, IsGateSeat, IsReady, IsRenderable, IsSite};
-ghost use Rattle.fx_tile.specs.Windows.{IsAsked, IsWindowOf};
+ghost use Rattle.fx_tile.specs.Setups.{AreNeeds, AreTilesOf, IsGateSeat, IsReady, IsRenderable, IsSetup};
 
 use crate::inputs::inputs_of;
-use crate::site::Site;
+use crate::setup::Setup;
 use fx_base::{Memory, Rect};
 use fx_core::Ticket;
 use fx_effect::{Catalogue, Inputs, Values};
@@ -19,7 +19,7 @@ use fx_gate::GateSeat;
 use fx_image::Image;
 use fx_pixel::{Components, Depth};
 use fx_region::Need;
-use fx_region::site::{EffectNode, NodeAt, node_at};
+use fx_scene::site::{EffectNode, NodeAt, node_at};
 use fx_scene::use_values;
 use std::alloc::Global;
 use std::rt::Clock;
@@ -29,7 +29,7 @@ use std::sync::{Arc, Wait};
 pub(crate) fn rendered<R: Wait + Clock, E: Catalogue + Drop>(
     rt: &R,
     alloc: Global,
-    site: &Site<'_, E>,
+    setup: &Setup<'_, E>,
     seat: &mut GateSeat,
     place: u32,
     frame: i64,
@@ -38,22 +38,22 @@ pub(crate) fn rendered<R: Wait + Clock, E: Catalogue + Drop>(
     tiles: &[Option<Arc<Image>>],
     ticket: &mut Ticket,
 ) -> Result<Arc<Image>, Memory>
-    requires site { IsSite E.meaning E.number_of site.now }
-    requires renderable { IsRenderable E.meaning site.now place frame region }
-    requires needs { AreNeeds E.meaning site.now place frame region needs.now }
-    requires ready { All (λ need. IsReady E.meaning site.now place need.end) needs.now }
-    requires tiles { AreTilesOf (scene_nodes E.meaning site.now.scene.now) needs.now tiles.now }
-    requires gates { IsGateSeat site.now seat.old }
-    ensures tile { let nodes = scene_nodes E.meaning site.now.scene.now in
+    requires setup { IsSetup E.meaning E.number_of setup.now }
+    requires renderable { IsRenderable E.meaning setup.now place frame region }
+    requires needs { AreNeeds E.meaning setup.now place frame region needs.now }
+    requires ready { All (λ need. IsReady E.meaning setup.now place need.end) needs.now }
+    requires tiles { AreTilesOf (scene_nodes E.meaning setup.now.scene.now) needs.now tiles.now }
+    requires gates { IsGateSeat setup.now seat.old }
+    ensures tile { let nodes = scene_nodes E.meaning setup.now.scene.now in
         IfOk result (λ image. IsTile nodes place frame region (arc_value image)) }
     ensures seat { seat.new ≡ seat.old }
     ensures number { ticket.new.number ≡ ticket.old.number }
     ensures stamped { OnOk result (IsTrue ticket.new.stamped) }
 {
-    match node_at(site.graph, place) {
+    match node_at(setup.graph, place) {
         NodeAt::Source(_) => unreachable!(),
         NodeAt::Effect(node) => effect_rendered(
-            rt, alloc, site, seat, &node, frame, region, needs, tiles, ticket,
+            rt, alloc, setup, seat, &node, frame, region, needs, tiles, ticket,
         ),
     }
 }
@@ -62,7 +62,7 @@ pub(crate) fn rendered<R: Wait + Clock, E: Catalogue + Drop>(
 fn effect_rendered<R: Wait + Clock, E: Catalogue + Drop>(
     rt: &R,
     alloc: Global,
-    site: &Site<'_, E>,
+    setup: &Setup<'_, E>,
     seat: &mut GateSeat,
     node: &EffectNode<'_, E>,
     frame: i64,
@@ -71,23 +71,23 @@ fn effect_rendered<R: Wait + Clock, E: Catalogue + Drop>(
     tiles: &[Option<Arc<Image>>],
     ticket: &mut Ticket,
 ) -> Result<Arc<Image>, Memory>
-    requires site { IsSite E.meaning E.number_of site.now }
-    requires there { StandsIn (graph_shown site.now.graph.now) node.now }
-    requires renderable { IsRenderable E.meaning site.now node.now.place frame region }
-    requires needs { AreNeeds E.meaning site.now node.now.place frame region needs.now }
-    requires ready { All (λ need. IsReady E.meaning site.now node.now.place need.end) needs.now }
-    requires tiles { AreTilesOf (scene_nodes E.meaning site.now.scene.now) needs.now tiles.now }
-    requires gates { IsGateSeat site.now seat.old }
-    ensures tile { let nodes = scene_nodes E.meaning site.now.scene.now in
+    requires setup { IsSetup E.meaning E.number_of setup.now }
+    requires there { StandsIn (graph_shown setup.now.graph.now) node.now }
+    requires renderable { IsRenderable E.meaning setup.now node.now.place frame region }
+    requires needs { AreNeeds E.meaning setup.now node.now.place frame region needs.now }
+    requires ready { All (λ need. IsReady E.meaning setup.now node.now.place need.end) needs.now }
+    requires tiles { AreTilesOf (scene_nodes E.meaning setup.now.scene.now) needs.now tiles.now }
+    requires gates { IsGateSeat setup.now seat.old }
+    ensures tile { let nodes = scene_nodes E.meaning setup.now.scene.now in
         IfOk result (λ image. IsTile nodes node.now.place frame region (arc_value image)) }
     ensures seat { seat.new ≡ seat.old }
     ensures number { ticket.new.number ≡ ticket.old.number }
     ensures stamped { OnOk result (IsTrue ticket.new.stamped) }
 {
-    let values = use_values(alloc, site.graph.project, node.clips, node.params, frame)?;
-    let inputs = inputs_of(alloc, site, node, needs, tiles)?;
+    let values = use_values(alloc, setup.graph.project, node.clips, node.params, frame)?;
+    let inputs = inputs_of(alloc, setup, node, needs, tiles)?;
     let image = window_of(
-        rt, alloc, site, seat, node, region, &values, &inputs, ticket,
+        rt, alloc, setup, seat, node, region, &values, &inputs, ticket,
     )?;
     Ok(Arc::new(alloc, image)?)
 }
@@ -96,7 +96,7 @@ fn effect_rendered<R: Wait + Clock, E: Catalogue + Drop>(
 fn window_of<R: Wait + Clock, E: Catalogue + Drop>(
     rt: &R,
     alloc: Global,
-    site: &Site<'_, E>,
+    setup: &Setup<'_, E>,
     seat: &mut GateSeat,
     node: &EffectNode<'_, E>,
     region: Rect,
@@ -104,9 +104,10 @@ fn window_of<R: Wait + Clock, E: Catalogue + Drop>(
     inputs: &Inputs<'_>,
     ticket: &mut Ticket,
 ) -> Result<Image, Memory>
-    requires asked { IsAsked E.meaning E.number_of site.now node.now values.now inputs.now }
+    requires setup { IsSetup E.meaning E.number_of setup.now }
+    requires asked { IsAsked (graph_shown setup.now.graph.now) node.now values.now inputs.now }
     requires region { IsRegion region }
-    requires gates { IsGateSeat site.now seat.old }
+    requires gates { IsGateSeat setup.now seat.old }
     ensures window { let m = E.meaning node.now.effect.now in let c = node.now.components in
         IfOk result (IsWindowOf m values.now inputs.now node.now.depth c region) }
     ensures seat { seat.new ≡ seat.old }
@@ -115,10 +116,10 @@ fn window_of<R: Wait + Clock, E: Catalogue + Drop>(
 {
     let row_bytes = row_bytes_of(region, node.depth, node.components);
     let mut image = Image::new(alloc, region, node.depth, node.components, row_bytes)?;
-    site.life.render_image(
+    setup.life.render_image(
         rt,
         alloc,
-        &site.shared.gates,
+        &setup.shared.gates,
         seat,
         node.place,
         values,

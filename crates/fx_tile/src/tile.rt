@@ -3,16 +3,16 @@ ghost use Rattle.std.specs.Prelude.{◌≡◌, ◌≤◌, All, IfOk, IfSome, IsT
 ghost use Rattle.std.specs.Arc.{arc_value};
 ghost use Rattle.fx_core.specs.Flight.{Stands};
 ghost use Rattle.fx_directory.specs.Seats.{LeavesAlone};
-ghost use Rattle.fx_region.specs.Sites.{scene_nodes};
+ghost use Rattle.fx_scene.specs.Sites.{scene_nodes};
 ghost use Rattle.fx_scene.specs.Scenes.{node_values};
 ghost use Rattle.fx_tile.specs.Tiles.{IsRightTile, IsTile};
-ghost use Rattle.fx_tile.specs.Sites.{AreNeeds, AreTilesOf, IsFound, IsKeyOf, IsReady, IsRenderable, IsSeat, IsSite, IsTileOf, KeepsSeat, MayBeTileOf, MayBeTilesOf, renders_needed, renders_of};
+ghost use Rattle.fx_tile.specs.Setups.{AreNeeds, AreTilesOf, IsFound, IsKeyOf, IsReady, IsRenderable, IsSeat, IsSetup, IsTileOf, KeepsSeat, MayBeTileOf, MayBeTilesOf, renders_needed, renders_of};
 ghost use Rattle.fx_tile.specs.Counts.{AskedOnce, Fetched, Follows, Lands, Met, Within, one_if_some};
 
-use crate::count::Tally;
+use crate::count::RenderCount;
 use crate::render::rendered;
+use crate::setup::Setup;
 use crate::share::TileSeat;
-use crate::site::Site;
 use fx_actions::Asking;
 use fx_base::{Grid, Memory, Rect};
 use fx_core::{Answer, Flight, Ticket};
@@ -32,31 +32,31 @@ pub(crate) fn fetch<R: Wait + Clock, E: Catalogue + Drop>(
     rt: &R,
     alloc: Global,
     asking: &mut Asking,
-    site: &Site<'_, E>,
+    setup: &Setup<'_, E>,
     seat: &mut TileSeat<E>,
-    tally: &mut Tally,
+    sum: &mut RenderCount,
     node: u32,
     frame: i64,
     region: Rect,
 ) -> Result<Arc<Image>, Memory>
-    requires site { IsSite E.meaning E.number_of site.now }
-    requires seat { IsSeat site.now seat.old }
-    requires within { Within tally.old seat.old.directory.made }
-    requires renderable { IsRenderable E.meaning site.now node frame region }
-    ensures tile { let nodes = scene_nodes E.meaning site.now.scene.now in
+    requires setup { IsSetup E.meaning E.number_of setup.now }
+    requires seat { IsSeat setup.now seat.old }
+    requires within { Within sum.old seat.old.directory.made }
+    requires renderable { IsRenderable E.meaning setup.now node frame region }
+    ensures tile { let nodes = scene_nodes E.meaning setup.now.scene.now in
         IfOk result (λ image. IsTile nodes node frame region (arc_value image)) }
     ensures seat { KeepsSeat seat.old seat.new }
-    ensures fetched { let r = renders_needed E.meaning site.now node frame region in
+    ensures fetched { let r = renders_needed E.meaning setup.now node frame region in
         OnOk result (Fetched r seat.old.directory.made seat.new.directory.made) }
     ensures follows { OnOk result
-        (Follows tally.old tally.new seat.old.directory.made seat.new.directory.made) }
+        (Follows sum.old sum.new seat.old.directory.made seat.new.directory.made) }
 {
-    let key = site.scene.key(alloc, node, frame, region)?;
+    let key = setup.scene.key(alloc, node, frame, region)?;
     let mut pause = Pause::new();
     for _ in rt.forever() {
         let key = Arc::try_clone(&key)?;
         match fetch_unless_busy(
-            rt, alloc, asking, site, seat, tally, node, frame, region, key,
+            rt, alloc, asking, setup, seat, sum, node, frame, region, key,
         )? {
             Some(image) => return Ok(image),
             None => pause.wait(rt),
@@ -71,40 +71,40 @@ fn fetch_unless_busy<R: Wait + Clock, E: Catalogue + Drop>(
     rt: &R,
     alloc: Global,
     asking: &mut Asking,
-    site: &Site<'_, E>,
+    setup: &Setup<'_, E>,
     seat: &mut TileSeat<E>,
-    tally: &mut Tally,
+    sum: &mut RenderCount,
     node: u32,
     frame: i64,
     region: Rect,
     key: Arc<Key>,
 ) -> Result<Option<Arc<Image>>, Memory>
-    requires site { IsSite E.meaning E.number_of site.now }
-    requires seat { IsSeat site.now seat.old }
-    requires within { Within tally.old seat.old.directory.made }
-    requires renderable { IsRenderable E.meaning site.now node frame region }
-    requires key { IsKeyOf site.now.scene.now node frame region (arc_value key) }
-    ensures tile { let nodes = scene_nodes E.meaning site.now.scene.now in
+    requires setup { IsSetup E.meaning E.number_of setup.now }
+    requires seat { IsSeat setup.now seat.old }
+    requires within { Within sum.old seat.old.directory.made }
+    requires renderable { IsRenderable E.meaning setup.now node frame region }
+    requires key { IsKeyOf setup.now.scene.now node frame region (arc_value key) }
+    ensures tile { let nodes = scene_nodes E.meaning setup.now.scene.now in
         IfOk result (λ found. IfSome found (λ image. IsTile nodes node frame region (arc_value image))) }
     ensures seat { KeepsSeat seat.old seat.new }
-    ensures asked { let r = renders_needed E.meaning site.now node frame region in
+    ensures asked { let r = renders_needed E.meaning setup.now node frame region in
         IfOk result (λ found. AskedOnce found r seat.old.directory.made seat.new.directory.made) }
     ensures follows { OnOk result
-        (Follows tally.old tally.new seat.old.directory.made seat.new.directory.made) }
+        (Follows sum.old sum.new seat.old.directory.made seat.new.directory.made) }
 {
-    match site
+    match setup
         .shared
         .directory
         .ask(rt, alloc, &mut seat.directory, key)?
     {
         Answer::Here(image) => {
-            tally.hits += 1;
+            sum.hits += 1;
             Ok(Some(image))
         }
         Answer::Busy => Ok(None),
         Answer::Fly(flight) => {
             let image = made(
-                rt, alloc, asking, site, seat, tally, node, frame, region, flight,
+                rt, alloc, asking, setup, seat, sum, node, frame, region, flight,
             )?;
             Ok(Some(image))
         }
@@ -117,47 +117,48 @@ fn made<R: Wait + Clock, E: Catalogue + Drop>(
     rt: &R,
     alloc: Global,
     asking: &mut Asking,
-    site: &Site<'_, E>,
+    setup: &Setup<'_, E>,
     seat: &mut TileSeat<E>,
-    tally: &mut Tally,
+    sum: &mut RenderCount,
     node: u32,
     frame: i64,
     region: Rect,
     flight: Flight<Key>,
 ) -> Result<Arc<Image>, Memory>
-    requires site { IsSite E.meaning E.number_of site.now }
-    requires seat { IsSeat site.now seat.old }
-    requires within { Within tally.old seat.old.directory.made }
-    requires renderable { IsRenderable E.meaning site.now node frame region }
-    requires key { IsKeyOf site.now.scene.now node frame region (arc_value flight.key) }
+    requires setup { IsSetup E.meaning E.number_of setup.now }
+    requires seat { IsSeat setup.now seat.old }
+    requires within { Within sum.old seat.old.directory.made }
+    requires renderable { IsRenderable E.meaning setup.now node frame region }
+    requires key { IsKeyOf setup.now.scene.now node frame region (arc_value flight.key) }
     requires own { Stands seat.old.directory.aloft flight }
-    ensures tile { let nodes = scene_nodes E.meaning site.now.scene.now in
+    ensures tile { let nodes = scene_nodes E.meaning setup.now.scene.now in
         IfOk result (λ image. IsTile nodes node frame region (arc_value image)) }
-    ensures row { IsSeat site.now seat.new }
+    ensures row { IsSeat setup.now seat.new }
     ensures parts { seat.new.directory.parts ≡ seat.old.directory.parts }
     ensures gates { seat.new.gates ≡ seat.old.gates }
     ensures aloft { LeavesAlone seat.old.directory.aloft seat.new.directory.aloft flight }
-    ensures fetched { let r = renders_needed E.meaning site.now node frame region in
+    ensures fetched { let r = renders_needed E.meaning setup.now node frame region in
         OnOk result (Fetched r seat.old.directory.made seat.new.directory.made) }
     ensures follows { OnOk result
-        (Follows tally.old tally.new seat.old.directory.made seat.new.directory.made) }
+        (Follows sum.old sum.new seat.old.directory.made seat.new.directory.made) }
 {
     let mut flight = flight;
     match image_of(
         rt,
         alloc,
         asking,
-        site,
+        setup,
         seat,
-        tally,
+        sum,
         node,
         frame,
         region,
         &mut flight.ticket,
     ) {
-        Ok(image) => landed(rt, alloc, site, seat, tally, flight, image),
+        Ok(image) => landed(rt, alloc, setup, seat, sum, flight, image),
         Err(memory) => {
-            site.shared
+            setup
+                .shared
                 .directory
                 .drop_flight(rt, &mut seat.directory, flight);
             Err(memory)
@@ -169,35 +170,35 @@ fn made<R: Wait + Clock, E: Catalogue + Drop>(
 fn landed<R: Wait + Clock, E: Catalogue + Drop>(
     rt: &R,
     alloc: Global,
-    site: &Site<'_, E>,
+    setup: &Setup<'_, E>,
     seat: &mut TileSeat<E>,
-    tally: &mut Tally,
+    sum: &mut RenderCount,
     flight: Flight<Key>,
     image: Arc<Image>,
 ) -> Result<Arc<Image>, Memory>
-    requires seat { IsSeat site.now seat.old }
-    requires within { Within tally.old seat.old.directory.made }
+    requires seat { IsSeat setup.now seat.old }
+    requires within { Within sum.old seat.old.directory.made }
     requires own { Stands seat.old.directory.aloft flight }
     requires stamped { IsTrue flight.ticket.stamped }
-    requires right { let scene = site.now.shared.now.directory.name.scene.value in
+    requires right { let scene = setup.now.shared.now.directory.name.scene.value in
         IsRightTile E.meaning scene (arc_value flight.key) (arc_value image) }
     ensures same { IfOk result (λ tile. arc_value tile ≡ arc_value image) }
-    ensures row { IsSeat site.now seat.new }
+    ensures row { IsSeat setup.now seat.new }
     ensures parts { seat.new.directory.parts ≡ seat.old.directory.parts }
     ensures gates { seat.new.gates ≡ seat.old.gates }
     ensures aloft { LeavesAlone seat.old.directory.aloft seat.new.directory.aloft flight }
     ensures landed { OnOk result (Lands seat.old.directory.made seat.new.directory.made) }
     ensures follows { OnOk result
-        (Follows tally.old tally.new seat.old.directory.made seat.new.directory.made) }
+        (Follows sum.old sum.new seat.old.directory.made seat.new.directory.made) }
 {
-    let directory = &site.shared.directory;
+    let directory = &setup.shared.directory;
     let Ok(kept) = Arc::try_clone(&image) else {
         directory.drop_flight(rt, &mut seat.directory, flight);
         return Err(Memory);
     };
     match directory.land(rt, alloc, &mut seat.directory, flight, kept) {
         Ok(()) => {
-            tally.landed += 1;
+            sum.landed += 1;
             Ok(image)
         }
         Err((flight, _, memory)) => {
@@ -213,34 +214,34 @@ fn image_of<R: Wait + Clock, E: Catalogue + Drop>(
     rt: &R,
     alloc: Global,
     asking: &mut Asking,
-    site: &Site<'_, E>,
+    setup: &Setup<'_, E>,
     seat: &mut TileSeat<E>,
-    tally: &mut Tally,
+    sum: &mut RenderCount,
     node: u32,
     frame: i64,
     region: Rect,
     ticket: &mut Ticket,
 ) -> Result<Arc<Image>, Memory>
-    requires site { IsSite E.meaning E.number_of site.now }
-    requires seat { IsSeat site.now seat.old }
-    requires within { Within tally.old seat.old.directory.made }
-    requires renderable { IsRenderable E.meaning site.now node frame region }
-    ensures tile { let nodes = scene_nodes E.meaning site.now.scene.now in
+    requires setup { IsSetup E.meaning E.number_of setup.now }
+    requires seat { IsSeat setup.now seat.old }
+    requires within { Within sum.old seat.old.directory.made }
+    requires renderable { IsRenderable E.meaning setup.now node frame region }
+    ensures tile { let nodes = scene_nodes E.meaning setup.now.scene.now in
         IfOk result (λ image. IsTile nodes node frame region (arc_value image)) }
     ensures seat { KeepsSeat seat.old seat.new }
-    ensures met { let r = renders_needed E.meaning site.now node frame region in
+    ensures met { let r = renders_needed E.meaning setup.now node frame region in
         OnOk result (Met r seat.old.directory.made seat.new.directory.made) }
     ensures follows { OnOk result
-        (Follows tally.old tally.new seat.old.directory.made seat.new.directory.made) }
+        (Follows sum.old sum.new seat.old.directory.made seat.new.directory.made) }
     ensures number { ticket.new.number ≡ ticket.old.number }
     ensures stamped { OnOk result (IsTrue ticket.new.stamped) }
 {
-    let needs = needs_of(alloc, asking, site, node, frame, region)?;
-    let tiles = gathered(rt, alloc, asking, site, seat, tally, node, needs.as_slice())?;
+    let needs = needs_of(alloc, asking, setup, node, frame, region)?;
+    let tiles = gathered(rt, alloc, asking, setup, seat, sum, node, needs.as_slice())?;
     rendered(
         rt,
         alloc,
-        site,
+        setup,
         &mut seat.gates,
         node,
         frame,
@@ -254,24 +255,24 @@ fn image_of<R: Wait + Clock, E: Catalogue + Drop>(
 fn needs_of<E: Catalogue>(
     alloc: Global,
     asking: &mut Asking,
-    site: &Site<'_, E>,
+    setup: &Setup<'_, E>,
     node: u32,
     frame: i64,
     region: Rect,
 ) -> Result<Vec<Need>, Memory>
-    requires site { IsSite E.meaning E.number_of site.now }
-    requires renderable { IsRenderable E.meaning site.now node frame region }
-    ensures needs { IfOk result (λ needs. AreNeeds E.meaning site.now node frame region needs.items) }
-    ensures ready { IfOk result (λ needs. All (λ need. IsReady E.meaning site.now node need.end) needs.items) }
-    ensures renders { let needed = renders_needed E.meaning site.now node frame region in
+    requires setup { IsSetup E.meaning E.number_of setup.now }
+    requires renderable { IsRenderable E.meaning setup.now node frame region }
+    ensures needs { IfOk result (λ needs. AreNeeds E.meaning setup.now node frame region needs.items) }
+    ensures ready { IfOk result (λ needs. All (λ need. IsReady E.meaning setup.now node need.end) needs.items) }
+    ensures renders { let needed = renders_needed E.meaning setup.now node frame region in
         IfOk result (λ needs. renders_of needs.items ≡ needed) }
 {
-    let grid = with_side(site.shared.grid);
+    let grid = with_side(setup.shared.grid);
     let needs = demand_by(
         alloc,
         asking,
-        site.scene,
-        site.regions,
+        setup.scene,
+        setup.regions,
         node,
         frame,
         region,
@@ -296,30 +297,30 @@ fn gathered<R: Wait + Clock, E: Catalogue + Drop>(
     rt: &R,
     alloc: Global,
     asking: &mut Asking,
-    site: &Site<'_, E>,
+    setup: &Setup<'_, E>,
     seat: &mut TileSeat<E>,
-    tally: &mut Tally,
+    sum: &mut RenderCount,
     node: u32,
     needs: &[Need],
 ) -> Result<Vec<Option<Arc<Image>>>, Memory>
-    requires site { IsSite E.meaning E.number_of site.now }
-    requires seat { IsSeat site.now seat.old }
-    requires within { Within tally.old seat.old.directory.made }
-    requires ready { All (λ need. IsReady E.meaning site.now node need.end) needs.now }
-    ensures tiles { let nodes = scene_nodes E.meaning site.now.scene.now in
+    requires setup { IsSetup E.meaning E.number_of setup.now }
+    requires seat { IsSeat setup.now seat.old }
+    requires within { Within sum.old seat.old.directory.made }
+    requires ready { All (λ need. IsReady E.meaning setup.now node need.end) needs.now }
+    ensures tiles { let nodes = scene_nodes E.meaning setup.now.scene.now in
         IfOk result (λ tiles. AreTilesOf nodes needs.now tiles.items) }
     ensures seat { KeepsSeat seat.old seat.new }
     ensures met { OnOk result
         (Met (renders_of needs.now) seat.old.directory.made seat.new.directory.made) }
     ensures follows { OnOk result
-        (Follows tally.old tally.new seat.old.directory.made seat.new.directory.made) }
+        (Follows sum.old sum.new seat.old.directory.made seat.new.directory.made) }
 {
-    let mut early = gathered_unless_busy(rt, alloc, asking, site, seat, tally, node, needs)?;
+    let mut early = gathered_unless_busy(rt, alloc, asking, setup, seat, sum, node, needs)?;
     let mut tiles = Vec::new(alloc);
     for i in 0..needs.len() {
         let tile = match early[i].take() {
             Some(tile) => Some(tile),
-            None => tile_for(rt, alloc, asking, site, seat, tally, node, &needs[i].end)?,
+            None => tile_for(rt, alloc, asking, setup, seat, sum, node, &needs[i].end)?,
         };
         tiles.push(tile)?;
     }
@@ -332,27 +333,27 @@ fn gathered_unless_busy<R: Wait + Clock, E: Catalogue + Drop>(
     rt: &R,
     alloc: Global,
     asking: &mut Asking,
-    site: &Site<'_, E>,
+    setup: &Setup<'_, E>,
     seat: &mut TileSeat<E>,
-    tally: &mut Tally,
+    sum: &mut RenderCount,
     node: u32,
     needs: &[Need],
 ) -> Result<Vec<Option<Arc<Image>>>, Memory>
-    requires site { IsSite E.meaning E.number_of site.now }
-    requires seat { IsSeat site.now seat.old }
-    requires within { Within tally.old seat.old.directory.made }
-    requires ready { All (λ need. IsReady E.meaning site.now node need.end) needs.now }
-    ensures tiles { let nodes = scene_nodes E.meaning site.now.scene.now in
+    requires setup { IsSetup E.meaning E.number_of setup.now }
+    requires seat { IsSeat setup.now seat.old }
+    requires within { Within sum.old seat.old.directory.made }
+    requires ready { All (λ need. IsReady E.meaning setup.now node need.end) needs.now }
+    ensures tiles { let nodes = scene_nodes E.meaning setup.now.scene.now in
         IfOk result (λ tiles. MayBeTilesOf nodes needs.now tiles.items) }
     ensures seat { KeepsSeat seat.old seat.new }
     ensures met { IfOk result (λ tiles.
         Met (sum_by one_if_some tiles.items) seat.old.directory.made seat.new.directory.made) }
     ensures follows { OnOk result
-        (Follows tally.old tally.new seat.old.directory.made seat.new.directory.made) }
+        (Follows sum.old sum.new seat.old.directory.made seat.new.directory.made) }
 {
     let mut tiles = Vec::new(alloc);
     for need in needs {
-        let tile = tile_unless_busy(rt, alloc, asking, site, seat, tally, node, &need.end)?;
+        let tile = tile_unless_busy(rt, alloc, asking, setup, seat, sum, node, &need.end)?;
         tiles.push(tile)?;
     }
     Ok(tiles)
@@ -364,23 +365,23 @@ fn tile_unless_busy<R: Wait + Clock, E: Catalogue + Drop>(
     rt: &R,
     alloc: Global,
     asking: &mut Asking,
-    site: &Site<'_, E>,
+    setup: &Setup<'_, E>,
     seat: &mut TileSeat<E>,
-    tally: &mut Tally,
+    sum: &mut RenderCount,
     node: u32,
     end: &End,
 ) -> Result<Option<Arc<Image>>, Memory>
-    requires site { IsSite E.meaning E.number_of site.now }
-    requires seat { IsSeat site.now seat.old }
-    requires within { Within tally.old seat.old.directory.made }
-    requires ready { IsReady E.meaning site.now node end.now }
-    ensures tile { let nodes = scene_nodes E.meaning site.now.scene.now in
+    requires setup { IsSetup E.meaning E.number_of setup.now }
+    requires seat { IsSeat setup.now seat.old }
+    requires within { Within sum.old seat.old.directory.made }
+    requires ready { IsReady E.meaning setup.now node end.now }
+    ensures tile { let nodes = scene_nodes E.meaning setup.now.scene.now in
         IfOk result (MayBeTileOf nodes end.now) }
     ensures seat { KeepsSeat seat.old seat.new }
     ensures met { IfOk result (λ tile.
         Met (one_if_some tile) seat.old.directory.made seat.new.directory.made) }
     ensures follows { OnOk result
-        (Follows tally.old tally.new seat.old.directory.made seat.new.directory.made) }
+        (Follows sum.old sum.new seat.old.directory.made seat.new.directory.made) }
 {
     match end {
         End::Void | End::Frame { .. } => Ok(None),
@@ -391,9 +392,9 @@ fn tile_unless_busy<R: Wait + Clock, E: Catalogue + Drop>(
             cut: _,
             through: _,
         } => {
-            let key = site.scene.key(alloc, *m, *frame, *region)?;
+            let key = setup.scene.key(alloc, *m, *frame, *region)?;
             fetch_unless_busy(
-                rt, alloc, asking, site, seat, tally, *m, *frame, *region, key,
+                rt, alloc, asking, setup, seat, sum, *m, *frame, *region, key,
             )
         }
     }
@@ -405,22 +406,22 @@ pub(crate) fn tile_for<R: Wait + Clock, E: Catalogue + Drop>(
     rt: &R,
     alloc: Global,
     asking: &mut Asking,
-    site: &Site<'_, E>,
+    setup: &Setup<'_, E>,
     seat: &mut TileSeat<E>,
-    tally: &mut Tally,
+    sum: &mut RenderCount,
     node: u32,
     end: &End,
 ) -> Result<Option<Arc<Image>>, Memory>
-    requires site { IsSite E.meaning E.number_of site.now }
-    requires seat { IsSeat site.now seat.old }
-    requires within { Within tally.old seat.old.directory.made }
-    requires ready { IsReady E.meaning site.now node end.now }
-    ensures tile { let nodes = scene_nodes E.meaning site.now.scene.now in
+    requires setup { IsSetup E.meaning E.number_of setup.now }
+    requires seat { IsSeat setup.now seat.old }
+    requires within { Within sum.old seat.old.directory.made }
+    requires ready { IsReady E.meaning setup.now node end.now }
+    ensures tile { let nodes = scene_nodes E.meaning setup.now.scene.now in
         IfOk result (IsTileOf nodes end.now) }
     ensures seat { KeepsSeat seat.old seat.new }
-    ensures found { OnOk result (IsFound E.meaning site.now end.now seat.old.directory.made seat.new.directory.made) }
+    ensures found { OnOk result (IsFound E.meaning setup.now end.now seat.old.directory.made seat.new.directory.made) }
     ensures follows { OnOk result
-        (Follows tally.old tally.new seat.old.directory.made seat.new.directory.made) }
+        (Follows sum.old sum.new seat.old.directory.made seat.new.directory.made) }
 {
     match end {
         End::Void | End::Frame { .. } => Ok(None),
@@ -430,7 +431,7 @@ pub(crate) fn tile_for<R: Wait + Clock, E: Catalogue + Drop>(
             region,
             cut: _,
             through: _,
-        } => match fetch(rt, alloc, asking, site, seat, tally, *m, *frame, *region) {
+        } => match fetch(rt, alloc, asking, setup, seat, sum, *m, *frame, *region) {
             Ok(tile) => Ok(Some(tile)),
             Err(memory) => Err(memory),
         },

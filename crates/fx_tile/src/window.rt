@@ -7,18 +7,18 @@ ghost use Rattle.fx_image.specs.Image.{pixel_at};
 ghost use Rattle.fx_effect.specs.Given.{row_pixel};
 ghost use Rattle.fx_pam.specs.Laws.{components_for};
 ghost use Rattle.fx_region.specs.Ends.{end_of, end_pixel, end_shown};
-ghost use Rattle.fx_region.specs.Sites.{scene_nodes};
+ghost use Rattle.fx_scene.specs.Sites.{scene_nodes};
 ghost use Rattle.fx_region.specs.Tables.{AreRegions};
 ghost use Rattle.fx_scene.specs.Scenes.{images_in, picture};
 ghost use Rattle.fx_tile.specs.Counts.{CountsEnd, CountsRises};
 ghost use Rattle.fx_life.specs.Seats.{HasLife};
-ghost use Rattle.fx_tile.specs.Sites.{IsReady, IsSeat, IsSite, IsTileOf, KeepsSeat, end_renders};
+ghost use Rattle.fx_tile.specs.Setups.{IsReady, IsSeat, IsSetup, IsTileOf, KeepsSeat, end_renders};
 ghost use Rattle.fx_tile.specs.Tiles.{IsRegion};
 
-use crate::count::{Tally, TileCount};
+use crate::count::{RenderCount, TileCount};
 use crate::inputs::add_piece;
+use crate::setup::Setup;
 use crate::share::{Shared, TileSeat};
-use crate::site::Site;
 use crate::tile::tile_for;
 use fx_actions::Asking;
 use fx_base::{Memory, Rect};
@@ -75,7 +75,7 @@ pub fn window_tile<R: Wait + Clock, E: Catalogue + Drop>(
         IfOk result (CountsRises r seat.old.directory.made seat.new.directory.made) }
     ensures seat { KeepsSeat seat.old seat.new }
 {
-    let site = Site {
+    let setup = Setup {
         scene,
         graph: scene.graph(),
         store: scene.store(),
@@ -83,59 +83,59 @@ pub fn window_tile<R: Wait + Clock, E: Catalogue + Drop>(
         life,
         shared,
     };
-    let end = follow(alloc, scene, regions, site.graph.output, frame, tile)?;
-    tile_shown(rt, alloc, &site, seat, frame, end, tile, out)
+    let end = follow(alloc, scene, regions, setup.graph.output, frame, tile)?;
+    tile_shown(rt, alloc, &setup, seat, frame, end, tile, out)
 }
 
 // Writes a tile that is found at this end.
 fn tile_shown<R: Wait + Clock, E: Catalogue + Drop>(
     rt: &R,
     alloc: Global,
-    site: &Site<'_, E>,
+    setup: &Setup<'_, E>,
     seat: &mut TileSeat<E>,
     frame: i64,
     end: End,
     tile: Rect,
     out: &mut Part<'_>,
 ) -> Result<TileCount, Memory>
-    requires site { IsSite E.meaning E.number_of site.now }
-    requires seat { IsSeat site.now seat.old }
-    requires few { site.now.graph.now.output < 1024 }
-    requires ready { IsReady E.meaning site.now (site.now.graph.now.output + 1) end }
+    requires setup { IsSetup E.meaning E.number_of setup.now }
+    requires seat { IsSeat setup.now seat.old }
+    requires few { setup.now.graph.now.output < 1024 }
+    requires ready { IsReady E.meaning setup.now (setup.now.graph.now.output + 1) end }
     requires part { IsPart out.old }
     requires bounds { IsRect tile }
     requires within { IsWithin tile out.old.rect }
     ensures part { SamePart out.old out.new }
-    ensures pixels { let nodes = scene_nodes E.meaning site.now.scene.now in let old = out.old.image.now in
+    ensures pixels { let nodes = scene_nodes E.meaning setup.now.scene.now in let old = out.old.image.now in
         let shown = end_pixel nodes (end_shown end) old.depth old.components in
         OnOk result (IsWritten (narrowed out.old tile) (narrowed out.new tile) shown) }
     ensures count { IfOk result (CountsEnd (end_shown end)) }
-    ensures rises { let nodes = scene_nodes E.meaning site.now.scene.now in
-        let r = end_renders nodes site.now.shared.now.grid (end_shown end) in
+    ensures rises { let nodes = scene_nodes E.meaning setup.now.scene.now in
+        let r = end_renders nodes setup.now.shared.now.grid (end_shown end) in
         IfOk result (CountsRises r seat.old.directory.made seat.new.directory.made) }
     ensures seat { KeepsSeat seat.old seat.new }
 {
-    let mut tally = Tally { landed: 0, hits: 0 };
-    let next = site.graph.output + 1;
+    let mut sum = RenderCount { landed: 0, hits: 0 };
+    let next = setup.graph.output + 1;
     let mut asking = Asking::new(alloc)?;
-    let made = tile_for(rt, alloc, &mut asking, site, seat, &mut tally, next, &end)?;
-    let count = count_of(&end, tally);
-    show(alloc, site, frame, end, &made, tile, out)?;
+    let made = tile_for(rt, alloc, &mut asking, setup, seat, &mut sum, next, &end)?;
+    let count = count_of(&end, sum);
+    show(alloc, setup, frame, end, &made, tile, out)?;
     Ok(count)
 }
 
 // What became of a tile that is found so, with what was counted for it.
-fn count_of(end: &End, tally: Tally) -> TileCount
+fn count_of(end: &End, sum: RenderCount) -> TileCount
     ensures end { CountsEnd (end_shown end.now) result }
-    ensures landed { result.landed ≡ tally.landed }
-    ensures hits { result.hits ≡ tally.hits }
+    ensures landed { result.landed ≡ sum.landed }
+    ensures hits { result.hits ≡ sum.hits }
 {
     let none = TileCount {
         void_tiles: 0,
         passed: 0,
         asked: 0,
-        landed: tally.landed,
-        hits: tally.hits,
+        landed: sum.landed,
+        hits: sum.hits,
     };
     match end {
         End::Void => TileCount {
@@ -150,20 +150,20 @@ fn count_of(end: &End, tally: Tally) -> TileCount
 // Writes what is found at an end into a tile of a part.
 fn show<E: Catalogue>(
     alloc: Global,
-    site: &Site<'_, E>,
+    setup: &Setup<'_, E>,
     frame: i64,
     end: End,
     image: &Option<Arc<Image>>,
     tile: Rect,
     out: &mut Part<'_>,
 ) -> Result<(), Memory>
-    requires ready { IsReady E.meaning site.now (site.now.graph.now.output + 1) end }
-    requires image { IsTileOf (scene_nodes E.meaning site.now.scene.now) end image.now }
+    requires ready { IsReady E.meaning setup.now (setup.now.graph.now.output + 1) end }
+    requires image { IsTileOf (scene_nodes E.meaning setup.now.scene.now) end image.now }
     requires part { IsPart out.old }
     requires bounds { IsRect tile }
     requires within { IsWithin tile out.old.rect }
     ensures part { SamePart out.old out.new }
-    ensures pixels { let nodes = scene_nodes E.meaning site.now.scene.now in let old = out.old.image.now in
+    ensures pixels { let nodes = scene_nodes E.meaning setup.now.scene.now in let old = out.old.image.now in
         let shown = end_pixel nodes (end_shown end) old.depth old.components in
         OnOk result (IsWritten (narrowed out.old tile) (narrowed out.new tile) shown) }
 {
@@ -172,7 +172,7 @@ fn show<E: Catalogue>(
         frame,
         end,
     };
-    let inputs = one_clip(alloc, site, out.depth(), out.components(), &need, image)?;
+    let inputs = one_clip(alloc, setup, out.depth(), out.components(), &need, image)?;
     copy_rows(&inputs, frame, tile, out);
     Ok(())
 }
@@ -180,18 +180,18 @@ fn show<E: Catalogue>(
 // One clip, which shows what a need is found to be.
 fn one_clip<'s, E: Catalogue>(
     alloc: Global,
-    site: &'s Site<'s, E>,
+    setup: &'s Setup<'s, E>,
     depth: Depth,
     components: Components,
     need: &Need,
     image: &'s Option<Arc<Image>>,
 ) -> Result<Inputs<'s>, Memory>
     requires clip { need.now.clip ≡ 0 }
-    requires ready { IsReady E.meaning site.now (site.now.graph.now.output + 1) need.now.end }
-    requires image { IsTileOf (scene_nodes E.meaning site.now.scene.now) need.now.end image.now }
+    requires ready { IsReady E.meaning setup.now (setup.now.graph.now.output + 1) need.now.end }
+    requires image { IsTileOf (scene_nodes E.meaning setup.now.scene.now) need.now.end image.now }
     ensures depth { IfOk result (λ inputs. inputs.depth ≡ depth) }
     ensures components { IfOk result (λ inputs. inputs.components ≡ components ∷ []) }
-    ensures pixels { let nodes = scene_nodes E.meaning site.now.scene.now in
+    ensures pixels { let nodes = scene_nodes E.meaning setup.now.scene.now in
         let shown = end_pixel nodes (end_shown need.now.end) depth components in
         IfOk result (λ inputs. (x y : ℤ) → row_pixel inputs 0 need.now.frame x y ≡ shown x y) }
 {
@@ -199,7 +199,14 @@ fn one_clip<'s, E: Catalogue>(
     match &need.end {
         End::Void => Ok(inputs),
         _ => {
-            add_piece(alloc, site, site.graph.output + 1, need, image, &mut inputs)?;
+            add_piece(
+                alloc,
+                setup,
+                setup.graph.output + 1,
+                need,
+                image,
+                &mut inputs,
+            )?;
             Ok(inputs)
         }
     }

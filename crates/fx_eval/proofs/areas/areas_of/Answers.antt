@@ -2,9 +2,9 @@ use Rattle.std.proofs.Common.{◌≡◌, ◌∙◌, ap, refl, sym, subst, w64, t
 use Rattle.std.specs.List.{range_with_len}
 use Rattle.std.proofs.lemmas.Int.{to_z-of_z}
 use mir.Val.{SFits}
-use Rattle.fx_eval.specs.Sites.{effect_at}
-use Rattle.fx_eval.specs.Inputs.{AreReads}
-use Rattle.fx_eval.proofs.WholeLemmas.{area_at, areas_more, clip_made, reads_at, reads_long}
+use Rattle.fx_scene.specs.Sites.{AreReads, effect_at}
+use Rattle.fx_scene.proofs.ClipLemmas.{area_at, areas_more, reads_at, reads_long}
+use Rattle.fx_eval.proofs.WholeLemmas.{clip_made}
 use Rattle.fx_eval.proofs.areas.areas_of.Goals as goal
 
 pub loop-c-init : goal.loop-c-init

@@ -1,9 +1,9 @@
 use Rattle.std.proofs.Common.{◌≡◌, length, map}
 use Rattle.std.specs.List.{range_with_len}
 use Rattle.fx_scene.specs.Nodes.{Nodes}
-use Rattle.fx_eval.specs.Sites.{effect_at}
+use Rattle.fx_scene.specs.Sites.{effect_at}
 use Rattle.fx_eval.specs.Wholes.{AreWhole}
-use Rattle.fx_eval.proofs.WholeLemmas.{area_at}
+use Rattle.fx_scene.proofs.ClipLemmas.{area_at}
 use Rattle.fx_eval.proofs.areas.areas_of.Given as goal
 
 abbrev pub invariant-loop-c : goal.invariant-loop-c

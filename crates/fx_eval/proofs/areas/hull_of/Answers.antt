@@ -4,7 +4,8 @@ use mir.Val.{SFits}
 use Rattle.fx_base.specs.Bounds.{Bounds}
 use Rattle.fx_scene.specs.Areas.{area, hull_all, hull_with}
 use Rattle.fx_eval.specs.Wholes.{IsMade}
-use Rattle.fx_eval.proofs.WholeLemmas.{hull_step, whole_area}
+use Rattle.fx_scene.proofs.ClipLemmas.{hull_step}
+use Rattle.fx_eval.proofs.WholeLemmas.{whole_area}
 use Rattle.fx_eval.proofs.areas.hull_of.Goals as goal
 
 pub made_of-requires : goal.made_of-requires

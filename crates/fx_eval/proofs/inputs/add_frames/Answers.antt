@@ -4,7 +4,7 @@ use Rattle.std.proofs.lemmas.List.{take_all}
 use mathlib.Core.Logic.{◌⊎◌}
 use mir.Val.{SFits}
 use Rattle.fx_effect.specs.Given.{Given}
-use Rattle.fx_eval.specs.Sites.{site_nodes}
+use Rattle.fx_eval.specs.Setups.{setup_nodes}
 use Rattle.fx_eval.specs.Wholes.{IsMade}
 use Rattle.fx_eval.specs.Inputs.{Adds, IsSomeOf, IsOne}
 use Rattle.fx_eval.proofs.PieceLemmas.{adds_less, adds_more, frames_split}
@@ -18,7 +18,7 @@ add_frame-requires-clause-made g c =
 
 pub loop-f-preserved : goal.loop-f-preserved
 loop-f-preserved g c =
-    let nodes = site_nodes g.E.ImageEffect.meaning c.args.site.now in
+    let nodes = setup_nodes g.E.ImageEffect.meaning c.args.setup.now in
     let fs = c.args.frames.now in
     let i = c.loop-f.f-index in
     let f = get_or fs i (pos 0) in
@@ -34,4 +34,4 @@ loop-f-preserved g c =
 
 pub returns : goal.returns
 returns g c node is =
-    subst (λ (fs : List ℤ). Adds (site_nodes g.E.ImageEffect.meaning c.args.site.now) node (IsSomeOf c.args.c fs) c.args.inputs.now c.loop-f.inputs) (take_all c.loop-f.f-index c.args.frames.now c.loop-f-test.false) (c.loop-f.invariant.adds node is)
+    subst (λ (fs : List ℤ). Adds (setup_nodes g.E.ImageEffect.meaning c.args.setup.now) node (IsSomeOf c.args.c fs) c.args.inputs.now c.loop-f.inputs) (take_all c.loop-f.f-index c.args.frames.now c.loop-f-test.false) (c.loop-f.invariant.adds node is)

@@ -7,10 +7,12 @@ use Rattle.fx_effect.specs.Given.{Given}
 use Rattle.fx_graph.specs.Shown.{shown}
 use Rattle.fx_scene.specs.Nodes.{clip_node}
 use Rattle.fx_scene.specs.Scenes.{graph_shown, images_in}
-use Rattle.fx_eval.proofs.EffectLemmas.{clip_below, few_clips, masks_counted}
-use Rattle.fx_eval.specs.Sites.{effect_at, seen_in, site_nodes}
-use Rattle.fx_eval.specs.Inputs.{Adds, AreReads, IsSomeOf, Reads, blank}
-use Rattle.fx_eval.proofs.WholeLemmas.{clip_made, reads_at, reads_long}
+use Rattle.fx_scene.specs.Sites.{AreReads, effect_at, seen_in}
+use Rattle.fx_scene.proofs.SiteLemmas.{clip_below, few_clips, masks_counted}
+use Rattle.fx_eval.specs.Setups.{setup_nodes}
+use Rattle.fx_eval.specs.Inputs.{Adds, IsSomeOf, Reads, blank}
+use Rattle.fx_scene.proofs.ClipLemmas.{reads_at, reads_long}
+use Rattle.fx_eval.proofs.WholeLemmas.{clip_made}
 use Rattle.fx_eval.proofs.PieceLemmas.{adds_less, adds_more, adds_none, reads_split}
 use Rattle.fx_eval.proofs.inputs.inputs_of.Goals as goal
 
@@ -18,8 +20,8 @@ pub loop-c-init : goal.loop-c-init
 loop-c-init g c =
     let m = g.E.ImageEffect.meaning in
     let node = c.args.node.now in
-    let o = effect_at m c.args.site.now.graph.now.project node in
-    let nodes = site_nodes m c.args.site.now in
+    let o = effect_at m c.args.setup.now.graph.now.project node in
+    let nodes = setup_nodes m c.args.setup.now in
     let ks = map (seen_in node.components) node.masks.now in
     let t = to_z w64 (of_z w64 c.args.frame) in
     let e : c.in_ok-inputs.inputs ≡ blank node.depth ks = c.in_ok-inputs.ensures ∙ ap (blank node.depth) c.in_ok-components.ensures in
@@ -31,21 +33,21 @@ loop-c-init g c =
 
 pub overflow_cast-c : goal.overflow_cast-c
 overflow_cast-c g c =
-    let site = c.args.site.now in
-    let graph = site.graph.now in
-    let few = few_clips g.E.ImageEffect.meaning (graph_shown graph) (graph.depth, graph.components) graph.kept (images_in site.store.now) c.requires.site.nodes c.args.node.now c.requires.there in
+    let setup = c.args.setup.now in
+    let graph = setup.graph.now in
+    let few = few_clips g.E.ImageEffect.meaning (graph_shown graph) (graph.depth, graph.components) graph.kept (images_in setup.store.now) c.requires.setup.nodes c.args.node.now c.requires.there in
     omega (arith, few, c.loop-c-test.true, c.loop-c.invariant.count)
 
 pub add_clip-requires-clause-there : goal.add_clip-requires-clause-there
 add_clip-requires-clause-there g c =
-    let site = c.args.site.now in
-    let graph = site.graph.now in
-    let below = clip_below g.E.ImageEffect.meaning (graph_shown graph) (graph.depth, graph.components) graph.kept (images_in site.store.now) c.requires.site.nodes c.args.node.now c.requires.there c.loop-c.c in
+    let setup = c.args.setup.now in
+    let graph = setup.graph.now in
+    let below = clip_below g.E.ImageEffect.meaning (graph_shown graph) (graph.depth, graph.components) graph.kept (images_in setup.store.now) c.requires.setup.nodes c.args.node.now c.requires.there c.loop-c.c in
     subst (λ (k : ℕ). IfSome (slice_index_or c.args.node.now.clips.now c.loop-c.c None) (λ m. m < k)) (length-map graph.nodes.items shown) below
 
 pub add_clip-requires-clause-made : goal.add_clip-requires-clause-made
 add_clip-requires-clause-made g c =
-    let o = effect_at g.E.ImageEffect.meaning c.args.site.now.graph.now.project c.args.node.now in
+    let o = effect_at g.E.ImageEffect.meaning c.args.setup.now.graph.now.project c.args.node.now in
     let reads = c.args.reads.now in
     let long = reads_long o c.args.frame reads c.requires.reads in
     let frames = c.as_slice-frames.ensures.value ∙ reads_at o c.args.frame reads c.loop-c.c c.index-reads-c.result c.requires.reads (omega (arith, c.loop-c-test.true, c.loop-c.invariant.count)) (omega (arith, long, c.loop-c-test.true, c.loop-c.invariant.count)) c.index-reads-c.is in
@@ -53,17 +55,18 @@ add_clip-requires-clause-made g c =
 
 pub add_clip-requires-clause-clip : goal.add_clip-requires-clause-clip
 add_clip-requires-clause-clip g c =
-    let graph = c.args.site.now.graph.now in
+    let graph = c.args.setup.now.graph.now in
     let counted = masks_counted g.E.ImageEffect.meaning (graph_shown graph) (graph.depth, graph.components) graph.kept c.args.node.now c.requires.there in
+    let long = length-map c.args.node.now.masks.now (seen_in c.args.node.now.components) in
     let same = ap (λ (a : Given). length a.components) c.loop-c.invariant.adds.is in
-    omega (arith, counted, same, c.loop-c-test.true, c.loop-c.invariant.count)
+    omega (arith, counted, long, same, c.loop-c-test.true, c.loop-c.invariant.count)
 
 pub loop-c-preserved : goal.loop-c-preserved
 loop-c-preserved g c =
     let m = g.E.ImageEffect.meaning in
     let node = c.args.node.now in
-    let o = effect_at m c.args.site.now.graph.now.project node in
-    let nodes = site_nodes m c.args.site.now in
+    let o = effect_at m c.args.setup.now.graph.now.project node in
+    let nodes = setup_nodes m c.args.setup.now in
     let ks = map (seen_in node.components) node.masks.now in
     let reads = c.args.reads.now in
     let k = c.loop-c.c in

@@ -17,8 +17,8 @@ use Rattle.fx_eval.proofs.OrderLemmas.{reach_order, reads_same, unread_output}
 use Rattle.fx_eval.proofs.RenderLemmas.{reach_same}
 use Rattle.fx_eval.proofs.picture.frame.Goals as goal
 
-pub wholes-requires-clause-site : goal.wholes-requires-clause-site
-wholes-requires-clause-site g c =
+pub wholes-requires-clause-setup : goal.wholes-requires-clause-setup
+wholes-requires-clause-setup g c =
     let m = g.E.ImageEffect.meaning in
     let graph = c.graph.result.now in
     let store = c.store.result.now in
@@ -43,12 +43,12 @@ wholes-requires-clause-order g c =
     let shown = graph_shown graph in
     let images = images_in c.store.result.now in
     let fits : SFits w64 c.args.frame = c.ranges.frame in
-    let least = simp to_z-of_z at c.in_ok-moments.ensures.least in
-    reach_order (graph_nodes m shown no_images) (graph_nodes m shown images) graph.output (length graph.nodes.items) c.args.frame c.args.frame c.in_ok-moments.moments
-    (λ n t k f. reads_same m shown images no_images n t k f) least c.in_ok-moments.ensures.places
+    let least = simp to_z-of_z at c.in_ok-node_frames.ensures.least in
+    reach_order (graph_nodes m shown no_images) (graph_nodes m shown images) graph.output (length graph.nodes.items) c.args.frame c.args.frame c.in_ok-node_frames.node_frames
+    (λ n t k f. reads_same m shown images no_images n t k f) least c.in_ok-node_frames.ensures.places
 
-pub show-requires-clause-site : goal.show-requires-clause-site
-show-requires-clause-site g c =
+pub show-requires-clause-setup : goal.show-requires-clause-setup
+show-requires-clause-setup g c =
     let m = g.E.ImageEffect.meaning in
     let graph = c.graph.result.now in
     let store = c.store.result.now in
@@ -69,15 +69,15 @@ show-requires-clause-made g c =
     let graph = c.graph.result.now in
     let shown = graph_shown graph in
     let t = to_z w64 (of_z w64 c.args.frame) in
-    let moments = c.in_ok-moments.moments in
-    let least = c.in_ok-moments.ensures.least in
-    let site = show-requires-clause-site g c in
+    let node_frames = c.in_ok-node_frames.node_frames in
+    let least = c.in_ok-node_frames.ensures.least in
+    let setup = show-requires-clause-setup g c in
     c.in_ok-made.ensures.kept graph.output t (least.all graph.output t (λ s closed. closed.start t (omega (arith, ints)) (omega (arith, ints))))
-    (λ n u there r. unread_output (graph_nodes m shown no_images) (graph_nodes m shown (images_in c.store.result.now)) graph.output t t moments
-    site.nodes (λ k v j f. reads_same m shown no_images (images_in c.store.result.now) k v j f) least n u there t r)
+    (λ n u there r. unread_output (graph_nodes m shown no_images) (graph_nodes m shown (images_in c.store.result.now)) graph.output t t node_frames
+    setup.nodes (λ k v j f. reads_same m shown no_images (images_in c.store.result.now) k v j f) least n u there t r)
 
-pub returns-in_err-moments-clause-drops : goal.returns-in_err-moments-clause-drops
-returns-in_err-moments-clause-drops g c = on_err c.from_residual.result (drops_none c.args.core.now)
+pub returns-in_err-node_frames-clause-drops : goal.returns-in_err-node_frames-clause-drops
+returns-in_err-node_frames-clause-drops g c = on_err c.from_residual.result (drops_none c.args.core.now)
 
 pub returns-clause-picture : goal.returns-clause-picture
 returns-clause-picture g c =
@@ -95,11 +95,11 @@ returns-clause-renders g c =
     let shown = graph_shown graph in
     let images = images_in c.store.result.now in
     let fits : SFits w64 c.args.frame = c.ranges.frame in
-    let least = simp to_z-of_z at c.in_ok-moments.ensures.least in
+    let least = simp to_z-of_z at c.in_ok-node_frames.ensures.least in
     let rendered : HasRendered (graph_nodes m shown images) graph.output c.args.frame c.args.core.now c.wholes.new.core = record {
-      moments = c.in_ok-moments.moments;
+      node_frames = c.in_ok-node_frames.node_frames;
       once = c.in_ok-made.ensures.once;
-      reached = reach_same (graph_nodes m shown no_images) (graph_nodes m shown images) graph.output c.args.frame c.args.frame (has c.in_ok-moments.moments)
+      reached = reach_same (graph_nodes m shown no_images) (graph_nodes m shown images) graph.output c.args.frame c.args.frame (has c.in_ok-node_frames.node_frames)
           (λ n t k f. reads_same m shown no_images images n t k f) (λ n t k f. reads_same m shown images no_images n t k f) least;
       core = c.in_ok-made.ensures.lands;
     } in

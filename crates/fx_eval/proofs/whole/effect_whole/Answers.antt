@@ -13,11 +13,11 @@ use Rattle.fx_scene.specs.Nodes.{Effect}
 use Rattle.fx_scene.specs.Reach.{IsNearFrame}
 use Rattle.fx_scene.specs.Scenes.{graph_shown, images_in}
 use Rattle.fx_scene.proofs.Outside.{area_window, clip_regions}
-use Rattle.fx_eval.specs.Sites.{effect_at, site_nodes, seen_in}
+use Rattle.fx_scene.specs.Sites.{AreReads, effect_at, seen_in}
+use Rattle.fx_eval.specs.Setups.{setup_nodes}
 use Rattle.fx_eval.specs.Wholes.{IsReady}
 use Rattle.fx_eval.specs.Filled.{AreWindows}
-use Rattle.fx_eval.specs.Inputs.{AreReads}
-use Rattle.fx_eval.proofs.EffectLemmas.{are_reads, effect_is, has_names, is_effect, is_use, sees}
+use Rattle.fx_scene.proofs.SiteLemmas.{are_reads, effect_is, has_names, is_effect, is_use, sees}
 use Rattle.fx_eval.proofs.FlightLemmas.{drops_none, on_err}
 use Rattle.fx_eval.proofs.RenderLemmas.{effect_renders}
 use Rattle.fx_eval.proofs.WholeLemmas.{effect_area, windows_whole}
@@ -25,7 +25,7 @@ use Rattle.fx_eval.proofs.whole.effect_whole.Goals as goal
 
 pub frames_read-requires-clause-names : goal.frames_read-requires-clause-names
 frames_read-requires-clause-names g c =
-    let graph = c.args.site.now.graph.now in
+    let graph = c.args.setup.now.graph.now in
     let fits : SFits w64 c.args.frame = c.ranges.frame in
     let values = simp to_z-of_z at c.in_ok-values.ensures in
     has_names g.E.ImageEffect.meaning (graph_shown graph) (graph.depth, graph.components) graph.kept graph.extent c.args.node.now c.requires.there c.args.frame c.in_ok-values.values values
@@ -40,12 +40,12 @@ frames_read-requires-clause-frame g c =
 pub areas_of-requires-clause-ready : goal.areas_of-requires-clause-ready
 areas_of-requires-clause-ready g c =
     let fits : SFits w64 c.args.frame = c.ranges.frame in
-    let o = effect_at g.E.ImageEffect.meaning c.args.site.now.graph.now.project c.args.node.now in
+    let o = effect_at g.E.ImageEffect.meaning c.args.setup.now.graph.now.project c.args.node.now in
     subst (λ (t : ℤ). IsReady (Effect o) t c.args.made.now) (sym (to_z-of_z w64 _ fits)) c.requires.ready
 
 pub areas_of-requires-clause-reads : goal.areas_of-requires-clause-reads
 areas_of-requires-clause-reads g c =
-    let graph = c.args.site.now.graph.now in
+    let graph = c.args.setup.now.graph.now in
     let node = c.args.node.now in
     let m = g.E.ImageEffect.meaning in
     let fits : SFits w64 c.args.frame = c.ranges.frame in
@@ -56,42 +56,42 @@ areas_of-requires-clause-reads g c =
 
 pub region_of_definition-requires-clause-lawful : goal.region_of_definition-requires-clause-lawful
 region_of_definition-requires-clause-lawful g c =
-    let site = c.args.site.now in
+    let setup = c.args.setup.now in
     let node = c.args.node.now in
     let m = g.E.ImageEffect.meaning in
     let fits : SFits w64 c.args.frame = c.ranges.frame in
     let values = simp to_z-of_z at c.in_ok-values.ensures in
-    let i = is_effect m (graph_shown site.graph.now) (images_in site.store.now) c.requires.site.nodes node c.requires.there in
+    let i = is_effect m (graph_shown setup.graph.now) (images_in setup.store.now) c.requires.setup.nodes node c.requires.there in
     subst (λ (v : Values). IsLawfulIn (m node.effect.now).shape node.context v) (sym values) (i.lawful c.args.frame)
 
 pub region_of_definition-requires-clause-optional : goal.region_of_definition-requires-clause-optional
 region_of_definition-requires-clause-optional g c =
-    let graph = c.args.site.now.graph.now in
+    let graph = c.args.setup.now.graph.now in
     (is_use g.E.ImageEffect.meaning (graph_shown graph) (graph.depth, graph.components) graph.kept c.args.node.now c.requires.there).optional_are
 
 pub region_of_definition-requires-clause-regions : goal.region_of_definition-requires-clause-regions
 region_of_definition-requires-clause-regions g c =
-    let site = c.args.site.now in
+    let setup = c.args.setup.now in
     let node = c.args.node.now in
     let m = g.E.ImageEffect.meaning in
-    let nodes = site_nodes m site in
-    let o = effect_at m site.graph.now.project node in
+    let nodes = setup_nodes m setup in
+    let o = effect_at m setup.graph.now.project node in
     let fits : SFits w64 c.args.frame = c.ranges.frame in
     let values = simp to_z-of_z at c.in_ok-values.ensures in
     let areas = simp to_z-of_z at (c.in_ok-areas.ensures nodes c.requires.whole) in
-    let i = is_effect m (graph_shown site.graph.now) (images_in site.store.now) c.requires.site.nodes node c.requires.there in
+    let i = is_effect m (graph_shown setup.graph.now) (images_in setup.store.now) c.requires.setup.nodes node c.requires.there in
     subst (λ (v : Values). AreRegions v c.as_slice.result.now) (sym values)
-    (subst (λ (rs : List Bounds). AreRegions (o.values c.args.frame) rs) (sym (c.as_slice.ensures.value ∙ areas)) (clip_regions nodes c.requires.site.nodes node.place o i c.args.frame))
+    (subst (λ (rs : List Bounds). AreRegions (o.values c.args.frame) rs) (sym (c.as_slice.ensures.value ∙ areas)) (clip_regions nodes c.requires.setup.nodes node.place o i c.args.frame))
 
 pub inputs_of-requires-clause-ready : goal.inputs_of-requires-clause-ready
 inputs_of-requires-clause-ready g c =
     let fits : SFits w64 c.args.frame = c.ranges.frame in
-    let o = effect_at g.E.ImageEffect.meaning c.args.site.now.graph.now.project c.args.node.now in
+    let o = effect_at g.E.ImageEffect.meaning c.args.setup.now.graph.now.project c.args.node.now in
     subst (λ (t : ℤ). IsReady (Effect o) t c.args.made.now) (sym (to_z-of_z w64 _ fits)) c.requires.ready
 
 pub inputs_of-requires-clause-reads : goal.inputs_of-requires-clause-reads
 inputs_of-requires-clause-reads g c =
-    let graph = c.args.site.now.graph.now in
+    let graph = c.args.setup.now.graph.now in
     let node = c.args.node.now in
     let m = g.E.ImageEffect.meaning in
     let fits : SFits w64 c.args.frame = c.ranges.frame in
@@ -103,11 +103,10 @@ inputs_of-requires-clause-reads g c =
 pub images_of-requires-clause-asked : goal.images_of-requires-clause-asked
 images_of-requires-clause-asked g c =
     let node = c.args.node.now in
-    let project = c.args.site.now.graph.now.project in
+    let project = c.args.setup.now.graph.now.project in
     let fits : SFits w64 c.args.frame = c.ranges.frame in
     let values = simp to_z-of_z at c.in_ok-values.ensures in
     record {
-      of_site = c.requires.site;
       there = c.requires.there;
       near = subst (λ (t : ℤ). IsNearFrame c.args.node.now.place t) (sym (ap (λ (v : Values). v.frame) values)) c.requires.near;
       values = values ∙ ap (λ (t : ℤ). use_values project t node.clips.now node.params.now) (sym (ap (λ (v : Values). v.frame) values));
@@ -117,34 +116,34 @@ images_of-requires-clause-asked g c =
 
 pub images_of-requires-clause-area : goal.images_of-requires-clause-area
 images_of-requires-clause-area g c =
-    let site = c.args.site.now in
+    let setup = c.args.setup.now in
     let node = c.args.node.now in
     let m = g.E.ImageEffect.meaning in
-    let nodes = site_nodes m site in
-    let ok = c.requires.site.nodes in
-    let o = effect_at m site.graph.now.project node in
+    let nodes = setup_nodes m setup in
+    let ok = c.requires.setup.nodes in
+    let o = effect_at m setup.graph.now.project node in
     let fits : SFits w64 c.args.frame = c.ranges.frame in
     let values = simp to_z-of_z at c.in_ok-values.ensures in
     let areas = simp to_z-of_z at (c.in_ok-areas.ensures nodes c.requires.whole) in
-    let stands = effect_is m (graph_shown site.graph.now) (images_in site.store.now) node c.requires.there in
-    let i = is_effect m (graph_shown site.graph.now) (images_in site.store.now) ok node c.requires.there in
+    let stands = effect_is m (graph_shown setup.graph.now) (images_in setup.store.now) node c.requires.there in
+    let i = is_effect m (graph_shown setup.graph.now) (images_in setup.store.now) ok node c.requires.there in
     let is = c.in_ok-area.ensures ∙ ap (λ (v : Values). o.meaning.rod o.context v c.as_slice.result.now) values
     ∙ ap (o.meaning.rod o.context (o.values c.args.frame)) (c.as_slice.ensures.value ∙ areas) ∙ effect_area nodes ok node.place o stands c.args.frame in
     subst IsWindow (sym is) (area_window nodes ok node.place c.args.frame i.few)
 
 pub returns-clause-whole : goal.returns-clause-whole
 returns-clause-whole g c =
-    let site = c.args.site.now in
-    let graph = site.graph.now in
+    let setup = c.args.setup.now in
+    let graph = setup.graph.now in
     let node = c.args.node.now in
     let m = g.E.ImageEffect.meaning in
-    let nodes = site_nodes m site in
-    let ok = c.requires.site.nodes in
+    let nodes = setup_nodes m setup in
+    let ok = c.requires.setup.nodes in
     let o = effect_at m graph.project node in
     let fits : SFits w64 c.args.frame = c.ranges.frame in
     let values = simp to_z-of_z at c.in_ok-values.ensures in
     let areas = simp to_z-of_z at (c.in_ok-areas.ensures nodes c.requires.whole) in
-    let stands = effect_is m (graph_shown graph) (images_in site.store.now) node c.requires.there in
+    let stands = effect_is m (graph_shown graph) (images_in setup.store.now) node c.requires.there in
     let is = c.in_ok-area.ensures ∙ ap (λ (v : Values). o.meaning.rod o.context v c.as_slice.result.now) values
     ∙ ap (o.meaning.rod o.context (o.values c.args.frame)) (c.as_slice.ensures.value ∙ areas) ∙ effect_area nodes ok node.place o stands c.args.frame in
     let adds = simp to_z-of_z at c.in_ok-inputs.ensures in
@@ -154,17 +153,17 @@ returns-clause-whole g c =
 
 pub returns-clause-lands : goal.returns-clause-lands
 returns-clause-lands g c =
-    let site = c.args.site.now in
-    let graph = site.graph.now in
+    let setup = c.args.setup.now in
+    let graph = setup.graph.now in
     let node = c.args.node.now in
     let m = g.E.ImageEffect.meaning in
-    let nodes = site_nodes m site in
-    let ok = c.requires.site.nodes in
+    let nodes = setup_nodes m setup in
+    let ok = c.requires.setup.nodes in
     let o = effect_at m graph.project node in
     let fits : SFits w64 c.args.frame = c.ranges.frame in
     let values = simp to_z-of_z at c.in_ok-values.ensures in
     let areas = simp to_z-of_z at (c.in_ok-areas.ensures nodes c.requires.whole) in
-    let stands = effect_is m (graph_shown graph) (images_in site.store.now) node c.requires.there in
+    let stands = effect_is m (graph_shown graph) (images_in setup.store.now) node c.requires.there in
     let is = c.in_ok-area.ensures ∙ ap (λ (v : Values). o.meaning.rod o.context v c.as_slice.result.now) values
     ∙ ap (o.meaning.rod o.context (o.values c.args.frame)) (c.as_slice.ensures.value ∙ areas) ∙ effect_area nodes ok node.place o stands c.args.frame in
     effect_renders nodes node.place c.args.frame o c.in_ok-area.area c.args.core.now c.images_of.new.core stands is c.in_ok-images.ensures.lands

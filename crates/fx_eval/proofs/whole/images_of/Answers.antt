@@ -6,8 +6,8 @@ use Rattle.fx_base.specs.Bounds.{Bounds}
 use Rattle.fx_gate.specs.Gates.{GateSeatState}
 use Rattle.fx_image.specs.Stored.{Stored}
 use Rattle.fx_eval.specs.Cuts.{Cover, IsCut}
-use Rattle.fx_eval.specs.Sites.{IsFree}
-use Rattle.fx_eval.specs.Filled.{IsWindowOf}
+use Rattle.fx_eval.specs.Setups.{IsFree}
+use Rattle.fx_scene.specs.Windows.{IsWindowOf}
 use Rattle.fx_eval.specs.Flights.{after_renders}
 use Rattle.fx_eval.specs.Wholes.{rect_of}
 use Rattle.fx_eval.proofs.FlightLemmas.{drops_none, on_err, renders_drop, renders_fail, renders_idle, renders_more, renders_push}
@@ -53,7 +53,7 @@ window_of-requires-clause-idle g c = renders_idle c.args.core.now c.loop-region.
 
 pub window_of-requires-clause-free : goal.window_of-requires-clause-free
 window_of-requires-clause-free g c =
-    subst (λ (s : GateSeatState). IsFree c.args.site.now s) (sym c.loop-region.invariant.seat) c.requires.free
+    subst (λ (s : GateSeatState). IsFree c.args.setup.now s) (sym c.loop-region.invariant.seat) c.requires.free
 
 pub returns-in_err-cuts-clause-drops : goal.returns-in_err-cuts-clause-drops
 returns-in_err-cuts-clause-drops g c = on_err c.from_residual.result (drops_none c.args.core.now)

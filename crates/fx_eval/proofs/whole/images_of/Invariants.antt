@@ -2,7 +2,7 @@ use Rattle.std.proofs.Common.{◌≡◌, length, map, take}
 use Rattle.std.specs.Arc.{arc_value}
 use Rattle.std.specs.List.{All}
 use Rattle.fx_eval.specs.Wholes.{rect_of}
-use Rattle.fx_eval.specs.Filled.{IsWindowOf}
+use Rattle.fx_scene.specs.Windows.{IsWindowOf}
 use Rattle.fx_eval.specs.Flights.{after_renders}
 use Rattle.fx_eval.proofs.whole.images_of.Given as goal
 

@@ -4,8 +4,9 @@ use Rattle.std.proofs.lemmas.Int.{ints}
 use Rattle.fx_base.specs.Rect.{rows}
 use Rattle.fx_image.specs.Stored.{Stored}
 use Rattle.fx_scene.specs.Scenes.{graph_shown, images_in}
-use Rattle.fx_eval.specs.Filled.{IsWindowOf}
-use Rattle.fx_eval.proofs.EffectLemmas.{has_gate, has_instance, is_effect, may_render}
+use Rattle.fx_scene.specs.Windows.{IsWindowOf}
+use Rattle.fx_scene.proofs.SiteLemmas.{is_effect, may_render}
+use Rattle.fx_eval.proofs.EffectLemmas.{has_gate, has_instance}
 use Rattle.fx_eval.proofs.WholeLemmas.{filled_window}
 use Rattle.fx_eval.proofs.window.made.Goals as goal
 
@@ -24,35 +25,35 @@ render_image-requires-clause-frame g c =
 pub render_image-requires-clause-gates : goal.render_image-requires-clause-gates
 render_image-requires-clause-gates g c =
     let asked = c.requires.asked in
-    has_gate g.E.ImageEffect.meaning (graph_shown c.args.site.now.graph.now) c.args.site.now.gates.now.gates asked.of_site.gates c.args.node.now asked.there
+    has_gate (graph_shown c.args.setup.now.graph.now) c.args.setup.now.gates.now.gates c.requires.setup.gates c.args.node.now asked.there
 
 pub render_image-requires-clause-small : goal.render_image-requires-clause-small
 render_image-requires-clause-small g c =
-    let site = c.args.site.now in
+    let setup = c.args.setup.now in
     let asked = c.requires.asked in
-    let few = (is_effect g.E.ImageEffect.meaning (graph_shown site.graph.now) (images_in site.store.now) asked.of_site.nodes c.args.node.now asked.there).few in
+    let few = (is_effect g.E.ImageEffect.meaning (graph_shown setup.graph.now) (images_in setup.store.now) c.requires.setup.nodes c.args.node.now asked.there).few in
     omega (arith, few)
 
 pub render_image-requires-clause-may : goal.render_image-requires-clause-may
 render_image-requires-clause-may g c =
-    let site = c.args.site.now in
+    let setup = c.args.setup.now in
     let node = c.args.node.now in
-    let graph = site.graph.now in
+    let graph = setup.graph.now in
     let shown = graph_shown graph in
     let depth : c.in_ok-image.image.depth ≡ node.depth = search rules in
     let samples : c.in_ok-image.image.components ≡ node.components = search rules in
     rw (depth, samples) (record {
       effect = node.effect.now;
-      plays = has_instance g.E.ImageEffect.meaning shown g.E.Catalogue.number_of site.life.now c.requires.asked.of_site.life node c.requires.asked.there;
-      may = may_render g.E.ImageEffect.meaning shown (graph.depth, graph.components) graph.kept (images_in site.store.now) c.requires.asked.of_site.nodes node c.requires.asked.there
+      plays = has_instance shown g.E.Catalogue.number_of setup.life.now c.requires.setup.life node c.requires.asked.there;
+      may = may_render g.E.ImageEffect.meaning shown (graph.depth, graph.components) graph.kept (images_in setup.store.now) c.requires.setup.nodes node c.requires.asked.there
           c.args.values.now c.args.inputs.now c.requires.asked.values c.requires.asked.depth c.requires.asked.components;
     })
 
 pub returns-clause-window : goal.returns-clause-window
 returns-clause-window g c =
-    let site = c.args.site.now in
+    let setup = c.args.setup.now in
     let node = c.args.node.now in
-    let plays = has_instance g.E.ImageEffect.meaning (graph_shown site.graph.now) g.E.Catalogue.number_of site.life.now c.requires.asked.of_site.life node c.requires.asked.there in
+    let plays = has_instance (graph_shown setup.graph.now) g.E.Catalogue.number_of setup.life.now c.requires.setup.life node c.requires.asked.there in
     let is : c.in_ok-new.field-0.value ≡ c.render_image.new.image = search rules in
     subst (λ (t : Stored). IsWindowOf (g.E.ImageEffect.meaning node.effect.now) c.args.values.now c.args.inputs.now node.depth node.components c.args.region t) (sym is)
     (filled_window c.in_ok-image.image c.render_image.new.image (g.E.ImageEffect.meaning node.effect.now) c.args.values.now c.args.inputs.now node.depth node.components c.args.region

@@ -10,11 +10,11 @@ use Rattle.fx_eval.proofs.window.window_of.Goals as goal
 
 pub key-requires : goal.key-requires
 key-requires g c =
-    let site = c.args.site.now in
+    let setup = c.args.setup.now in
     let node = c.args.node.now in
     let there = c.requires.asked.there in
-    subst (λ (h : GraphShown _). node.place < length h.nodes) (sym c.requires.asked.of_site.scene)
-    (slice_get_within (graph_shown site.graph.now).nodes node.place there.node there.there)
+    subst (λ (h : GraphShown _). node.place < length h.nodes) (sym c.requires.setup.scene)
+    (slice_get_within (graph_shown setup.graph.now).nodes node.place there.node there.there)
 
 pub returns-then-totals-ge-MOST_ASKS-clause-drops : goal.returns-then-totals-ge-MOST_ASKS-clause-drops
 returns-then-totals-ge-MOST_ASKS-clause-drops g c = on_err c.unasked.result (drops_none c.args.core.now)

@@ -4,7 +4,7 @@ use mir.Val.{SFits}
 use Rattle.fx_scene.specs.Areas.{area}
 use Rattle.fx_region.specs.Ends.{end_of}
 use Rattle.fx_region.specs.Needs.{frame_needs, need_shown}
-use Rattle.fx_region.specs.Sites.{site_nodes}
+use Rattle.fx_scene.specs.Sites.{site_nodes}
 use Rattle.fx_region.specs.Tables.{Has}
 use Rattle.fx_region.proofs.DemandLemmas.{more_taken}
 use Rattle.fx_region.proofs.demanding.add_frames.Goals as goal

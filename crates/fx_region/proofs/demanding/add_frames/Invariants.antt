@@ -3,7 +3,7 @@ use Rattle.std.specs.List.{flat_map}
 use Rattle.fx_scene.specs.Areas.{area}
 use Rattle.fx_region.specs.Ends.{end_of}
 use Rattle.fx_region.specs.Needs.{frame_needs, need_shown}
-use Rattle.fx_region.specs.Sites.{site_nodes}
+use Rattle.fx_scene.specs.Sites.{site_nodes}
 use Rattle.fx_region.proofs.demanding.add_frames.Given as goal
 
 abbrev pub invariant-loop-f : goal.invariant-loop-f

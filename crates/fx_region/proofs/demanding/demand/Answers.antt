@@ -3,7 +3,7 @@ use Rattle.std.proofs.lemmas.Int.{to_z-of_z}
 use mir.Val.{SFits}
 use Rattle.fx_base.specs.Rect.{IsWithin}
 use Rattle.fx_scene.specs.Areas.{area}
-use Rattle.fx_region.specs.Sites.{scene_nodes}
+use Rattle.fx_scene.specs.Sites.{scene_nodes}
 use Rattle.fx_region.proofs.demanding.demand.Goals as goal
 
 pub demand_by-requires-clause-within : goal.demand_by-requires-clause-within

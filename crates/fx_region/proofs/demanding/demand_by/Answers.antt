@@ -10,11 +10,12 @@ use Rattle.fx_scene.specs.Nodes.{AreNodes, Node, Nodes}
 use Rattle.fx_scene.proofs.Outside.{area_window}
 use Rattle.fx_region.specs.Ends.{chosen, end_of}
 use Rattle.fx_region.specs.Needs.{needs_of, node_needs}
-use Rattle.fx_region.specs.Sites.{scene_nodes, site_nodes}
+use Rattle.fx_scene.specs.Sites.{scene_nodes, site_nodes}
 use Rattle.fx_region.specs.Stands.{NeedStands}
 use Rattle.fx_region.specs.Suffice.{ShowsTaps}
 use Rattle.fx_region.specs.declared.ends.Need.{Need}
 use Rattle.fx_region.proofs.FollowLemmas.{window_within}
+use Rattle.fx_region.proofs.ChoiceLaws.{is_choice}
 use Rattle.fx_region.proofs.NeedLaws.{shows_taps}
 use Rattle.fx_region.proofs.StandLemmas.{needs_stand}
 use Rattle.fx_region.proofs.TableLemmas.{scene_table}
@@ -54,7 +55,7 @@ returns-clause-shows g c o is =
     IfOk-weaker c.needs_in.result _ _ (λ (needs : Vec Need Global) they.
     subst (ShowsTaps nodes o c.args.frame c.args.region)
     (sym (they ∙ ap (λ (q : Node). node_needs (end_of nodes) (area nodes) c.args.grid q c.args.frame c.args.region) is))
-    (shows_taps (chosen nodes) nodes are c.args.grid c.args.node o c.args.frame c.args.region some is))
+    (shows_taps (chosen nodes) nodes are (is_choice nodes) c.args.grid c.args.node o c.args.frame c.args.region some is))
     (returns-clause-needs g c)
 
 pub returns-clause-stand : goal.returns-clause-stand

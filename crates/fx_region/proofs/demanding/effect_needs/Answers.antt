@@ -6,10 +6,10 @@ use Rattle.fx_effect.specs.declared.values.Values.{Values}
 use Rattle.fx_scene.specs.Frames.{items_of}
 use Rattle.fx_scene.specs.Nodes.{Effect}
 use Rattle.fx_scene.specs.Scenes.{graph_shown, images_in}
-use Rattle.fx_region.specs.Sites.{effect_at}
-use Rattle.fx_region.specs.Tables.{AreReads, HasReads, IsInterest}
+use Rattle.fx_scene.specs.Sites.{AreReads, effect_at}
+use Rattle.fx_region.specs.Tables.{HasReads, IsInterest}
 use Rattle.fx_region.proofs.DemandLemmas.{is_interest}
-use Rattle.fx_region.proofs.SiteLemmas.{few_clips, has_names, names_counted}
+use Rattle.fx_scene.proofs.SiteLemmas.{few_clips, has_names, names_counted}
 use Rattle.fx_region.proofs.demanding.effect_needs.Goals as goal
 
 pub regions_of_interest-requires-clause-names : goal.regions_of_interest-requires-clause-names

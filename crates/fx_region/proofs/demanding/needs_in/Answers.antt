@@ -10,10 +10,10 @@ use Rattle.fx_scene.specs.Reach.{IsNearFrame}
 use Rattle.fx_scene.specs.Scenes.{graph_shown, images_in}
 use Rattle.fx_region.specs.Ends.{end_of}
 use Rattle.fx_region.specs.Needs.{need_shown, node_needs}
-use Rattle.fx_region.specs.Sites.{effect_at, site_nodes}
+use Rattle.fx_scene.specs.Sites.{effect_at, site_nodes}
 use Rattle.fx_region.specs.Tables.{HasReads, IsAskedSo}
 use Rattle.fx_region.specs.declared.ends.Need.{Need}
-use Rattle.fx_region.proofs.SiteLemmas.{effect_in, source_is}
+use Rattle.fx_scene.proofs.SiteLemmas.{effect_in, source_is}
 use Rattle.fx_region.proofs.TableLemmas.{asked_so, asked_some}
 use Rattle.fx_region.proofs.demanding.needs_in.Goals as goal
 

@@ -5,10 +5,11 @@ use mir.Val.{SFits}
 use Rattle.fx_scene.specs.Areas.{area}
 use Rattle.fx_region.specs.Ends.{end_of}
 use Rattle.fx_region.specs.Needs.{need_shown, needs_at}
-use Rattle.fx_region.specs.Sites.{effect_at, site_nodes}
-use Rattle.fx_region.specs.Tables.{AreReads, IsInterest}
+use Rattle.fx_scene.specs.Sites.{AreReads, effect_at, site_nodes}
+use Rattle.fx_region.specs.Tables.{IsInterest}
 use Rattle.fx_region.proofs.DemandLemmas.{clip_step, interest_at, interest_long}
-use Rattle.fx_region.proofs.TableLemmas.{clip_there, reads_at, reads_long}
+use Rattle.fx_scene.proofs.ClipLemmas.{reads_at, reads_long}
+use Rattle.fx_region.proofs.TableLemmas.{clip_there}
 use Rattle.fx_region.proofs.demanding.needs_of_clips.Goals as goal
 
 pub loop-c-init : goal.loop-c-init

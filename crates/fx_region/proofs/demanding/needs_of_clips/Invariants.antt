@@ -3,7 +3,7 @@ use Rattle.std.specs.List.{flat_map, range_with_len}
 use Rattle.fx_scene.specs.Areas.{area}
 use Rattle.fx_region.specs.Ends.{end_of}
 use Rattle.fx_region.specs.Needs.{need_shown, needs_at}
-use Rattle.fx_region.specs.Sites.{effect_at, site_nodes}
+use Rattle.fx_scene.specs.Sites.{effect_at, site_nodes}
 use Rattle.fx_region.proofs.demanding.needs_of_clips.Given as goal
 
 abbrev pub invariant-loop-c : goal.invariant-loop-c

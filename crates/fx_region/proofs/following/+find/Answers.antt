@@ -9,7 +9,7 @@ use Rattle.fx_scene.specs.Reach.{IsPlace}
 use Rattle.fx_scene.proofs.NearLemmas.{read_place}
 use Rattle.fx_region.specs.Ends.{end_of, onward}
 use Rattle.fx_region.specs.Follow.{GoesToRead, stand_end}
-use Rattle.fx_region.specs.Sites.{site_nodes}
+use Rattle.fx_scene.specs.Sites.{site_nodes}
 use Rattle.fx_region.specs.Tables.{Has, IsAskedSo}
 use Rattle.fx_region.specs.declared.ends.End.{End}
 use Rattle.fx_region.proofs.FollowLemmas.{cut_is, cut_window, void_end}

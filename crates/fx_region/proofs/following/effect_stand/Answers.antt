@@ -7,7 +7,7 @@ use Rattle.fx_effect.specs.declared.values.Values.{Values}
 use Rattle.fx_effect.specs.declared.action.Identity.TheVariants.{No}
 use Rattle.fx_scene.specs.Nodes.{Effect}
 use Rattle.fx_region.specs.Follow.{GoesToRead, stand_end}
-use Rattle.fx_region.specs.Sites.{effect_at}
+use Rattle.fx_scene.specs.Sites.{effect_at}
 use Rattle.fx_region.proofs.FollowLemmas.{same_clip, same_read, same_stands, some_place}
 use Rattle.fx_region.proofs.following.effect_stand.Goals as goal
 

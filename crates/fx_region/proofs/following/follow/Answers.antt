@@ -4,10 +4,11 @@ use Rattle.std.proofs.lemmas.Result.{IfOk-weaker}
 use mir.Val.{SFits}
 use Rattle.fx_scene.specs.Nodes.{AreNodes, Nodes}
 use Rattle.fx_region.specs.Ends.{chosen, end_of}
-use Rattle.fx_region.specs.Sites.{scene_nodes, site_nodes}
+use Rattle.fx_scene.specs.Sites.{scene_nodes, site_nodes}
 use Rattle.fx_region.specs.Stands.{StandsBelow}
 use Rattle.fx_region.specs.Suffice.{ShowsEnd}
 use Rattle.fx_region.specs.declared.ends.End.{End}
+use Rattle.fx_region.proofs.ChoiceLaws.{is_choice}
 use Rattle.fx_region.proofs.EndLaws.{shows_end}
 use Rattle.fx_region.proofs.StandLemmas.{ends_stand}
 use Rattle.fx_region.proofs.TableLemmas.{scene_table}
@@ -33,7 +34,7 @@ returns-clause-shows g c =
     let nodes = scene_nodes m c.args.scene.now in
     let are = subst AreNodes c.site_of-site.ensures.same c.site_of-site.ensures.nodes in
     IfOk-weaker c.find.result _ _ (λ (end : End) is.
-    subst (ShowsEnd nodes c.args.node c.args.frame c.args.region) (sym is) (shows_end (chosen nodes) nodes are c.args.node c.args.frame c.args.region))
+    subst (ShowsEnd nodes c.args.node c.args.frame c.args.region) (sym is) (shows_end (chosen nodes) nodes are (is_choice nodes) c.args.node c.args.frame c.args.region))
     (returns-clause-end g c)
 
 pub returns-clause-stands : goal.returns-clause-stands

@@ -7,10 +7,10 @@ use Rattle.fx_scene.specs.Areas.{area}
 use Rattle.fx_scene.specs.Nodes.{Effect, Node, Source}
 use Rattle.fx_scene.specs.Scenes.{graph_shown, images_in}
 use Rattle.fx_region.specs.Ends.{chosen, cut_end, source_end, whole_or_cut}
-use Rattle.fx_region.specs.Sites.{effect_at, site_nodes, source_of}
+use Rattle.fx_scene.specs.Sites.{effect_at, site_nodes, source_of}
 use Rattle.fx_region.specs.declared.following.Stand.{Stand}
 use Rattle.fx_region.proofs.FollowLemmas.{cut_by, read_by}
-use Rattle.fx_region.proofs.SiteLemmas.{effect_in, is_effect, source_is}
+use Rattle.fx_scene.proofs.SiteLemmas.{effect_in, is_effect, source_is}
 use Rattle.fx_region.proofs.TableLemmas.{asked_so, asked_some}
 use Rattle.fx_region.proofs.following.stand_of.Goals as goal
 

@@ -1,6 +1,6 @@
 use Rattle.std.proofs.Common.{◌≡◌, sym, subst, ℕ, Option}
 use Rattle.fx_scene.specs.Areas.{area, clip_area}
-use Rattle.fx_region.proofs.TableLemmas.{clip_area_by}
+use Rattle.fx_scene.proofs.ClipLemmas.{clip_area_by}
 use Rattle.fx_region.proofs.regions.clip_area.Goals as goal
 
 pub returns-in-Some : goal.returns-in-Some

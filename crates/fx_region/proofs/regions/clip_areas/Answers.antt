@@ -2,9 +2,9 @@ use Rattle.std.proofs.Common.{◌≡◌, ◌∙◌, ap, refl, sym, subst, w64, t
 use Rattle.std.specs.List.{range_with_len}
 use Rattle.std.proofs.lemmas.Int.{to_z-of_z}
 use mir.Val.{SFits}
-use Rattle.fx_region.specs.Sites.{effect_at}
-use Rattle.fx_region.specs.Tables.{AreReads}
-use Rattle.fx_region.proofs.TableLemmas.{area_at, areas_more, clip_there, reads_at, reads_long}
+use Rattle.fx_scene.specs.Sites.{AreReads, effect_at}
+use Rattle.fx_scene.proofs.ClipLemmas.{area_at, areas_more, reads_at, reads_long}
+use Rattle.fx_region.proofs.TableLemmas.{clip_there}
 use Rattle.fx_region.proofs.regions.clip_areas.Goals as goal
 
 pub loop-c-init : goal.loop-c-init

@@ -1,9 +1,9 @@
 use Rattle.std.proofs.Common.{◌≡◌, length, map}
 use Rattle.std.specs.List.{range_with_len}
 use Rattle.fx_scene.specs.Nodes.{Nodes}
-use Rattle.fx_region.specs.Sites.{effect_at}
+use Rattle.fx_scene.specs.Sites.{effect_at}
 use Rattle.fx_region.specs.Tables.{AreAreas}
-use Rattle.fx_region.proofs.TableLemmas.{area_at}
+use Rattle.fx_scene.proofs.ClipLemmas.{area_at}
 use Rattle.fx_region.proofs.regions.clip_areas.Given as goal
 
 abbrev pub invariant-loop-c : goal.invariant-loop-c

@@ -9,10 +9,10 @@ use Rattle.fx_scene.specs.Frames.{items_of}
 use Rattle.fx_scene.specs.Nodes.{Effect}
 use Rattle.fx_scene.specs.Scenes.{graph_shown, images_in}
 use Rattle.fx_scene.proofs.Outside.{clip_regions}
-use Rattle.fx_region.specs.Sites.{effect_at, site_nodes}
-use Rattle.fx_region.specs.Tables.{AreReads, HasReads}
-use Rattle.fx_region.proofs.SiteLemmas.{are_reads, effect_is, has_names, is_effect, is_use}
-use Rattle.fx_region.proofs.TableLemmas.{area_by}
+use Rattle.fx_scene.specs.Sites.{AreReads, effect_at, site_nodes}
+use Rattle.fx_region.specs.Tables.{HasReads}
+use Rattle.fx_scene.proofs.SiteLemmas.{are_reads, effect_is, has_names, is_effect, is_use}
+use Rattle.fx_scene.proofs.ClipLemmas.{area_by}
 use Rattle.fx_region.proofs.regions.effect_reached.Goals as goal
 
 pub frames_read-requires-clause-names : goal.frames_read-requires-clause-names

@@ -4,7 +4,7 @@ use mir.Val.{SFits}
 use Rattle.fx_base.specs.Bounds.{Bounds}
 use Rattle.fx_scene.specs.Areas.{area, hull_all, hull_with}
 use Rattle.fx_region.specs.Tables.{Has}
-use Rattle.fx_region.proofs.TableLemmas.{hull_step}
+use Rattle.fx_scene.proofs.ClipLemmas.{hull_step}
 use Rattle.fx_region.proofs.regions.hull_over.Goals as goal
 
 pub rod-requires : goal.rod-requires

@@ -7,7 +7,7 @@ use Rattle.fx_base.proofs.RectLemmas.{IsProper-from_test}
 use Rattle.fx_scene.specs.Areas.{area}
 use Rattle.fx_region.specs.Ends.{end_of}
 use Rattle.fx_region.specs.Needs.{need_shown, tile_needs}
-use Rattle.fx_region.specs.Sites.{site_nodes}
+use Rattle.fx_scene.specs.Sites.{site_nodes}
 use Rattle.fx_region.proofs.DemandLemmas.{rows_done, rows_more}
 use Rattle.fx_region.proofs.tiles.add_rows.Goals as goal
 

@@ -4,7 +4,7 @@ use Rattle.fx_base.specs.Grid.{tiles_in_rows, tiles_of}
 use Rattle.fx_scene.specs.Areas.{area}
 use Rattle.fx_region.specs.Ends.{end_of}
 use Rattle.fx_region.specs.Needs.{need_shown, tile_needs}
-use Rattle.fx_region.specs.Sites.{site_nodes}
+use Rattle.fx_scene.specs.Sites.{site_nodes}
 use Rattle.fx_region.proofs.tiles.add_rows.Given as goal
 
 abbrev pub invariant-loop-j : goal.invariant-loop-j

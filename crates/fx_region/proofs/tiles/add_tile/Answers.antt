@@ -4,7 +4,7 @@ use Rattle.std.proofs.lemmas.Result.{on_ok_weaker}
 use mir.Val.{SFits}
 use Rattle.fx_region.specs.Ends.{end_shown}
 use Rattle.fx_region.specs.Needs.{need_shown}
-use Rattle.fx_region.specs.Sites.{site_nodes}
+use Rattle.fx_scene.specs.Sites.{site_nodes}
 use Rattle.fx_region.proofs.DemandLemmas.{tile_done}
 use Rattle.fx_region.proofs.tiles.add_tile.Goals as goal
 

@@ -6,7 +6,7 @@ use Rattle.fx_base.specs.Bounds.{IsRect, none}
 use Rattle.fx_base.specs.Rect.{IsNear}
 use Rattle.fx_base.proofs.RectLaws.{IsRect-meet}
 use Rattle.fx_region.specs.Needs.{need_shown}
-use Rattle.fx_region.specs.Sites.{site_nodes}
+use Rattle.fx_scene.specs.Sites.{site_nodes}
 use Rattle.fx_region.proofs.DemandLemmas.{no_tiles, some_tiles}
 use Rattle.fx_region.proofs.FollowLemmas.{cut_window, some_place}
 use Rattle.fx_region.proofs.tiles.add_tiles.Goals as goal

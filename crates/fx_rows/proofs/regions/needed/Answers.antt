@@ -2,7 +2,7 @@ use Rattle.std.proofs.Common.{◌≡◌, sym, subst}
 use Rattle.fx_base.specs.Bounds.{Bounds}
 use Rattle.fx_base.specs.Rect.{IsWithin, meet}
 use Rattle.fx_base.proofs.RectLaws.{IsWithin-meet_second}
-use Rattle.fx_region.specs.Sites.{scene_nodes}
+use Rattle.fx_scene.specs.Sites.{scene_nodes}
 use Rattle.fx_shipped.specs.Shipped.{meaning_of}
 use Rattle.fx_rows.proofs.regions.needed.Goals as goal
 

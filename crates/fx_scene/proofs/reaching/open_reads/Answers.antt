@@ -19,13 +19,13 @@ frames_read-requires-clause-names g c =
     let graph = c.args.graph.now in
     let m = g.E.ImageEffect.meaning in
     let e = c.in-Effect in
-    let t = c.args.moment.frame in
+    let t = c.args.node_frame.frame in
     let nodes = map shown graph.nodes.items in
-    let there = shown_at graph.nodes.items c.args.moment.node c.index.result.now c.requires.place.there (search rules) in
-    let u = use_at m (graph.depth, graph.components) nodes c.args.moment.node (shown c.index.result.now) e.effect e.context e.clips.items e.names e.optional e.masks e.params.items graph.kept there (ap does_of e.is) in
+    let there = shown_at graph.nodes.items c.args.node_frame.node c.index.result.now c.requires.place.there (search rules) in
+    let u = use_at m (graph.depth, graph.components) nodes c.args.node_frame.node (shown c.index.result.now) e.effect e.context e.clips.items e.names e.optional e.masks e.params.items graph.kept there (ap does_of e.is) in
     let fits : SFits w64 t = search rules in
     let v = simp to_z-of_z at c.in_ok-values-in-Effect.ensures in
-    names_clips (m e.effect).shape (length (take c.args.moment.node nodes)) e.context e.clips.items e.names e.optional e.masks e.params.items graph.project t
+    names_clips (m e.effect).shape (length (take c.args.node_frame.node nodes)) e.context e.clips.items e.names e.optional e.masks e.params.items graph.project t
     c.in_ok-values-in-Effect.values u graph.extent
     (v ∙ ap (λ (cs : List (Option ℕ)). use_values graph.project t cs c.as_slice-in-Effect.result.now) c.as_slice.ensures.value
     ∙ ap (λ (ps : List Parameter). use_values graph.project t e.clips.items ps) c.as_slice-in-Effect.ensures.value)
@@ -37,9 +37,9 @@ open_clips-requires g c =
     let m = g.E.ImageEffect.meaning in
     let e = c.in-Effect in
     let nodes = map shown graph.nodes.items in
-    let there = shown_at graph.nodes.items c.args.moment.node c.index.result.now c.requires.place.there (search rules) in
-    let u = use_at m (graph.depth, graph.components) nodes c.args.moment.node (shown c.index.result.now) e.effect e.context e.clips.items e.names e.optional e.masks e.params.items graph.kept there (ap does_of e.is) in
-    let long = names_long (m e.effect).shape (length (take c.args.moment.node nodes)) e.context e.clips.items e.names e.optional e.masks e.params.items u in
+    let there = shown_at graph.nodes.items c.args.node_frame.node c.index.result.now c.requires.place.there (search rules) in
+    let u = use_at m (graph.depth, graph.components) nodes c.args.node_frame.node (shown c.index.result.now) e.effect e.context e.clips.items e.names e.optional e.masks e.params.items graph.kept there (ap does_of e.is) in
+    let long = names_long (m e.effect).shape (length (take c.args.node_frame.node nodes)) e.context e.clips.items e.names e.optional e.masks e.params.items u in
     let reads = c.in_ok-reads-in-Effect.reads.items in
     let a = length-map reads (items_of {A = ℤ}) in
     let b = length-map-range_with_len (λ i. frames_of ((m e.effect).spans c.in_ok-values-in-Effect.values i)) 0 (length e.names) in
@@ -53,8 +53,8 @@ pub returns-in-Source : goal.returns-in-Source
 returns-in-Source g c =
     let graph = c.args.graph.now in
     let e = c.in-Source in
-    let there = shown_at graph.nodes.items c.args.moment.node c.index.result.now c.requires.place.there (search rules) in
-    source_adds g.E.ImageEffect.meaning (graph_shown graph) c.args.moment.node (shown c.index.result.now) e.pattern e.first e.last e.hold c.args.moment.frame c.args.pending.now there (ap does_of e.is)
+    let there = shown_at graph.nodes.items c.args.node_frame.node c.index.result.now c.requires.place.there (search rules) in
+    source_adds g.E.ImageEffect.meaning (graph_shown graph) c.args.node_frame.node (shown c.index.result.now) e.pattern e.first e.last e.hold c.args.node_frame.frame c.args.pending.now there (ap does_of e.is)
 
 -- src/reaching.rt:68:1
 pub returns-in_ok-reads-in-Effect : goal.returns-in_ok-reads-in-Effect
@@ -62,17 +62,17 @@ returns-in_ok-reads-in-Effect g c =
     let graph = c.args.graph.now in
     let m = g.E.ImageEffect.meaning in
     let e = c.in-Effect in
-    let t = c.args.moment.frame in
+    let t = c.args.node_frame.frame in
     let nodes = map shown graph.nodes.items in
-    let there = shown_at graph.nodes.items c.args.moment.node c.index.result.now c.requires.place.there (search rules) in
-    let u = use_at m (graph.depth, graph.components) nodes c.args.moment.node (shown c.index.result.now) e.effect e.context e.clips.items e.names e.optional e.masks e.params.items graph.kept there (ap does_of e.is) in
-    let long = names_long (m e.effect).shape (length (take c.args.moment.node nodes)) e.context e.clips.items e.names e.optional e.masks e.params.items u in
+    let there = shown_at graph.nodes.items c.args.node_frame.node c.index.result.now c.requires.place.there (search rules) in
+    let u = use_at m (graph.depth, graph.components) nodes c.args.node_frame.node (shown c.index.result.now) e.effect e.context e.clips.items e.names e.optional e.masks e.params.items graph.kept there (ap does_of e.is) in
+    let long = names_long (m e.effect).shape (length (take c.args.node_frame.node nodes)) e.context e.clips.items e.names e.optional e.masks e.params.items u in
     let fits : SFits w64 t = search rules in
     let v = simp to_z-of_z at c.in_ok-values-in-Effect.ensures in
     let values = v ∙ ap (λ (cs : List (Option ℕ)). use_values graph.project t cs c.as_slice-in-Effect.result.now) c.as_slice.ensures.value
     ∙ ap (λ (ps : List Parameter). use_values graph.project t e.clips.items ps) c.as_slice-in-Effect.ensures.value in
     let reads = ap (map (items_of {A = ℤ})) c.as_slice-in-Effect-3.ensures.value ∙ c.in_ok-reads-in-Effect.ensures in
-    on_ok_weaker c.open_clips.result (λ a. effect_adds m (graph_shown graph) c.args.moment.node (shown c.index.result.now) e.effect e.context
+    on_ok_weaker c.open_clips.result (λ a. effect_adds m (graph_shown graph) c.args.node_frame.node (shown c.index.result.now) e.effect e.context
     e.clips.items e.names e.optional e.masks e.params.items t c.in_ok-values-in-Effect.values (map items_of c.as_slice-in-Effect-3.result.now)
     c.args.pending.now c.open_clips.new.pending there (ap does_of e.is) values reads long
     (subst (λ (cs : List (Option ℕ)). Adds (IsClipRead cs (map items_of c.as_slice-in-Effect-3.result.now)) c.args.pending.now c.open_clips.new.pending)

@@ -14,8 +14,8 @@ use Rattle.fx_scene.proofs.StepLemmas.{fewer, none_has, none_left, one_place, sp
 use Rattle.fx_scene.proofs.reaching.reach.Goals as goal
 
 -- src/reaching.rt:43:5
-pub loop-moment-init : goal.loop-moment-init
-loop-moment-init g c =
+pub loop-node_frame-init : goal.loop-node_frame-init
+loop-node_frame-init g c =
     let graph = c.args.graph.now in
     let nodes = graph_nodes g.E.ImageEffect.meaning (graph_shown graph) no_images in
     let none = none_has c.new-pending.result c.new-pending.ensures.empty in
@@ -33,11 +33,11 @@ loop-moment-init g c =
 -- src/reaching.rt:44:9
 pub open_reads-requires : goal.open_reads-requires
 open_reads-requires g c =
-    record { place = c.loop-moment.invariant.1 c.in-Some.moment.node c.in-Some.moment.frame c.in-Some.ensures.member }
+    record { place = c.loop-node_frame.invariant.1 c.in-Some.node_frame.node c.in-Some.node_frame.frame c.in-Some.ensures.member }
 
 -- src/reaching.rt:43:5
-pub loop-moment-smaller : goal.loop-moment-smaller
-loop-moment-smaller g c =
+pub loop-node_frame-smaller : goal.loop-node_frame-smaller
+loop-node_frame-smaller g c =
     let graph = c.args.graph.now in
     let m = g.E.ImageEffect.meaning in
     let bound = g.met.E.ImageEffect in
@@ -45,12 +45,12 @@ loop-moment-smaller g c =
     let few = graph.rendered.few in
     let long = length-map graph.nodes.items shown in
     let are : AreNodes nodes = nodes_are m (graph.depth, graph.components) (graph_shown graph) bound.laws graph.extent (omega (arith, few, long)) graph.kept in
-    step_smaller nodes (length graph.nodes.items) c.loop-moment.pending c.pop_last.new.self c.open_reads.new.pending c.in-Some.moment are few c.loop-moment.invariant.1
+    step_smaller nodes (length graph.nodes.items) c.loop-node_frame.pending c.pop_last.new.self c.open_reads.new.pending c.in-Some.node_frame are few c.loop-node_frame.invariant.1
     c.in-Some.ensures.member c.in-Some.ensures.updates c.in-Some.ensures.all_below c.in_ok-open_reads.ensures
 
 -- src/reaching.rt:43:5
-pub loop-moment-preserved : goal.loop-moment-preserved
-loop-moment-preserved g c =
+pub loop-node_frame-preserved : goal.loop-node_frame-preserved
+loop-node_frame-preserved g c =
     let graph = c.args.graph.now in
     let m = g.E.ImageEffect.meaning in
     let bound = g.met.E.ImageEffect in
@@ -60,17 +60,17 @@ loop-moment-preserved g c =
     let are : AreNodes nodes = nodes_are m (graph.depth, graph.components) (graph_shown graph) bound.laws graph.extent (omega (arith, few, long)) graph.kept in
     let fits : SFits w64 c.args.first = search rules in
     let fits_last : SFits w64 c.args.last = search rules in
-    let inv = simp to_z-of_z at c.loop-moment.invariant in
-    let pending = c.loop-moment.pending in
+    let inv = simp to_z-of_z at c.loop-node_frame.invariant in
+    let pending = c.loop-node_frame.pending in
     let less = c.pop_last.new.self in
-    let moment = c.in-Some.moment in
+    let node_frame = c.in-Some.node_frame in
     let popped = c.in-Some.ensures in
-    let one = adds_one c.loop-moment.reached c.insert.new.self moment c.in_ok-insert.ensures.updates in
+    let one = adds_one c.loop-node_frame.reached c.insert.new.self node_frame c.in_ok-insert.ensures.updates in
     simp to_z-of_z (
-      opening_step nodes graph.output c.args.first c.args.last pending less c.open_reads.new.pending c.loop-moment.reached c.insert.new.self moment inv.0 popped.member
-          (fewer pending less moment popped.updates) (split pending less moment popped.updates) c.in_ok-open_reads.ensures one,
-      step_places nodes (length graph.nodes.items) pending less c.open_reads.new.pending moment are few inv.1 popped.member popped.updates c.in_ok-open_reads.ensures,
-      one_place (length graph.nodes.items) c.loop-moment.reached c.insert.new.self moment (inv.1 moment.node moment.frame popped.member) inv.2 one,
+      opening_step nodes graph.output c.args.first c.args.last pending less c.open_reads.new.pending c.loop-node_frame.reached c.insert.new.self node_frame inv.0 popped.member
+          (fewer pending less node_frame popped.updates) (split pending less node_frame popped.updates) c.in_ok-open_reads.ensures one,
+      step_places nodes (length graph.nodes.items) pending less c.open_reads.new.pending node_frame are few inv.1 popped.member popped.updates c.in_ok-open_reads.ensures,
+      one_place (length graph.nodes.items) c.loop-node_frame.reached c.insert.new.self node_frame (inv.1 node_frame.node node_frame.frame popped.member) inv.2 one,
     )
 
 -- src/reaching.rt:27:1
@@ -80,6 +80,6 @@ returns-clause-least g c =
     let nodes = graph_nodes g.E.ImageEffect.meaning (graph_shown graph) no_images in
     let fits : SFits w64 c.args.first = search rules in
     let fits_last : SFits w64 c.args.last = search rules in
-    let inv = simp to_z-of_z at c.loop-moment.invariant in
-    opening_end nodes graph.output c.args.first c.args.last c.loop-moment.pending c.loop-moment.reached inv.0
-    (none_left c.loop-moment.pending (λ some. false≢true (c.in_default.ensures.variant.1 some)))
+    let inv = simp to_z-of_z at c.loop-node_frame.invariant in
+    opening_end nodes graph.output c.args.first c.args.last c.loop-node_frame.pending c.loop-node_frame.reached inv.0
+    (none_left c.loop-node_frame.pending (λ some. false≢true (c.in_default.ensures.variant.1 some)))

@@ -5,12 +5,12 @@ use Rattle.fx_scene.proofs.RankLemmas.{top}
 use Rattle.fx_scene.proofs.StepLemmas.{HasPlaces}
 use Rattle.fx_scene.proofs.reaching.reach.Given as goal
 
-abbrev pub invariant-loop-moment : goal.invariant-loop-moment
-invariant-loop-moment g l =
+abbrev pub invariant-loop-node_frame : goal.invariant-loop-node_frame
+invariant-loop-node_frame g l =
     let nodes = graph_nodes g.E.ImageEffect.meaning (graph_shown l.graph) no_images in
     let count = length l.graph.nodes.items in
     IsOpening nodes l.graph.output l.fn.first l.fn.last l.pending l.reached
     × HasPlaces count l.pending × HasPlaces count l.reached
 
-abbrev pub decreases-loop-moment : goal.decreases-loop-moment
-decreases-loop-moment g l = top l.pending.keys
+abbrev pub decreases-loop-node_frame : goal.decreases-loop-node_frame
+decreases-loop-node_frame g l = top l.pending.keys

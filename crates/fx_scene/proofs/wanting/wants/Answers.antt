@@ -9,10 +9,10 @@ pub returns-clause-exact : goal.returns-clause-exact
 returns-clause-exact g c =
     let nodes = graph_nodes g.E.ImageEffect.meaning (graph_shown c.args.graph.now) no_images in
     let output = c.args.graph.now.output in
-    let moments = c.in_ok-moments.moments in
+    let node_frames = c.in_ok-node_frames.node_frames in
     let f1 : SFits w64 c.from.result = search rules in
     let f2 : SFits w64 c.from-2.result = search rules in
-    let least = simp to_z-of_z at c.in_ok-moments.ensures.least in
+    let least = simp to_z-of_z at c.in_ok-node_frames.ensures.least in
     c.wants_at.ensures.exact output (pos c.args.first) (pos c.args.last)
-    (subst (λ (z : ℤ). IsReach nodes output z (pos c.args.last) (has moments)) c.from.ensures
-    (subst (λ (z : ℤ). IsReach nodes output c.from.result z (has moments)) c.from-2.ensures least))
+    (subst (λ (z : ℤ). IsReach nodes output z (pos c.args.last) (has node_frames)) c.from.ensures
+    (subst (λ (z : ℤ). IsReach nodes output c.from.result z (has node_frames)) c.from-2.ensures least))

@@ -1,25 +1,24 @@
 use Rattle.std.proofs.Common.{arith, map}
-use Rattle.fx_region.specs.Sites.{scene_nodes}
-use Rattle.fx_tile.specs.Inputs.{seen_in}
-use Rattle.fx_tile.specs.Sites.{IsTileOf}
+use Rattle.fx_scene.specs.Sites.{scene_nodes, seen_in}
+use Rattle.fx_tile.specs.Setups.{IsTileOf}
 use Rattle.fx_tile.proofs.PieceLemmas.{tiles_long, tile_at, inputs_more}
 use Rattle.fx_tile.proofs.inputs.inputs_of.Goals as goal
 
 pub bounds-tiles-i : goal.bounds-tiles-i
 bounds-tiles-i g c =
-    let long = tiles_long (IsTileOf (scene_nodes g.E.ImageEffect.meaning c.args.site.now.scene.now)) c.args.needs.now c.args.tiles.now c.requires.tiles in
+    let long = tiles_long (IsTileOf (scene_nodes g.E.ImageEffect.meaning c.args.setup.now.scene.now)) c.args.needs.now c.args.tiles.now c.requires.tiles in
     omega (arith, long, c.loop-i-test.true, c.loop-i.invariant.all)
 
 pub add_piece-requires-clause-tile : goal.add_piece-requires-clause-tile
 add_piece-requires-clause-tile g c =
-    tile_at (IsTileOf (scene_nodes g.E.ImageEffect.meaning c.args.site.now.scene.now)) c.args.needs.now c.args.tiles.now c.loop-i.i c.index-needs-i.result c.index-tiles-i.result c.requires.tiles
+    tile_at (IsTileOf (scene_nodes g.E.ImageEffect.meaning c.args.setup.now.scene.now)) c.args.needs.now c.args.tiles.now c.loop-i.i c.index-needs-i.result c.index-tiles-i.result c.requires.tiles
     (omega (arith, c.loop-i-test.true, c.loop-i.invariant.all)) c.index-needs-i.is c.index-tiles-i.is
 
 pub loop-i-preserved : goal.loop-i-preserved
 loop-i-preserved g c =
     record {
       all = c.loop-i.invariant.all;
-      are = inputs_more (scene_nodes g.E.ImageEffect.meaning c.args.site.now.scene.now) c.args.node.now.depth (map (seen_in c.args.node.now.components) c.args.node.now.masks.now)
+      are = inputs_more (scene_nodes g.E.ImageEffect.meaning c.args.setup.now.scene.now) c.args.node.now.depth (map (seen_in c.args.node.now.components) c.args.node.now.masks.now)
           c.args.needs.now c.loop-i.i c.index-needs-i.result c.loop-i.inputs c.add_piece.new.inputs (omega (arith, c.loop-i-test.true, c.loop-i.invariant.all)) c.index-needs-i.is
           c.loop-i.invariant.are c.in_ok-add_piece.ensures;
     }

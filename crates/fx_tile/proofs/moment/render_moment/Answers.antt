@@ -5,7 +5,7 @@ use Rattle.fx_base.specs.Bounds.{Bounds}
 use Rattle.fx_pool.specs.Weights.{plus, weigh}
 use Rattle.fx_pool.specs.Working.{numbers_below, numbers_of}
 use Rattle.fx_region.specs.Counts.{window_ends}
-use Rattle.fx_region.specs.Sites.{scene_nodes}
+use Rattle.fx_scene.specs.Sites.{scene_nodes}
 use Rattle.fx_tile.specs.declared.count.TileCount.{TileCount}
 use Rattle.fx_tile.specs.declared.job.Drawn.{Drawn}
 use Rattle.fx_tile.specs.Moments.{CountsTiles, Cover, FitsInto, IsWindowTile, ShowsTiles, count_of_all, count_weight, seat_weight}

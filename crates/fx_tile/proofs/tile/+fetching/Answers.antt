@@ -9,10 +9,10 @@ use Rattle.std.specs.declared.alloc.Global.{Global}
 use Rattle.std.specs.declared.sync.Arc.{Arc}
 use Rattle.fx_image.specs.Stored.{Stored}
 use Rattle.fx_directory.specs.Seats.{Made}
-use Rattle.fx_region.specs.Sites.{scene_nodes}
+use Rattle.fx_scene.specs.Sites.{scene_nodes}
 use Rattle.fx_region.specs.declared.ends.Need.{Need}
 use Rattle.fx_tile.specs.Counts.{one_if_some}
-use Rattle.fx_tile.specs.Sites.{EachTile, IsFound, IsTileOf, MayBeTileOf}
+use Rattle.fx_tile.specs.Setups.{EachTile, IsFound, IsTileOf, MayBeTileOf}
 use Rattle.fx_tile.proofs.FlightLemmas.{follows_more, joined, met_both, met_same, right_of}
 use Rattle.fx_tile.proofs.GatherLemmas.{gathers_early, gathers_now}
 use Rattle.fx_tile.proofs.PieceLemmas.{tiles_long, tiles_more}
@@ -23,8 +23,8 @@ pub made-landed-requires-clause-right : goal.made-landed-requires-clause-right
 made-landed-requires-clause-right g t c =
     let fits : SFits w64 c.args.frame = c.ranges.frame in
     let tile = simp to_z-of_z at c.in-Ok.ensures.tile in
-    right_of g.E.ImageEffect.meaning c.args.site.now.shared.now.directory.name.scene.value c.args.site.now.scene.now c.args.node c.args.frame c.args.region (arc_value c.args.flight.key)
-    (arc_value c.in-Ok.image) c.requires.site.name c.requires.key tile
+    right_of g.E.ImageEffect.meaning c.args.setup.now.shared.now.directory.name.scene.value c.args.setup.now.scene.now c.args.node c.args.frame c.args.region (arc_value c.args.flight.key)
+    (arc_value c.in-Ok.image) c.requires.setup.name c.requires.key tile
 
 pub fetch_unless_busy-made-requires : goal.fetch_unless_busy-made-requires
 fetch_unless_busy-made-requires g t c κs within =
@@ -39,7 +39,7 @@ fetch_unless_busy-made-requires g t c κs within =
 
 pub gathered-loop-i-init : goal.gathered-loop-i-init
 gathered-loop-i-init g t c =
-    let nodes = scene_nodes g.E.ImageEffect.meaning c.args.site.now.scene.now in
+    let nodes = scene_nodes g.E.ImageEffect.meaning c.args.setup.now.scene.now in
     let early = c.in_ok-early.early.items in
     let some = sum_by one_if_some early in
     record {
@@ -56,7 +56,7 @@ gathered-loop-i-init g t c =
 pub gathered-loop-i-preserved : goal.gathered-loop-i-preserved
 gathered-loop-i-preserved g t c =
     let m = g.E.ImageEffect.meaning in
-    let site = c.args.site.now in
+    let setup = c.args.setup.now in
     let needs = c.args.needs.now in
     let i = c.loop-i.i in
     let early = c.loop-i.early.items in
@@ -70,18 +70,18 @@ gathered-loop-i-preserved g t c =
     elim c.match-take.branch [
       | gathered-in-Some w ↦
           let seat = w.seat-is in
-          let tally = w.tally-is in
+          let sum = w.sum-is in
           let is : old ≡ Some w.in-Some.tile = sym c.take.ensures.value ∙ w.in-Some.is in
           let pushed : more ≡ tiles ++ Some w.in-Some.tile ∷ [] = c.in_ok-push.ensures.items ∙ ap (λ (o : Option (Arc Stored Global)). tiles ++ o ∷ []) w.tile-is in
           record {
             seat = rw seat c.loop-i.invariant.seat;
-            follows = rw (seat, tally) c.loop-i.invariant.follows;
+            follows = rw (seat, sum) c.loop-i.invariant.follows;
             gathers = rw seat
-                (gathers_early m site needs i early next tiles more start mid mid c.loop-i-test.true c.loop-i.invariant.gathers old c.index_mut.ensures.value after w.in-Some.tile is pushed);
+                (gathers_early m setup needs i early next tiles more start mid mid c.loop-i-test.true c.loop-i.invariant.gathers old c.index_mut.ensures.value after w.in-Some.tile is pushed);
           }
       | gathered-in-None+in_ok-tile-in-None w ↦
           let seat = w.seat-is in
-          let tally = w.tally-is in
+          let sum = w.sum-is in
           let keeps = w.tile_for.ensures.seat in
           let before = c.loop-i.invariant.seat in
           let end = w.tile_for.new.seat.directory.made in
@@ -89,21 +89,21 @@ gathered-loop-i-preserved g t c =
           let tile = w.in_ok-tile-in-None.tile in
           let is : old ≡ None = sym c.take.ensures.value ∙ w.in-None.is in
           let pushed : more ≡ tiles ++ tile ∷ [] = c.in_ok-push.ensures.items ∙ ap (λ (o : Option (Arc Stored Global)). tiles ++ o ∷ []) w.tile-is in
-          let nodes = scene_nodes m site.scene.now in
-          let found = subst (λ (n : Need). IsFound m site n.end mid end) (sym w.index-needs-i.is) w.in_ok-tile-in-None.ensures.found in
+          let nodes = scene_nodes m setup.scene.now in
+          let found = subst (λ (n : Need). IsFound m setup n.end mid end) (sym w.index-needs-i.is) w.in_ok-tile-in-None.ensures.found in
           let of = subst (λ (n : Need). IsTileOf nodes n.end tile) (sym w.index-needs-i.is) w.in_ok-tile-in-None.ensures.tile in
           record {
             seat = rw seat (record { row = keeps.row ∙ before.row; parts = keeps.parts ∙ before.parts; aloft = keeps.aloft ∙ before.aloft; gates = keeps.gates ∙ before.gates });
-            follows = rw (seat, tally)
-                (follows_more c.args.tally.now c.loop-i.tally w.tile_for.new.tally start mid end c.loop-i.invariant.follows w.in_ok-tile-in-None.ensures.follows);
+            follows = rw (seat, sum)
+                (follows_more c.args.sum.now c.loop-i.sum w.tile_for.new.sum start mid end c.loop-i.invariant.follows w.in_ok-tile-in-None.ensures.follows);
             gathers = rw seat
-                (gathers_now m site needs i early next tiles more start mid end c.loop-i-test.true c.loop-i.invariant.gathers old c.index_mut.ensures.value after need tile is w.index-needs-i.is found of pushed);
+                (gathers_now m setup needs i early next tiles more start mid end c.loop-i-test.true c.loop-i.invariant.gathers old c.index_mut.ensures.value after need tile is w.index-needs-i.is found of pushed);
           }
     ]
 
 pub gathered_unless_busy-loop-need-preserved : goal.gathered_unless_busy-loop-need-preserved
 gathered_unless_busy-loop-need-preserved g t c =
-    let nodes = scene_nodes g.E.ImageEffect.meaning c.args.site.now.scene.now in
+    let nodes = scene_nodes g.E.ImageEffect.meaning c.args.setup.now.scene.now in
     let keeps = c.tile_unless_busy.ensures.seat in
     let old = c.loop-need.invariant.seat in
     let tiles = c.loop-need.tiles.items in
@@ -116,7 +116,7 @@ gathered_unless_busy-loop-need-preserved g t c =
       met = met_same (sum_by one_if_some tiles + one_if_some tile) (sum_by one_if_some c.push.new.self.items) start end
           (sym (ap (sum_by one_if_some) c.in_ok-push.ensures.items ∙ sum_by_push one_if_some tiles tile))
           (met_both (sum_by one_if_some tiles) (one_if_some tile) start mid end c.loop-need.invariant.met c.in_ok-tile.ensures.met);
-      follows = follows_more c.args.tally.now c.loop-need.tally c.tile_unless_busy.new.tally start mid end c.loop-need.invariant.follows c.in_ok-tile.ensures.follows;
+      follows = follows_more c.args.sum.now c.loop-need.sum c.tile_unless_busy.new.sum start mid end c.loop-need.invariant.follows c.in_ok-tile.ensures.follows;
       tiles = tiles_more (MayBeTileOf nodes) c.args.needs.now tiles c.push.new.self.items c.loop-need.need-index c.need-item.result tile
           c.loop-need-test.true c.need-item.is c.loop-need.invariant.tiles c.in_ok-tile.ensures.tile c.in_ok-push.ensures.items;
     }

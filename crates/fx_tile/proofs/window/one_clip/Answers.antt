@@ -1,12 +1,12 @@
 use Rattle.std.proofs.Common.{◌≡◌, ◌∙◌, ◌++◌, ap, rules, [], ◌∷◌}
 use Rattle.fx_effect.specs.Given.{Given}
-use Rattle.fx_region.specs.Sites.{scene_nodes}
+use Rattle.fx_scene.specs.Sites.{scene_nodes}
 use Rattle.fx_tile.proofs.WindowLemmas.{shows_alone}
 use Rattle.fx_tile.proofs.window.one_clip.Goals as goal
 
 pub returns-in_ok-add_piece-in_default : goal.returns-in_ok-add_piece-in_default
 returns-in_ok-add_piece-in_default g c =
-    let nodes = scene_nodes g.E.ImageEffect.meaning c.args.site.now.scene.now in
+    let nodes = scene_nodes g.E.ImageEffect.meaning c.args.setup.now.scene.now in
     let old = c.in_ok-inputs.inputs in
     let blank : old ≡ record { depth = c.args.depth; components = c.args.components ∷ []; pieces = [] } = search rules in
     let adds = c.in_ok-add_piece-in_default.ensures in

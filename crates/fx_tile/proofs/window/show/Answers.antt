@@ -6,14 +6,14 @@ use Rattle.fx_pixel.specs.declared.Components.{Components}
 use Rattle.fx_image.specs.Part.{narrowed}
 use Rattle.fx_effect.specs.Given.{row_pixel}
 use Rattle.fx_region.specs.Ends.{end_pixel, end_shown}
-use Rattle.fx_region.specs.Sites.{scene_nodes}
+use Rattle.fx_scene.specs.Sites.{scene_nodes}
 use Rattle.fx_tile.proofs.WindowLemmas.{written_as}
 use Rattle.fx_tile.proofs.window.show.Goals as goal
 
 pub returns-clause-pixels : goal.returns-clause-pixels
 returns-clause-pixels g c =
     let fits : SFits w64 c.args.frame = c.ranges.frame in
-    let nodes = scene_nodes g.E.ImageEffect.meaning c.args.site.now.scene.now in
+    let nodes = scene_nodes g.E.ImageEffect.meaning c.args.setup.now.scene.now in
     let e = end_shown c.args.end in
     let image = c.args.out.now.image.now in
     let written = simp to_z-of_z at c.copy_rows.ensures.pixels in

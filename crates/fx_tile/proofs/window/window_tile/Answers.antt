@@ -11,10 +11,10 @@ use Rattle.fx_scene.proofs.StoreLemmas.{store_images}
 use Rattle.fx_image.specs.Image.{pixel_at}
 use Rattle.fx_image.specs.Part.{narrowed}
 use Rattle.fx_region.specs.Ends.{end_pixel, end_shown}
-use Rattle.fx_region.specs.Sites.{scene_nodes}
+use Rattle.fx_scene.specs.Sites.{scene_nodes}
 use Rattle.fx_region.specs.Tables.{AreRegions, Has}
 use Rattle.fx_region.specs.declared.regions.Regions.{Regions}
-use Rattle.fx_region.proofs.SiteLemmas.{same_nodes}
+use Rattle.fx_scene.proofs.SiteLemmas.{same_nodes}
 use Rattle.fx_tile.specs.Founds.{IsFoundIn}
 use Rattle.fx_tile.proofs.FoundLemmas.{ends_found}
 use Rattle.fx_tile.proofs.ReadyLemmas.{end_ready}
@@ -35,8 +35,8 @@ follow-requires-clause-reached g c =
     (has_output (scene_nodes g.E.ImageEffect.meaning c.args.scene.now) (length graph.nodes) graph.output c.args.regions.now c.args.frame c.requires.regions
     c.graph.result.now.output (ap (λ (h : GraphShown _). h.output) c.graph.ensures.shown))
 
-pub tile_shown-requires-clause-site : goal.tile_shown-requires-clause-site
-tile_shown-requires-clause-site g c =
+pub tile_shown-requires-clause-setup : goal.tile_shown-requires-clause-setup
+tile_shown-requires-clause-setup g c =
     let m = g.E.ImageEffect.meaning in
     let graph = c.graph.result.now in
     let store = c.store.result.now in
@@ -59,7 +59,7 @@ pub tile_shown-requires-clause-ready : goal.tile_shown-requires-clause-ready
 tile_shown-requires-clause-ready g c =
     let fits : SFits w64 c.args.frame = c.ranges.frame in
     let m = g.E.ImageEffect.meaning in
-    let site = tile_shown-requires-clause-site g c in
+    let setup = tile_shown-requires-clause-setup g c in
     let nodes = scene_nodes m c.args.scene.now in
     let output = c.graph.result.now.output in
     let few = c.graph.result.now.rendered.few in
@@ -68,8 +68,8 @@ tile_shown-requires-clause-ready g c =
     let reached = has_output nodes (length graph.nodes) graph.output c.args.regions.now c.args.frame c.requires.regions output (ap (λ (h : GraphShown _). h.output) c.graph.ensures.shown) in
     let there = (c.requires.regions.places output c.args.frame reached).there in
     let is = simp to_z-of_z at c.in_ok-end.ensures.end in
-    let found = subst (IsFoundIn nodes c.args.tile) (sym is) (ends_found nodes site.nodes output c.args.frame c.args.tile (omega (arith, few, count, there))) in
-    end_ready m _ site.store (output + 1) c.args.tile c.in_ok-end.end c.requires.tile.small c.in_ok-end.ensures.stands found
+    let found = subst (IsFoundIn nodes c.args.tile) (sym is) (ends_found nodes setup.nodes output c.args.frame c.args.tile (omega (arith, few, count, there))) in
+    end_ready m _ setup.store (output + 1) c.args.tile c.in_ok-end.end c.requires.tile.small c.in_ok-end.ensures.stands found
 
 pub returns-clause-pixels : goal.returns-clause-pixels
 returns-clause-pixels g c =

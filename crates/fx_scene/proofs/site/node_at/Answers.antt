@@ -3,7 +3,7 @@ use Rattle.fx_params.specs.Parameter.{Parameter}
 use Rattle.fx_graph.specs.Shown.{does_of, shown}
 use Rattle.fx_graph.specs.Shown as does
 use Rattle.fx_scene.proofs.GraphLemmas.{shown_at, source_at}
-use Rattle.fx_region.proofs.site.node_at.Goals as goal
+use Rattle.fx_scene.proofs.site.node_at.Goals as goal
 
 pub returns-in-Source : goal.returns-in-Source
 returns-in-Source g c =

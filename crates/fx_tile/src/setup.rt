@@ -10,7 +10,7 @@ use fx_seq::Store;
 /// A scene with its graph and the frames of its sources that were fetched, the regions of its nodes, the instances
 /// that render its effects, and what is shared.
 #[derive(Drop)]
-pub(crate) struct Site<'a, E: Catalogue> {
+pub(crate) struct Setup<'a, E: Catalogue> {
     pub scene: &'a Scene<E>,
     pub graph: &'a Graph<E>,
     pub store: &'a Store,

@@ -22,33 +22,33 @@ use Rattle.fx_region.specs.declared.ends.Need.{Need}
 use Rattle.fx_region.specs.Counts.{is_asked}
 use Rattle.fx_region.specs.Ends.{EndShown, Frame, Render, Void, end_shown}
 use Rattle.fx_region.specs.Needs.{need_shown, needs_of}
-use Rattle.fx_region.specs.Sites.{scene_nodes}
+use Rattle.fx_scene.specs.Sites.{scene_nodes}
 use Rattle.fx_region.specs.Suffice.{ShowsTaps}
 use Rattle.fx_region.specs.Tables.{Has, IsMadeOf}
 use Rattle.fx_tile.specs.declared.share.TileSeat.{TileSeat}
-use Rattle.fx_tile.specs.declared.site.Site.{Site}
+use Rattle.fx_tile.specs.declared.setup.Setup.{Setup}
 use Rattle.fx_tile.specs.Counts.{Fetched, IsUnasked}
 use Rattle.fx_tile.specs.Tiles.{IsRegion, IsTile}
 
 -- the graph and the frames are the scene's, its effects keep their laws, of it are the instances, the regions and what
 -- is kept, and there are gates for all plug-ins and nodes
-pub record IsSite {E : Type 0} {c e : _} (meaning : E → Meaning) (number : E → ℕ) (site : Site E c e) : Type 0 where
-  pub graph : site.scene.now.graph ≡ graph_shown site.graph.now
-  pub store : site.scene.now.store ≡ site.store.now
-  pub nodes : AreNodes (scene_nodes meaning site.scene.now)
-  pub life : HasLife number site.scene.now.graph site.life.now
-  pub regions : IsMadeOf meaning site.scene.now site.regions.now
-  pub name : site.shared.now.directory.name.scene.value ≡ site.scene.now
-  pub gates : 64 + length site.scene.now.graph.nodes ≤ site.shared.now.gates.gates
+pub record IsSetup {E : Type 0} {c e : _} (meaning : E → Meaning) (number : E → ℕ) (setup : Setup E c e) : Type 0 where
+  pub graph : setup.scene.now.graph ≡ graph_shown setup.graph.now
+  pub store : setup.scene.now.store ≡ setup.store.now
+  pub nodes : AreNodes (scene_nodes meaning setup.scene.now)
+  pub life : HasLife number setup.scene.now.graph setup.life.now
+  pub regions : IsMadeOf meaning setup.scene.now setup.regions.now
+  pub name : setup.shared.now.directory.name.scene.value ≡ setup.scene.now
+  pub gates : 64 + length setup.scene.now.graph.nodes ≤ setup.shared.now.gates.gates
 
 -- a seat of the gates that holds none
-abbrev pub IsGateSeat : {E : Type 0} {c e : _} → Site E c e → GateSeatState → Type 0
-IsGateSeat site seat = (seat.row ≡ site.shared.now.gates) × (seat.turn ≡ None)
+abbrev pub IsGateSeat : {E : Type 0} {c e : _} → Setup E c e → GateSeatState → Type 0
+IsGateSeat setup seat = (seat.row ≡ setup.shared.now.gates) × (seat.turn ≡ None)
 
 -- the seat is one of the directory, and one of the gates that holds none
-pub record IsSeat {E : Type 0} {c e : _} (site : Site E c e) (seat : TileSeat E) : Type 0 where
-  pub row : seat.directory.row ≡ site.shared.now.directory
-  pub gates : IsGateSeat site seat.gates
+pub record IsSeat {E : Type 0} {c e : _} (setup : Setup E c e) (seat : TileSeat E) : Type 0 where
+  pub row : seat.directory.row ≡ setup.shared.now.directory
+  pub gates : IsGateSeat setup seat.gates
 
 -- the seat has its directory, its parts and its flights, and what it has of the gates, as before
 pub record KeepsSeat {E : Type 0} (old new : TileSeat E) : Type 0 where
@@ -71,42 +71,42 @@ IsKeyOf scene node frame region key =
 -- ---- what has to be there
 
 -- a region of an effect's node within its area, at a frame at which it is reached
-pub record IsRenderable {E : Type 0} {c e : _} (meaning : E → Meaning) (site : Site E c e) (node : ℕ) (frame : ℤ)
+pub record IsRenderable {E : Type 0} {c e : _} (meaning : E → Meaning) (setup : Setup E c e) (node : ℕ) (frame : ℤ)
     (region : Bounds) : Type 0 where
   pub effect : EffectNode
-  pub there : scene_nodes meaning site.scene.now node ≡ Effect effect
-  pub reached : Has site.regions.now node frame
+  pub there : scene_nodes meaning setup.scene.now node ≡ Effect effect
+  pub reached : Has setup.regions.now node frame
   pub region_is : IsRegion region
-  pub within : IsWithin region (area (scene_nodes meaning site.scene.now) node frame)
+  pub within : IsWithin region (area (scene_nodes meaning setup.scene.now) node frame)
 
 -- a region of a frame of a source that was fetched
-pub record IsShown {E : Type 0} {c e : _} (meaning : E → Meaning) (site : Site E c e) (node : ℕ) (frame : ℤ)
+pub record IsShown {E : Type 0} {c e : _} (meaning : E → Meaning) (setup : Setup E c e) (node : ℕ) (frame : ℤ)
     (region : Bounds) : Type 0 where
   pub source : SourceFrames
-  pub there : scene_nodes meaning site.scene.now node ≡ Source source
+  pub there : scene_nodes meaning setup.scene.now node ≡ Source source
   pub image : Stored
-  pub is_held : held site.store.now node frame ≡ Some image
+  pub is_held : held setup.store.now node frame ≡ Some image
   pub frame_is : source.frames frame ≡ Some (image_of image)
   pub window : IsWindow region
   pub within : IsWithin region image.rect
 
 -- an end in a frame that was fetched, or in a node before this one that may be rendered there, over a region that holds
 -- the cut
-abbrev pub IsReady : {E : Type 0} {c e : _} → (E → Meaning) → Site E c e → ℕ → End → Type 0
-IsReady meaning site n code.Void = Unit {0}
-IsReady meaning site n (code.Frame node frame region through) = IsShown meaning site node frame region
-IsReady meaning site n (code.Render node frame region cut through) =
-    (node < n) × IsRenderable meaning site node frame region × IsWithin cut region
+abbrev pub IsReady : {E : Type 0} {c e : _} → (E → Meaning) → Setup E c e → ℕ → End → Type 0
+IsReady meaning setup n code.Void = Unit {0}
+IsReady meaning setup n (code.Frame node frame region through) = IsShown meaning setup node frame region
+IsReady meaning setup n (code.Render node frame region cut through) =
+    (node < n) × IsRenderable meaning setup node frame region × IsWithin cut region
 
 -- what a region of an effect's node needs, which shows what its pixels read; each of one of its clips, and found
 -- somewhere
-pub record AreNeeds {E : Type 0} {c e : _} (meaning : E → Meaning) (site : Site E c e) (node : ℕ) (frame : ℤ)
+pub record AreNeeds {E : Type 0} {c e : _} (meaning : E → Meaning) (setup : Setup E c e) (node : ℕ) (frame : ℤ)
     (region : Bounds) (needs : List Need) : Type 0 where
   pub shows :
-      (o : EffectNode) → scene_nodes meaning site.scene.now node ≡ Effect o
-      → ShowsTaps (scene_nodes meaning site.scene.now) o frame region (map need_shown needs)
+      (o : EffectNode) → scene_nodes meaning setup.scene.now node ≡ Effect o
+      → ShowsTaps (scene_nodes meaning setup.scene.now) o frame region (map need_shown needs)
   pub clips :
-      (o : EffectNode) → scene_nodes meaning site.scene.now node ≡ Effect o
+      (o : EffectNode) → scene_nodes meaning setup.scene.now node ≡ Effect o
       → All (λ need. need.clip < length o.clips) needs
   pub found : All (λ need. need.end ≢ code.Void) needs
 
@@ -149,17 +149,17 @@ abbrev pub renders_of : List Need → ℕ
 renders_of needs = count_by (λ n. is_asked (end_shown n.end)) needs
 
 -- how many renders a region of a node needs
-abbrev pub renders_needed : {E : Type 0} {c e : _} → (E → Meaning) → Site E c e → ℕ → ℤ → Bounds → ℕ
-renders_needed meaning site node frame region =
-    let nodes = scene_nodes meaning site.scene.now in
-    count_by (λ n. is_asked n.end) (needs_of nodes site.shared.now.grid node frame region)
+abbrev pub renders_needed : {E : Type 0} {c e : _} → (E → Meaning) → Setup E c e → ℕ → ℤ → Bounds → ℕ
+renders_needed meaning setup node frame region =
+    let nodes = scene_nodes meaning setup.scene.now in
+    count_by (λ n. is_asked n.end) (needs_of nodes setup.shared.now.grid node frame region)
 
 -- what an end that is a render counts in a seat; the others count nothing
-abbrev pub IsFound : {E : Type 0} {c e : _} → (E → Meaning) → Site E c e → End → Made → Made → Type 0
-IsFound meaning site code.Void m n = IsUnasked m n
-IsFound meaning site (code.Frame node frame region through) m n = IsUnasked m n
-IsFound meaning site (code.Render node frame region cut through) m n =
-    Fetched (renders_needed meaning site node frame region) m n
+abbrev pub IsFound : {E : Type 0} {c e : _} → (E → Meaning) → Setup E c e → End → Made → Made → Type 0
+IsFound meaning setup code.Void m n = IsUnasked m n
+IsFound meaning setup (code.Frame node frame region through) m n = IsUnasked m n
+IsFound meaning setup (code.Render node frame region cut through) m n =
+    Fetched (renders_needed meaning setup node frame region) m n
 
 -- how many renders the region of an end needs, where it is a render
 abbrev pub end_renders : Nodes → ℕ → EndShown → ℕ

@@ -4,8 +4,8 @@ use Rattle.fx_graph.specs.Shown.{shown}
 use Rattle.fx_scene.specs.Scenes.{graph_shown, images_in}
 use Rattle.fx_scene.proofs.NodesLemmas.{are_nodes}
 use Rattle.fx_scene.proofs.StoreLemmas.{store_images}
-use Rattle.fx_region.proofs.SiteLemmas.{same_nodes}
-use Rattle.fx_region.proofs.site.site_of.Goals as goal
+use Rattle.fx_scene.proofs.SiteLemmas.{same_nodes}
+use Rattle.fx_scene.proofs.site.site_of.Goals as goal
 
 pub returns-clause-nodes : goal.returns-clause-nodes
 returns-clause-nodes g c =

@@ -1,16 +1,23 @@
 //! The nodes of a scene's graph in their places.
-ghost use Rattle.std.specs.Prelude.{◌≡◌, ◌<◌, length};
+ghost use Rattle.std.specs.Prelude.{◌≡◌, ◌≤◌, ◌<◌, length, map, IfOk};
+ghost use Rattle.std.specs.Option.{option_copied};
+ghost use Rattle.fx_base.specs.Bounds.{none};
+ghost use Rattle.fx_seq.specs.Held.{held};
 ghost use Rattle.fx_scene.specs.Nodes.{AreNodes};
-ghost use Rattle.fx_scene.specs.Scenes.{graph_shown};
-ghost use Rattle.fx_region.specs.Sites.{StandsAt, scene_nodes, site_nodes};
+ghost use Rattle.fx_scene.specs.Scenes.{graph_shown, shown_frame};
+ghost use Rattle.fx_scene.specs.Sites.{StandsAt, area_shown, image_shown, scene_nodes, seen_in, site_nodes};
 
-use fx_base::Names;
+use crate::reaching::NodeFrame;
+use crate::scene::Scene;
+use crate::wanting::shown_frame;
+use fx_base::{Memory, Names, Rect};
 use fx_effect::{Catalogue, Context, Flags};
 use fx_graph::{Graph, Work};
+use fx_image::Image;
 use fx_params::Param;
 use fx_pixel::{Components, Depth};
-use fx_scene::Scene;
 use fx_seq::Store;
+use std::alloc::Global;
 
 /// A graph, and the frames of its sources that were fetched.
 #[derive(Drop)]
@@ -104,4 +111,53 @@ pub fn node_at<E: Catalogue>(graph: &Graph<E>, place: u32) -> NodeAt<'_, E>
             params: params.as_slice(),
         }),
     }
+}
+
+/// The rectangle of the frame that a source shows.
+pub fn source_area(store: &Store, node_frame: NodeFrame, source: SourceNode) -> Rect
+    requires { source.first ≤ source.last }
+    ensures { let named = shown_frame source.first source.last source.hold node_frame.frame in
+        result ≡ area_shown (image_shown (held store.now node_frame.node) named) }
+{
+    match image_shown(store, node_frame, source) {
+        None => Rect::of(0, 0, 0, 0),
+        Some(image) => image.rect(),
+    }
+}
+
+/// The image that a source shows at a frame, if it shows one that was fetched.
+pub fn image_shown<'s>(
+    store: &'s Store,
+    node_frame: NodeFrame,
+    source: SourceNode,
+) -> Option<&'s Image>
+    requires { source.first ≤ source.last }
+    ensures { let named = shown_frame source.first source.last source.hold node_frame.frame in
+        option_copied result ≡ image_shown (held store.now node_frame.node) named }
+{
+    match shown_frame(source.first, source.last, source.hold, node_frame.frame) {
+        None => None,
+        Some(frame) => store.frame(node_frame.node, i64::from(frame)),
+    }
+}
+
+/// The components in which clips are seen: Alpha for a mask, and those of the node for every other.
+pub fn seen_components(
+    alloc: Global,
+    masks: &Flags,
+    components: Components,
+) -> Result<Vec<Components>, Memory>
+    ensures { IfOk result (λ seen. seen.items ≡ map (seen_in components) masks.now) }
+{
+    let mut seen = Vec::new(alloc);
+    for mask in masks.items() {
+        seen.push(seen_in(*mask, components))?;
+    }
+    Ok(seen)
+}
+
+fn seen_in(mask: bool, components: Components) -> Components
+    ensures { result ≡ seen_in components mask }
+{
+    if mask { Components::Alpha } else { components }
 }

@@ -1,0 +1,44 @@
+-- Nodes of a setup in their places.
+use Rattle.std.proofs.Common.{◌≡◌, ℕ, ◌<◌, ℤ, length, sym, ap, ◌∙◌, subst}
+use Rattle.std.proofs.lemmas.List.{length-map}
+use Rattle.fx_effect.specs.Meaning.{Meaning}
+use Rattle.fx_graph.specs.Shown.{GraphShown, shown}
+use Rattle.fx_scene.specs.Nodes.{Effect, EffectNode as Effects, Source, SourceFrames}
+use Rattle.fx_scene.specs.Reach.{IsPlace}
+use Rattle.fx_scene.specs.Scenes.{graph_nodes, graph_shown, images_in}
+use Rattle.fx_scene.specs.declared.site.EffectNode.{EffectNode}
+use Rattle.fx_scene.specs.declared.site.SourceNode.{SourceNode}
+use Rattle.fx_scene.specs.Sites.{IsSourceAt, StandsIn, effect_at, scene_nodes}
+use Rattle.fx_region.specs.Tables.{Has}
+use Rattle.fx_scene.proofs.SiteLemmas.{effect_is, source_is}
+use Rattle.fx_tile.specs.declared.setup.Setup.{Setup}
+use Rattle.fx_tile.specs.Setups.{IsSetup}
+
+no_source : (s : SourceFrames) (o : Effects) → Source s ≡ Effect o → ⊥
+no_source s o e = cc
+
+module _ {E : Type 0} {c e : _} (meaning : E → Meaning) (number : E → ℕ) (setup : Setup E c e) (is : IsSetup meaning number setup) where
+  -- the place of a node that is reached
+  pub place_of : (node : ℕ) (frame : ℤ) → Has setup.regions.now node frame → IsPlace (length setup.scene.now.graph.nodes) node frame
+  place_of node frame reached = is.regions.are.places node frame reached
+
+  pub in_graph : (node : ℕ) (frame : ℤ) → Has setup.regions.now node frame → node < length setup.graph.now.nodes.items
+  in_graph node frame reached =
+      let low = (place_of node frame reached).there in
+      let same = ap (λ (g : GraphShown E). length g.nodes) is.graph in
+      let long = length-map setup.graph.now.nodes.items shown in
+      subst (λ (k : ℕ). node < k) (same ∙ long) low
+
+  pub effect_there : (n : EffectNode E) → StandsIn (graph_shown setup.graph.now) n
+      → scene_nodes meaning setup.scene.now n.place ≡ Effect (effect_at meaning setup.graph.now.project n)
+  effect_there n at =
+      ap (λ (g : GraphShown E). graph_nodes meaning g (images_in setup.scene.now.store) n.place) is.graph
+      ∙ effect_is meaning (graph_shown setup.graph.now) (images_in setup.scene.now.store) n at
+
+  -- no source stands where an effect does
+  pub is_no_source : (place : ℕ) (s : SourceNode) (o : Effects) → IsSourceAt (graph_shown setup.graph.now) place s
+      → scene_nodes meaning setup.scene.now place ≡ Effect o → ⊥
+  is_no_source place s o at there =
+      no_source _ o
+      (sym (ap (λ (g : GraphShown E). graph_nodes meaning g (images_in setup.scene.now.store) place) is.graph
+      ∙ source_is meaning (graph_shown setup.graph.now) (images_in setup.scene.now.store) place s at) ∙ there)
