@@ -58,9 +58,35 @@ pub fn follow<E: Catalogue>(
     ensures stands { let nodes = scene_nodes E.meaning scene.now in
         IfOk result (λ end. StandsBelow nodes regions.now (node + 1) (end_shown end)) }
 {
-    let site = site_of(scene);
     let mut asking = Asking::new(alloc)?;
-    find(alloc, &mut asking, &site, regions, node, frame, region)
+    follow_by(alloc, &mut asking, scene, regions, node, frame, region)
+}
+
+/// What `follow` answers, by arguments that are kept from one call to the next.
+pub fn follow_by<E: Catalogue>(
+    alloc: Global,
+    asking: &mut Asking,
+    scene: &Scene<E>,
+    regions: &Regions,
+    node: u32,
+    frame: i64,
+    region: Rect,
+) -> Result<End, Memory>
+    requires regions { IsMadeOf E.meaning scene.now regions.now }
+    requires reached { Has regions.now node frame }
+    ensures end { let nodes = scene_nodes E.meaning scene.now in
+        IfOk result (λ end. end_shown end ≡ end_of nodes node frame region) }
+
+    // Where it holds a place the value is its pixel there, and elsewhere in the region zero.
+    ensures shows { let nodes = scene_nodes E.meaning scene.now in
+        IfOk result (λ end. ShowsEnd nodes node frame region (end_shown end)) }
+
+    // It is at this node or one before it, and what is to be rendered there lies in the node's region of definition.
+    ensures stands { let nodes = scene_nodes E.meaning scene.now in
+        IfOk result (λ end. StandsBelow nodes regions.now (node + 1) (end_shown end)) }
+{
+    let site = site_of(scene);
+    find(alloc, asking, &site, regions, node, frame, region)
 }
 
 /// The same in the graph of a scene.

@@ -11,5 +11,5 @@ mod tiles;
 
 pub use demanding::{demand, demand_by};
 pub use ends::{End, Need};
-pub use following::follow;
+pub use following::{follow, follow_by};
 pub use regions::Regions;

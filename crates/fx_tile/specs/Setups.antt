@@ -136,7 +136,8 @@ abbrev pub MayBeTileOf : Nodes → End → Option (Arc Stored Global) → Type 0
 MayBeTileOf nodes code.Void tile = tile ≡ None
 MayBeTileOf nodes (code.Frame node frame region through) tile = tile ≡ None
 MayBeTileOf nodes (code.Render node frame region cut through) None = Unit {0}
-MayBeTileOf nodes (code.Render node frame region cut through) (Some tile) = IsTile nodes node frame region (arc_value tile)
+MayBeTileOf nodes (code.Render node frame region cut through) (Some tile) =
+    IsTile nodes node frame region (arc_value tile)
 
 -- one for each need, as far as they are there
 abbrev pub MayBeTilesOf : Nodes → List Need → List (Option (Arc Stored Global)) → Type 0

@@ -26,7 +26,7 @@ use fx_effect::{Catalogue, Inputs};
 use fx_image::{Image, Part};
 use fx_life::Life;
 use fx_pixel::{Components, Depth};
-use fx_region::{End, Need, Regions, follow};
+use fx_region::{End, Need, Regions, follow_by};
 use fx_scene::Scene;
 use std::alloc::Global;
 use std::rt::Clock;
@@ -83,14 +83,17 @@ pub fn window_tile<R: Wait + Clock, E: Catalogue + Drop>(
         life,
         shared,
     };
-    let end = follow(alloc, scene, regions, setup.graph.output, frame, tile)?;
-    tile_shown(rt, alloc, &setup, seat, frame, end, tile, out)
+    let mut asking = Asking::new(alloc)?;
+    let output = setup.graph.output;
+    let end = follow_by(alloc, &mut asking, scene, regions, output, frame, tile)?;
+    tile_shown(rt, alloc, &mut asking, &setup, seat, frame, end, tile, out)
 }
 
 // Writes a tile that is found at this end.
 fn tile_shown<R: Wait + Clock, E: Catalogue + Drop>(
     rt: &R,
     alloc: Global,
+    asking: &mut Asking,
     setup: &Setup<'_, E>,
     seat: &mut TileSeat<E>,
     frame: i64,
@@ -117,8 +120,7 @@ fn tile_shown<R: Wait + Clock, E: Catalogue + Drop>(
 {
     let mut sum = RenderCount { landed: 0, hits: 0 };
     let next = setup.graph.output + 1;
-    let mut asking = Asking::new(alloc)?;
-    let made = tile_for(rt, alloc, &mut asking, setup, seat, &mut sum, next, &end)?;
+    let made = tile_for(rt, alloc, asking, setup, seat, &mut sum, next, &end)?;
     let count = count_of(&end, sum);
     show(alloc, setup, frame, end, &made, tile, out)?;
     Ok(count)

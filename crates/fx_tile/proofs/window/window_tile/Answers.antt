@@ -27,8 +27,8 @@ has_output : (nodes : Nodes) (count output : ℕ) (regions : Regions) (t : ℤ) 
 has_output nodes count output regions t are n is =
     subst (λ (k : ℕ). Has regions k t) (sym is) (are.all output t (λ s closed. closed.start t (omega (arith, ints)) (omega (arith, ints))))
 
-pub follow-requires-clause-reached : goal.follow-requires-clause-reached
-follow-requires-clause-reached g c =
+pub follow_by-requires-clause-reached : goal.follow_by-requires-clause-reached
+follow_by-requires-clause-reached g c =
     let fits : SFits w64 c.args.frame = c.ranges.frame in
     let graph = c.args.scene.now.graph in
     subst (λ (t : ℤ). Has c.args.regions.now c.graph.result.now.output t) (sym (to_z-of_z w64 _ fits))
