@@ -9,11 +9,11 @@ use Rattle.clap.specs.Simple.{built, matches_of}
 use Rattle.clap.specs.ValueTests.{accepts}
 use Rattle.clap.specs.Walk.{Held, Row, Rule, Text, Walk, finished, has_row, nothing_held, rows_after, settled, with_default}
 use Rattle.fx_words.specs.Command.{ofxr}
-use Rattle.fx_words.specs.Line.{Setting, first, last, tile, cache, workers, id_of, Piece, word, option, words_of, words_in, value_in, AreOnce, IsLine, OptionsInAnyOrder}
+use Rattle.fx_words.specs.Line.{Setting, first, last, tile, cache, workers, id_of, Argument, word, option, words_of, words_in, value_in, AreOnce, IsLine, OptionsInAnyOrder}
 use Rattle.fx_words.specs.Order.{order_in, order_by, order_of}
 use Rattle.fx_words.specs.Ordered.{Ordered}
 use Rattle.fx_words.proofs.LineRows.{rows_from, option_row, word_row, distinct, setting_found, mode_found, graph_found}
-use Rattle.fx_words.proofs.LineWalk.{top, held, between, Ends, walk_line, parser_of, pieces_fault, or_else_nil}
+use Rattle.fx_words.proofs.LineWalk.{top, held, between, Ends, walk_line, parser_of, arguments_fault, or_else_nil}
 
 -- ---- an end with no defaults, and with both words
 
@@ -90,11 +90,11 @@ no_more : (w z d c g : Kinds) → or_else w z ≡ g → d ≡ [] → c ≡ [] �
 no_more [] z d c g is no_d no_c = rw (no_d, no_c) (or_else_nil z ∙ is)
 no_more (k ∷ ks) z d c g is no_d no_c = is
 
-line_matches : (ps : List Piece) → Ends ps [] None 0 → matches_of ofxr (words_of ps) ≡ rows_from 0 ps
+line_matches : (ps : List Argument) → Ends ps [] None 0 → matches_of ofxr (words_of ps) ≡ rows_from 0 ps
 line_matches ps e =
     matches_is (words_of ps) ∙ ap (λ (w : Walk). finished top.rules w.held) e.ends ∙ end_rows (rows_from 0 ps) (held e.rows e.pending) e.found
 
-line_faults : (ps : List Piece) → Ends ps [] None 0 → length (words_in ps) ≡ 2 → fault_of ofxr (words_of ps) ≡ pieces_fault ps
+line_faults : (ps : List Argument) → Ends ps [] None 0 → length (words_in ps) ≡ 2 → fault_of ofxr (words_of ps) ≡ arguments_fault ps
 line_faults ps e two =
     let rows : List Row = rows_from 0 ps in
     let w : Kinds = walk_fault top [] (between [] None 0) (words_of ps) in
@@ -106,10 +106,10 @@ line_faults ps e two =
     ∙ ap₂ (λ (x : Walk) (again : Bool). rest_fault w again x.held) e.ends again_is
     ∙ no_more w (settle_fault top.rules false (held e.rows e.pending))
     (defaults_fault (settled top.rules (held e.rows e.pending)).rows top.rules)
-    (check_fault top (finished top.rules (held e.rows e.pending)) false) (pieces_fault ps) e.fault
+    (check_fault top (finished top.rules (held e.rows e.pending)) false) (arguments_fault ps) e.fault
     (no_defaults_fault top.rules (settled top.rules (held e.rows e.pending)).rows none_has_defaults) checks
 
-line_order : (ps : List Piece) → IsLine ps → order_of (words_of ps) ≡ order_by (pieces_fault ps) (rows_from 0 ps)
+line_order : (ps : List Argument) → IsLine ps → order_of (words_of ps) ≡ order_by (arguments_fault ps) (rows_from 0 ps)
 line_order ps line =
     let two : 0 + length (words_in ps) ≡ 2 = omega (arith, line.two) in
     let e : Ends ps [] None 0 = walk_line ps [] None 0 (distinct 0 ps line.once two) line.plain two in
@@ -124,18 +124,18 @@ order_if false rows = None
 abbrev passes : Setting → Text → Bool
 passes s value = accepts false (parser_of s) value
 
-abbrev all_pass : List Piece → Bool
+abbrev all_pass : List Argument → Bool
 all_pass [] = true
 all_pass (word text ∷ ps) = all_pass ps
 all_pass (option s value ∷ ps) = passes s value && all_pass ps
 
-faults_or_order : (ps : List Piece) (rows : List Row) → order_by (pieces_fault ps) rows ≡ order_if (all_pass ps) rows
+faults_or_order : (ps : List Argument) (rows : List Row) → order_by (arguments_fault ps) rows ≡ order_if (all_pass ps) rows
 faults_or_order [] rows = refl
 faults_or_order (word text ∷ ps) rows = faults_or_order ps rows
 faults_or_order (option s value ∷ ps) rows = go (passes s value) refl (faults_or_order ps rows)
   where
-    go : (b : Bool) → passes s value ≡ b → order_by (pieces_fault ps) rows ≡ order_if (all_pass ps) rows
-        → order_by (pieces_fault (option s value ∷ ps)) rows ≡ order_if (all_pass (option s value ∷ ps)) rows
+    go : (b : Bool) → passes s value ≡ b → order_by (arguments_fault ps) rows ≡ order_if (all_pass ps) rows
+        → order_by (arguments_fault (option s value ∷ ps)) rows ≡ order_if (all_pass (option s value ∷ ps)) rows
     go true e rest = rw e rest
     go false e rest = rw e refl
 
@@ -162,7 +162,7 @@ swap_5 : (a b c d e : Bool) → (a && (b && (c && (d && (e && true))))) ≡ (b &
 swap_5 a b c d e = swap_4 a b c d (e && true) ∙ ap (λ (x : Bool). b && (c && (d && x))) (swap a e true)
 
 -- each value of a line is that of its setting
-all_is : (ps : List Piece) → AreOnce ps → all_pass ps ≡ each_passes (λ s. value_in s ps)
+all_is : (ps : List Argument) → AreOnce ps → all_pass ps ≡ each_passes (λ s. value_in s ps)
 all_is [] once = refl
 all_is (word text ∷ ps) once = all_is ps once
 all_is (option first value ∷ ps) once = rw (all_is ps once.1, once.0) refl
@@ -197,7 +197,7 @@ if_same false false rows others same is = refl
 if_same true false rows others same is = cc
 if_same false true rows others same is = cc
 
-line_is : (ps : List Piece) → IsLine ps → order_of (words_of ps) ≡ order_if (all_pass ps) (rows_from 0 ps)
+line_is : (ps : List Argument) → IsLine ps → order_of (words_of ps) ≡ order_if (all_pass ps) (rows_from 0 ps)
 line_is ps line = line_order ps line ∙ faults_or_order ps (rows_from 0 ps)
 
 pub any_order : OptionsInAnyOrder

@@ -1,4 +1,4 @@
--- The rows that clap keeps of a line: one for each piece, with no name twice.
+-- The rows that clap keeps of a line: one for each argument, with no name twice.
 use Rattle.std.proofs.Common.{◌≡◌, ◌∙◌, refl, sym, ap, ℕ, zero, suc, ◌+◌, arith, Bool, true, false, ◌||◌}
 use Rattle.std.proofs.Common.{List, [], ◌∷◌, ◌++◌, length, Some, None, option_map, slice_get, codes, find}
 use Rattle.std.specs.Str.{bytes_eq}
@@ -7,7 +7,7 @@ use Rattle.clap.specs.Walk.{Row, Text, has_row, without, with_values}
 use Rattle.clap.specs.declared.builder.value_parser.Reading.{Reading}
 use Rattle.clap.specs.declared.builder.value_parser.Reading.TheVariants as reading
 use Rattle.clap.specs.declared.parser.matches.ValueSource.TheVariants.{CommandLine}
-use Rattle.fx_words.specs.Line.{Setting, first, last, tile, cache, workers, id_of, Piece, word, option, words_in, value_in, AreOnce}
+use Rattle.fx_words.specs.Line.{Setting, first, last, tile, cache, workers, id_of, Argument, word, option, words_in, value_in, AreOnce}
 
 -- a row of one value from the words
 abbrev pub row : Reading → Text → Text → Row
@@ -24,8 +24,8 @@ word_row k = row reading.AsWritten (place_of k)
 abbrev pub option_row : Setting → Text → Row
 option_row s = row reading.WithoutMinus (id_of s)
 
--- the rows of the pieces after k words
-abbrev pub rows_from : ℕ → List Piece → List Row
+-- the rows of the arguments after k words
+abbrev pub rows_from : ℕ → List Argument → List Row
 rows_from k [] = []
 rows_from k (word text ∷ ps) = word_row k text ∷ rows_from (suc k) ps
 rows_from k (option s value ∷ ps) = option_row s value ∷ rows_from k ps
@@ -97,7 +97,7 @@ other_setting : (k : ℕ) (s : Setting) → bytes_eq (id_of s) (place_of k) ≡ 
 other_setting k s = apart (place_of k) (id_of s) (other_place k s)
 
 -- the row of a setting has its value
-pub setting_found : (s : Setting) (k : ℕ) (ps : List Piece)
+pub setting_found : (s : Setting) (k : ℕ) (ps : List Argument)
     → find (λ r. bytes_eq r.id (id_of s)) (rows_from k ps) ≡ option_map (option_row s) (value_in s ps)
 setting_found s k [] = refl
 setting_found s k (word text ∷ ps) = rw (other_place k s) (setting_found s (suc k) ps)
@@ -120,20 +120,20 @@ none_found id (r ∷ rs) none = go (bytes_eq r.id id) refl (none_found id rs)
     go false e rest = rw e (rest (rw e at none))
     go true e rest = let bad = rw e at none in cc
 
-no_setting : (s : Setting) (k : ℕ) (ps : List Piece) → value_in s ps ≡ None → has_row (id_of s) (rows_from k ps) ≡ false
+no_setting : (s : Setting) (k : ℕ) (ps : List Argument) → value_in s ps ≡ None → has_row (id_of s) (rows_from k ps) ≡ false
 no_setting s k ps none = none_found (id_of s) (rows_from k ps) (setting_found s k ps ∙ ap (option_map (option_row s)) none)
 
-no_mode : (k : ℕ) (ps : List Piece) → has_row (codes "mode") (rows_from (suc k) ps) ≡ false
+no_mode : (k : ℕ) (ps : List Argument) → has_row (codes "mode") (rows_from (suc k) ps) ≡ false
 no_mode k [] = refl
 no_mode k (word text ∷ ps) = no_mode (suc k) ps
 no_mode k (option s value ∷ ps) = rw (other_setting zero s) (no_mode k ps)
 
-no_graph : (k : ℕ) (ps : List Piece) → length (words_in ps) ≡ 0 → has_row (codes "graph") (rows_from k ps) ≡ false
+no_graph : (k : ℕ) (ps : List Argument) → length (words_in ps) ≡ 0 → has_row (codes "graph") (rows_from k ps) ≡ false
 no_graph k [] none = refl
 no_graph k (word text ∷ ps) none = absurd (omega arith)
 no_graph k (option s value ∷ ps) none = rw (other_setting (suc zero) s) (no_graph k ps none)
 
-pub distinct : (k : ℕ) (ps : List Piece) → AreOnce ps → k + length (words_in ps) ≡ 2 → AreDistinct (rows_from k ps)
+pub distinct : (k : ℕ) (ps : List Argument) → AreOnce ps → k + length (words_in ps) ≡ 2 → AreDistinct (rows_from k ps)
 distinct k [] once two = tt
 distinct k (option s value ∷ ps) once two = (no_setting s k ps once.0, distinct k ps once.1 two)
 distinct zero (word text ∷ ps) once two = (no_mode zero ps, distinct (suc zero) ps once (omega arith))
@@ -141,7 +141,7 @@ distinct (suc zero) (word text ∷ ps) once two = (no_graph 2 ps (omega arith), 
 distinct (suc (suc k)) (word text ∷ ps) once two = absurd (omega arith)
 
 -- the row of the next positional has the first word
-first_found : (k : ℕ) (ps : List Piece)
+first_found : (k : ℕ) (ps : List Argument)
     → find (λ r. bytes_eq r.id (place_of k)) (rows_from k ps) ≡ option_map (word_row k) (slice_get (words_in ps) 0)
 first_found zero [] = refl
 first_found (suc k) [] = refl
@@ -149,11 +149,11 @@ first_found zero (word text ∷ ps) = refl
 first_found (suc k) (word text ∷ ps) = refl
 first_found k (option s value ∷ ps) = rw (other_setting k s) (first_found k ps)
 
-pub mode_found : (ps : List Piece)
+pub mode_found : (ps : List Argument)
     → find (λ r. bytes_eq r.id (codes "mode")) (rows_from 0 ps) ≡ option_map (word_row 0) (slice_get (words_in ps) 0)
 mode_found = first_found zero
 
-pub graph_found : (ps : List Piece)
+pub graph_found : (ps : List Argument)
     → find (λ r. bytes_eq r.id (codes "graph")) (rows_from 0 ps) ≡ option_map (word_row 1) (slice_get (words_in ps) 1)
 graph_found [] = refl
 graph_found (word text ∷ ps) = first_found (suc zero) ps

@@ -1,4 +1,4 @@
--- clap's walk over a line: what it holds after each piece, and the faults that it finds.
+-- clap's walk over a line: what it holds after each argument, and the faults that it finds.
 use Rattle.std.proofs.Common.{◌≡◌, ◌∙◌, refl, sym, ap, ap₂, subst, ℕ, zero, suc, ◌+◌, arith, Bool, true, false, ◌==◌, ◌&&◌, not}
 use Rattle.std.proofs.Common.{List, [], ◌∷◌, ◌++◌, length, All, append_assoc, append-nil, Option, Some, None, fold, codes, pos}
 use Rattle.std.proofs.lemmas.List.Elements.{All-head, All-tail}
@@ -13,7 +13,7 @@ use Rattle.clap.specs.declared.builder.value_parser.Reading.TheVariants as readi
 use Rattle.clap.specs.declared.builder.value_parser.ValueParser.{ValueParser}
 use Rattle.clap.specs.declared.builder.value_parser.ValueParser.TheVariants as vp
 use Rattle.fx_words.specs.Command.{ofxr, word_rule}
-use Rattle.fx_words.specs.Line.{Setting, first, last, tile, cache, workers, id_of, Piece, word, option, words_of, words_in, is_plain, IsPlain}
+use Rattle.fx_words.specs.Line.{Setting, first, last, tile, cache, workers, id_of, Argument, word, option, words_of, words_in, is_plain, IsPlain}
 use Rattle.fx_words.proofs.LineRows.{word_row, option_row, place_of, rows_from, added, AreDistinct, is_new}
 
 -- the command as clap builds it
@@ -26,7 +26,7 @@ Pending = Option (Text × List Text)
 abbrev pub held : List Row → Pending → Held
 held rows pending = record { rows = rows; pending = pending; skip = 0 }
 
--- the walk before a piece, after k words
+-- the walk before an argument, after k words
 abbrev pub between : List Row → Pending → ℕ → Walk
 between rows pending k = record { held = held rows pending; waiting = idle; position = k + 1; is_trailing = false; stopped = None }
 
@@ -138,13 +138,13 @@ graph_fault text rows pending plain =
 
 -- ---- what is pending is used
 
-abbrev pub piece_fault : Piece → Kinds
-piece_fault (word text) = []
-piece_fault (option s value) = values_kinds false (parser_of s) (value ∷ [])
+abbrev pub argument_fault : Argument → Kinds
+argument_fault (word text) = []
+argument_fault (option s value) = values_kinds false (parser_of s) (value ∷ [])
 
-abbrev pub pieces_fault : List Piece → Kinds
-pieces_fault [] = []
-pieces_fault (p ∷ ps) = or_else (piece_fault p) (pieces_fault ps)
+abbrev pub arguments_fault : List Argument → Kinds
+arguments_fault [] = []
+arguments_fault (p ∷ ps) = or_else (argument_fault p) (arguments_fault ps)
 
 option_settled : (s : Setting) (value : Text) (rows : List Row) → has_row (id_of s) rows ≡ false
     → settled_rows top.rules (Some (id_of s, value ∷ [])) rows ≡ rows ++ option_row s value ∷ []
@@ -162,7 +162,7 @@ word_settled zero text rows none = added reading.AsWritten (codes "mode") text r
 word_settled (suc k) text rows none = added reading.AsWritten (codes "graph") text rows none
 
 option_settles : (s : Setting) (value : Text) (rows : List Row) → has_row (id_of s) rows ≡ false
-    → settle_fault top.rules false (held rows (Some (id_of s, value ∷ []))) ≡ piece_fault (option s value)
+    → settle_fault top.rules false (held rows (Some (id_of s, value ∷ []))) ≡ argument_fault (option s value)
 unfolding top
 option_settles first value rows none = rw none refl
 option_settles last value rows none = rw none refl
@@ -178,14 +178,14 @@ word_settles (suc k) text rows none = rw none refl
 
 -- ---- the walk
 
-pub record Ends (ps : List Piece) (before : List Row) (waits : Pending) (k : ℕ) : Type 0 where
+pub record Ends (ps : List Argument) (before : List Row) (waits : Pending) (k : ℕ) : Type 0 where
   pub rows : List Row
   pub pending : Pending
   pub place : ℕ
   pub ends : fold (walked top.rules []) (between before waits k) (words_of ps) ≡ between rows pending place
   pub found : settled_rows top.rules pending rows ≡ settled_rows top.rules waits before ++ rows_from k ps
   pub fault : or_else (walk_fault top [] (between before waits k) (words_of ps)) (settle_fault top.rules false (held rows pending))
-      ≡ or_else (settle_fault top.rules false (held before waits)) (pieces_fault ps)
+      ≡ or_else (settle_fault top.rules false (held before waits)) (arguments_fault ps)
 
 pub or_else_nil : (ks : Kinds) → or_else ks [] ≡ ks
 or_else_nil [] = refl
@@ -205,7 +205,7 @@ next_found before r rest settled all is all_is = all_is ∙ ap (λ (x : List Row
 next_distinct : (before : List Row) (r : Row) (rest settled : List Row) → settled ≡ before ++ r ∷ [] → AreDistinct (before ++ r ∷ rest) → AreDistinct (settled ++ rest)
 next_distinct before r rest settled is distinct = subst AreDistinct (sym (next_found before r rest settled (settled ++ rest) is refl)) distinct
 
-after_option : (s : Setting) (value : Text) (ps : List Piece) (before : List Row) (waits : Pending) (k : ℕ)
+after_option : (s : Setting) (value : Text) (ps : List Argument) (before : List Row) (waits : Pending) (k : ℕ)
     → is_plain value ≡ true → has_row (id_of s) (settled_rows top.rules waits before) ≡ false
     → Ends ps (settled_rows top.rules waits before) (Some (id_of s, value ∷ [])) k → Ends (option s value ∷ ps) before waits k
 unfolding walk_fault
@@ -227,11 +227,11 @@ after_option s value ps before waits k plain none e =
           (name_fault s before waits k) (name_step s before waits k)
           ∙ ap₂ (λ (t : Kinds) (w : Walk). or_else (or_else (or_else waiting []) (or_else t (rest w))) last_fault)
           (value_fault s value settled k plain) (value_step s value settled k plain)
-          ∙ option_faults waiting (rest (between settled (Some (id_of s, value ∷ [])) k)) last_fault (pieces_fault (option s value ∷ ps))
-          (e.fault ∙ ap (λ (x : Kinds). or_else x (pieces_fault ps)) (option_settles s value settled none));
+          ∙ option_faults waiting (rest (between settled (Some (id_of s, value ∷ [])) k)) last_fault (arguments_fault (option s value ∷ ps))
+          (e.fault ∙ ap (λ (x : Kinds). or_else x (arguments_fault ps)) (option_settles s value settled none));
     }
 
-after_word : (k : ℕ) (text : Text) (ps : List Piece) (before : List Row) (waits : Pending)
+after_word : (k : ℕ) (text : Text) (ps : List Argument) (before : List Row) (waits : Pending)
     → walked top.rules [] (between before waits k) text ≡ between (settled_rows top.rules waits before) (Some (place_of k, text ∷ [])) (suc k)
     → turn_fault top [] (between before waits k) text ≡ settle_fault top.rules false (held before waits)
     → has_row (place_of k) (settled_rows top.rules waits before) ≡ false
@@ -250,11 +250,11 @@ after_word k text ps before waits step faults none e =
       found = next_found settled (word_row k text) (rows_from (suc k) ps) (settled_rows top.rules (Some (place_of k, text ∷ [])) settled)
           (settled_rows top.rules e.pending e.rows) (word_settled k text settled none) e.found;
       fault = ap₂ (λ (t : Kinds) (w : Walk). or_else (or_else t (rest w)) last_fault) faults step
-          ∙ or_else_assoc waiting (rest (between settled (Some (place_of k, text ∷ [])) (suc k))) last_fault (pieces_fault (word text ∷ ps))
-          (e.fault ∙ ap (λ (x : Kinds). or_else x (pieces_fault ps)) (word_settles k text settled none));
+          ∙ or_else_assoc waiting (rest (between settled (Some (place_of k, text ∷ [])) (suc k))) last_fault (arguments_fault (word text ∷ ps))
+          (e.fault ∙ ap (λ (x : Kinds). or_else x (arguments_fault ps)) (word_settles k text settled none));
     }
 
-pub walk_line : (ps : List Piece) (before : List Row) (waits : Pending) (k : ℕ)
+pub walk_line : (ps : List Argument) (before : List Row) (waits : Pending) (k : ℕ)
     → AreDistinct (settled_rows top.rules waits before ++ rows_from k ps) → All IsPlain ps → k + length (words_in ps) ≡ 2
     → Ends ps before waits k
 unfolding walk_fault
