@@ -19,7 +19,7 @@ use Rattle.fx_pam.specs.Reading.{IsPam}
 use Rattle.fx_pam.specs.Laws.{CanBeRead, IsPixelFor}
 use Rattle.fx_pam.proofs.ReadBack.{written_reads_back}
 use Rattle.fx_pixel.specs.Pixel.{IsOfDepth}
-use Rattle.fx_bench.specs.Draws.{state, draw}
+use Rattle.fx_bench.specs.Generator.{state, draw}
 use Rattle.fx_bench.specs.Frames.{frame_samples, samples, header, frame_text}
 use Rattle.fx_bench.proofs.DrawLemmas.{samples_none, samples_more}
 use Rattle.fx_app.specs.Made.{made_pixel, made_image}

@@ -9,7 +9,7 @@ use Rattle.fx_pixel.specs.declared.Pixel.TheVariants.{Rgba}
 use Rattle.fx_image.specs.Image.{Image}
 use Rattle.fx_pam.specs.Text.{pam_text}
 use Rattle.fx_pam.specs.Reading.{IsPam}
-use Rattle.fx_bench.specs.Draws.{state, draw}
+use Rattle.fx_bench.specs.Generator.{state, draw}
 use Rattle.fx_bench.specs.Frames.{frame_samples, frame_text}
 use Rattle.fx_app.specs.declared.graph.TheConstants.{GRAPH_SIDE}
 

@@ -6,7 +6,7 @@ use Rattle.std.specs.declared.alloc.Global.{Global}
 use Rattle.std.specs.declared.vec.Vec.{Vec}
 use Rattle.std.proofs.lemmas.List.{append_assoc, map-append}
 use Rattle.std.proofs.lemmas.List.FromFn.{map-range_with_len_more}
-use Rattle.fx_bench.specs.Draws.{next_state, state, draw}
+use Rattle.fx_bench.specs.Generator.{next_state, state, draw}
 use Rattle.fx_bench.specs.Frames.{frame_samples, samples, header, frame_name, frame_file, file_of, AreFrames}
 use Rattle.fx_bench.specs.Graphs.{node_text, nodes_text}
 

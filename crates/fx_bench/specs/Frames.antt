@@ -3,7 +3,7 @@ use Rattle.std.specs.Prelude.{◌≡◌, ℕ, ◌*◌, ◌%◌, List, ◌++◌, 
 use Rattle.std.specs.List.{range_with_len}
 use Rattle.std.specs.declared.alloc.Global.{Global}
 use Rattle.std.specs.declared.vec.Vec.{Vec}
-use Rattle.fx_bench.specs.Draws.{state, draw}
+use Rattle.fx_bench.specs.Generator.{state, draw}
 
 -- how many samples a frame has: 320 by 240 pixels of four
 abbrev pub frame_samples : ℕ

@@ -1,7 +1,7 @@
 -- The text of the graph that is made of a number: a source, nine effects one behind the other, and a merge of the
 -- last with the source.
 use Rattle.std.specs.Prelude.{ℕ, zero, suc, ◌+◌, ◌-◌, ◌*◌, ◌/◌, ◌%◌, ◌==◌, ◌++◌, nat_lt, List, [], codes, decimal, if◌then◌else◌}
-use Rattle.fx_bench.specs.Draws.{draw}
+use Rattle.fx_bench.specs.Generator.{draw}
 
 -- a text in quotes
 abbrev pub quoted : List ℕ → List ℕ

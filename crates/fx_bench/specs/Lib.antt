@@ -1,3 +1,3 @@
-pub mod Draws
+pub mod Generator
 pub mod Graphs
 pub mod Frames

@@ -1,9 +1,9 @@
 //! The source frames.
 ghost use Rattle.std.specs.Prelude.{◌≡◌, ◌++◌, IfOk, OnOk};
-ghost use Rattle.fx_bench.specs.Draws.{state};
+ghost use Rattle.fx_bench.specs.Generator.{state};
 ghost use Rattle.fx_bench.specs.Frames.{frame_samples, samples, header, frame_name, AreFrames};
 
-use crate::draws::Draws;
+use crate::generator::Generator;
 use fx_base::{Memory, Name};
 use std::alloc::Global;
 
@@ -15,7 +15,7 @@ const FRAMES: u32 = 4;
 const HEADER: &str = "P7\nWIDTH 320\nHEIGHT 240\nDEPTH 4\nMAXVAL 255\nTUPLTYPE RGB_ALPHA\nENDHDR\n";
 
 // Appends as many samples, one of each draw.
-fn add_samples(draws: &mut Draws, count: u32, bytes: &mut Vec<u8>) -> Result<(), Memory>
+fn add_samples(draws: &mut Generator, count: u32, bytes: &mut Vec<u8>) -> Result<(), Memory>
     ensures state { OnOk result (draws.new.state ≡ state draws.old.state count) }
     ensures bytes { OnOk result (bytes.new.items ≡ bytes.old.items ++ samples draws.old.state count) }
 {
@@ -26,7 +26,7 @@ fn add_samples(draws: &mut Draws, count: u32, bytes: &mut Vec<u8>) -> Result<(),
 }
 
 // A frame's file, over the next draws.
-fn frame(alloc: Global, draws: &mut Draws) -> Result<Vec<u8>, Memory>
+fn frame(alloc: Global, draws: &mut Generator) -> Result<Vec<u8>, Memory>
     ensures state { OnOk result (draws.new.state ≡ state draws.old.state frame_samples) }
     ensures bytes { IfOk result (λ bytes. bytes.items ≡ header ++ samples draws.old.state frame_samples) }
 {
@@ -42,7 +42,7 @@ fn named(alloc: Global, frame: u32) -> Result<Name, Memory>
 }
 
 /// The files of all frames, over the next draws.
-pub(crate) fn frames(alloc: Global, draws: &mut Draws) -> Result<Vec<(Name, Vec<u8>)>, Memory>
+pub(crate) fn frames(alloc: Global, draws: &mut Generator) -> Result<Vec<(Name, Vec<u8>)>, Memory>
     ensures { IfOk result (λ files. AreFrames draws.old.state 4 files.items) }
 {
     let mut files = Vec::new(alloc);

@@ -1,9 +1,9 @@
 //! The graph: a source, nine effects one behind the other, and a merge of the last with the source.
 ghost use Rattle.std.specs.Prelude.{◌≡◌, ◌≤◌, ◌+◌, ◌-◌, ◌/◌, ◌++◌, IfOk, OnOk, string_bytes};
-ghost use Rattle.fx_bench.specs.Draws.{next_state, state};
+ghost use Rattle.fx_bench.specs.Generator.{next_state, state};
 ghost use Rattle.fx_bench.specs.Graphs as made;
 
-use crate::draws::Draws;
+use crate::generator::Generator;
 use fx_base::Memory;
 use std::alloc::Global;
 
@@ -143,7 +143,12 @@ fn node_text(alloc: Global, node: u32, p: u32, q: u32) -> Result<String, Memory>
 }
 
 // Appends node `node`, which takes the next two draws.
-fn add_node(alloc: Global, node: u32, draws: &mut Draws, text: &mut String) -> Result<(), Memory>
+fn add_node(
+    alloc: Global,
+    node: u32,
+    draws: &mut Generator,
+    text: &mut String,
+) -> Result<(), Memory>
     requires { 1 ≤ node }
     ensures state { draws.new.state ≡ next_state (next_state draws.old.state) }
     ensures text { let p = next_state draws.old.state / 65536 in
@@ -158,7 +163,7 @@ fn add_node(alloc: Global, node: u32, draws: &mut Draws, text: &mut String) -> R
 }
 
 // The nodes behind the source, over nine pairs of draws.
-fn nodes_text(alloc: Global, draws: &mut Draws) -> Result<String, Memory>
+fn nodes_text(alloc: Global, draws: &mut Generator) -> Result<String, Memory>
     ensures state { OnOk result (draws.new.state ≡ state draws.old.state 18) }
     ensures text { IfOk result (λ text. string_bytes text ≡ made.nodes_text draws.old.state 9) }
 {
@@ -179,7 +184,7 @@ fn graph_with(alloc: Global, nodes: &str, operation: &str) -> Result<String, Mem
 }
 
 /// The graph's text, over the first nineteen draws.
-pub(crate) fn graph_text(alloc: Global, draws: &mut Draws) -> Result<Vec<u8>, Memory>
+pub(crate) fn graph_text(alloc: Global, draws: &mut Generator) -> Result<Vec<u8>, Memory>
     ensures state { OnOk result (draws.new.state ≡ state draws.old.state 19) }
     ensures text { IfOk result (λ text. text.items ≡ made.graph_text draws.old.state) }
 {

@@ -2,8 +2,8 @@
 //! ones at each call.
 #![tactic(auto)]
 
-mod draws;
 mod frames;
+mod generator;
 mod graph;
 mod making;
 

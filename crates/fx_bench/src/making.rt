@@ -3,8 +3,8 @@ ghost use Rattle.std.specs.Prelude.{◌≡◌, ◌≤◌, IfOk};
 ghost use Rattle.fx_bench.specs.Graphs.{graph_text};
 ghost use Rattle.fx_bench.specs.Frames.{AreFrames, behind_graph};
 
-use crate::draws::Draws;
 use crate::frames::frames;
+use crate::generator::Generator;
 use crate::graph::graph_text;
 use fx_base::{Memory, Name};
 use std::alloc::Global;
@@ -24,7 +24,7 @@ pub fn make(alloc: Global, number: u32) -> Result<Bench, Memory>
     ensures graph { IfOk result (λ bench. bench.graph.items ≡ graph_text number) }
     ensures frames { IfOk result (λ bench. AreFrames (behind_graph number) 4 bench.frames.items) }
 {
-    let mut draws = Draws::of(number);
+    let mut draws = Generator::of(number);
     let graph = graph_text(alloc, &mut draws)?;
     let frames = frames(alloc, &mut draws)?;
     Ok(Bench { graph, frames })

@@ -1,6 +1,6 @@
 use Rattle.std.proofs.Common.{sym, ap, ◌∙◌, ◌/◌, ◌++◌, ℕ, List}
 use Rattle.std.proofs.lemmas.List.{append-nil}
-use Rattle.fx_bench.specs.Draws.{next_state}
+use Rattle.fx_bench.specs.Generator.{next_state}
 use Rattle.fx_bench.proofs.DrawLemmas.{state_none, state_next, samples_none, sample_added}
 use Rattle.fx_bench.proofs.frames.add_samples.Goals as goal
 

@@ -1,5 +1,5 @@
 use Rattle.std.proofs.Common.{◌≡◌, ◌++◌}
-use Rattle.fx_bench.specs.Draws.{state}
+use Rattle.fx_bench.specs.Generator.{state}
 use Rattle.fx_bench.specs.Frames.{samples}
 use Rattle.fx_bench.proofs.frames.add_samples.Given as goal
 

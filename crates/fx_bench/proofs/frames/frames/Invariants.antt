@@ -1,5 +1,5 @@
 use Rattle.std.proofs.Common.{◌≡◌, ◌*◌}
-use Rattle.fx_bench.specs.Draws.{state}
+use Rattle.fx_bench.specs.Generator.{state}
 use Rattle.fx_bench.specs.Frames.{frame_samples, AreFrames}
 use Rattle.fx_bench.proofs.frames.frames.Given as goal
 

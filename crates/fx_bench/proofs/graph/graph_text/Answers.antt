@@ -1,5 +1,5 @@
 use Rattle.std.proofs.Common.{sym, ap, ◌∙◌, ◌/◌, ◌%◌, ℕ, List}
-use Rattle.fx_bench.specs.Draws.{next_state}
+use Rattle.fx_bench.specs.Generator.{next_state}
 use Rattle.fx_bench.specs.Graphs.{graph_with, nodes_text, operation}
 use Rattle.fx_bench.proofs.DrawLemmas.{state_next}
 use Rattle.fx_bench.proofs.graph.graph_text.Goals as goal

@@ -1,5 +1,5 @@
 use Rattle.std.proofs.Common.{sym, ap, ◌∙◌, ℕ, string_bytes}
-use Rattle.fx_bench.specs.Draws.{next_state}
+use Rattle.fx_bench.specs.Generator.{next_state}
 use Rattle.fx_bench.proofs.DrawLemmas.{state_none, state_pair, nodes_none, node_added}
 use Rattle.fx_bench.proofs.graph.nodes_text.Goals as goal
 

@@ -1,5 +1,5 @@
 use Rattle.std.proofs.Common.{◌≡◌, ◌*◌, string_bytes}
-use Rattle.fx_bench.specs.Draws.{state}
+use Rattle.fx_bench.specs.Generator.{state}
 use Rattle.fx_bench.specs.Graphs as made
 use Rattle.fx_bench.proofs.graph.nodes_text.Given as goal
 

@@ -1,19 +1,19 @@
 //! Numbers drawn from a number.
 ghost use Rattle.std.specs.Prelude.{◌≡◌, ◌<◌, ◌/◌};
-ghost use Rattle.fx_bench.specs.Draws.{next_state};
+ghost use Rattle.fx_bench.specs.Generator.{next_state};
 
 /// A linear congruential generator of 32 bits.
 #[derive(Drop)]
-pub(crate) struct Draws {
+pub(crate) struct Generator {
     state: u32,
 }
 
-impl Draws {
+impl Generator {
     /// The generator that begins with a number.
-    pub(crate) fn of(number: u32) -> Draws
+    pub(crate) fn of(number: u32) -> Generator
         ensures { result.state ≡ number }
     {
-        Draws { state: number }
+        Generator { state: number }
     }
 
     /// The next number, from 0 to 65,535.
