@@ -41,6 +41,26 @@ fn pixels_are_put_and_read(rt: HostRuntime) -> Result<(), Fail> {
 }
 
 #[test]
+fn an_image_is_made_of_its_rows(rt: HostRuntime) -> Result<(), Fail> {
+    let alloc = rt.alloc();
+    let rows = [1u8, 2, 3, 4, 5, 6].to_vec(alloc)?;
+    let rect = Rect::of(-1, 2, 1, 5);
+    let image = Image::of_rows(alloc, rect, Depth::Byte, Components::Alpha, rows)?;
+    same(&rt, (image.rect(), image.row_bytes()), (rect, 2));
+    for (x, y, a) in [
+        (-1, 2, 1),
+        (0, 2, 2),
+        (-1, 3, 3),
+        (0, 4, 6),
+        (1, 2, 0),
+        (0, 5, 0),
+    ] {
+        same(&rt, image.at(x, y), Pixel::Alpha { a });
+    }
+    Ok(())
+}
+
+#[test]
 fn views_are_read_by_rows(rt: HostRuntime) -> Result<(), Fail> {
     let rect = Rect::of(0, 0, 2, 1);
     let mut image = Image::new(rt.alloc(), rect, Depth::Short, Components::Rgba, 16)?;

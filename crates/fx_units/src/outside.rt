@@ -154,6 +154,15 @@ fn real_files_are_written_and_read(rt: HostRuntime) -> Result<(), Fail> {
     Ok(())
 }
 
+// A file of the system's own says that it has no bytes, and gives some.
+#[test]
+fn a_file_is_read_whole_whatever_length_it_says(rt: HostRuntime) -> Result<(), Fail> {
+    let alloc = rt.alloc();
+    let read = FileLibrary::new(&rt, alloc).fetch(alloc, "/proc/version")?;
+    same(&rt, read.starts_with(b"Linux version"), true);
+    Ok(())
+}
+
 #[test]
 fn a_file_is_read_up_to_the_longest(rt: HostRuntime) -> Result<(), Fail> {
     let alloc = rt.alloc();

@@ -1,7 +1,7 @@
 //! Rows worked by hand: values between keys, refusals, and each call once with ample memory.
-ghost use Rattle.std.specs.Prelude.{◌≤ℤ◌, IfOk};
+ghost use Rattle.std.specs.Prelude.{◌<◌, ◌≤ℤ◌, pos, IfOk};
 
-use crate::same::same;
+use crate::same::{same, same_at};
 use fx_base::{Fix, Name, Names};
 use fx_params::{Param, ParamDef, ParamFault, ParamKind, ParamValue};
 use std::alloc::{AllocError, Global};
@@ -11,6 +11,7 @@ use std::test::Fail;
 fn small(alloc: Global, kind: ParamKind) -> Result<ParamDef, AllocError>
     ensures low { IfOk result (λ def. def.least ≤ℤ def.start) }
     ensures high { IfOk result (λ def. def.start ≤ℤ def.greatest) }
+    ensures top { IfOk result (λ def. pos 0 ≤ℤ def.greatest) }
 {
     Ok(ParamDef {
         name: Name::of(String::from_str(alloc, "amount")?),
@@ -20,6 +21,67 @@ fn small(alloc: Global, kind: ParamKind) -> Result<ParamDef, AllocError>
         choices: Names::of(Vec::new(alloc)),
         start: 7,
     })
+}
+
+// A size from 1 to 20 that starts with 3.
+fn size(alloc: Global) -> Result<ParamDef, AllocError>
+    ensures low { IfOk result (λ def. def.least ≤ℤ def.start) }
+    ensures high { IfOk result (λ def. def.start ≤ℤ def.greatest) }
+    ensures top { IfOk result (λ def. pos 0 ≤ℤ def.greatest) }
+{
+    Ok(ParamDef {
+        name: Name::of(String::from_str(alloc, "size")?),
+        kind: ParamKind::Int,
+        least: 1,
+        greatest: 20,
+        choices: Names::of(Vec::new(alloc)),
+        start: 3,
+    })
+}
+
+// What a value becomes, without keys and at a key.
+fn divided(alloc: Global, def: ParamDef, value: i64, by: u32) -> Result<(i64, i64), Fail>
+    requires low { def.least ≤ℤ def.start }
+    requires high { def.start ≤ℤ def.greatest }
+    requires top { pos 0 ≤ℤ def.greatest }
+    requires some { 0 < by }
+{
+    let mut param = Param::new(alloc, def)?;
+    param.set_value(ParamValue::Int(value))?;
+    param.set_key(alloc, 3, ParamValue::Int(value))?;
+    param.divide(by);
+    Ok((param.plain(), param.value_at(3)))
+}
+
+#[test]
+fn divides_to_the_nearest_and_halves_up(rt: HostRuntime) -> Result<(), Fail> {
+    let alloc = rt.alloc();
+    for (value, by, wanted) in [
+        (7, 2, 4),
+        (1, 2, 1),
+        (5, 1, 5),
+        (20, 8, 3),
+        (11, 8, 1),
+        (-1, 2, 0),
+        (-3, 2, -1),
+        (-5, 4, -1),
+        (-7, 4, -2),
+        (-20, 8, -2),
+    ] {
+        let had = divided(alloc, small(alloc, ParamKind::Int)?, value, by)?;
+        same_at(&rt, &value, had, (wanted, wanted));
+    }
+    Ok(())
+}
+
+#[test]
+fn divides_to_the_least_at_least(rt: HostRuntime) -> Result<(), Fail> {
+    let alloc = rt.alloc();
+    for (value, by, wanted) in [(3, 8, 1), (1, 2, 1), (1, 4, 1), (6, 4, 2)] {
+        let had = divided(alloc, size(alloc)?, value, by)?;
+        same_at(&rt, &value, had, (wanted, wanted));
+    }
+    Ok(())
 }
 
 #[test]

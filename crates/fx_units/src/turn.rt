@@ -4,12 +4,14 @@ ghost use Rattle.fx_turn.specs.Tallies.{zeros};
 ghost use Rattle.fx_turn.specs.Seats.{all_parts};
 
 use crate::same::same;
-use fx_turn::{Fits, Memory, Seat, Turns};
+use fx_turn::{Fits, Memory, Pause, Seat, Turns};
 use std::alloc::Global;
 use std::rt::Clock;
 use std::sync::Wait;
+use std::sync::atomic::{AtomicU64, Ordering};
 use std::test::Fail;
-use std::thread;
+use std::time::Duration;
+use std::{io, thread};
 
 // A plain number, which any name fits.
 #[derive(Debug, Drop, PartialEq)]
@@ -201,5 +203,49 @@ fn eight_threads_take_turns(rt: HostRuntime) -> Result<(), Fail> {
     let values = turns.close(alloc, first).map_err(|e| e.2)?;
     same(&rt, values.len(), 1);
     same(&rt, values[0].times, 8000);
+    Ok(())
+}
+
+// A clock that stands still: it counts the sleeps and keeps how long the last was to be, in microseconds.
+#[derive(Drop)]
+struct Sleeps {
+    count: AtomicU64,
+    last: AtomicU64,
+}
+
+impl Clock for Sleeps {
+    fn monotonic(&self) -> io::Result<Duration> {
+        Ok(Duration::from_secs(0))
+    }
+
+    fn since_1970(&self) -> io::Result<Duration> {
+        Ok(Duration::from_secs(0))
+    }
+
+    fn sleep(&self, duration: Duration) {
+        self.count.fetch_add(1, Ordering::SeqCst);
+        self.last
+            .store(duration.as_micros() as u64, Ordering::SeqCst);
+    }
+}
+
+// No clause sees how long a thread waits.
+#[test]
+fn who_waits_yields_and_then_sleeps(rt: HostRuntime) -> Result<(), Fail> {
+    let clock = Sleeps {
+        count: AtomicU64::new(0),
+        last: AtomicU64::new(0),
+    };
+    let mut pause = Pause::new();
+    for _ in 0..32 {
+        pause.wait(&clock);
+    }
+    same(&rt, clock.count.load(Ordering::SeqCst), 0);
+    let micros = [16u64, 32, 64, 128, 256, 512, 512, 512];
+    for wanted in micros {
+        pause.wait(&clock);
+        same(&rt, clock.last.load(Ordering::SeqCst), wanted);
+    }
+    same(&rt, clock.count.load(Ordering::SeqCst), 8);
     Ok(())
 }
