@@ -1,5 +1,5 @@
 -- What holds of pixels that are made sample by sample.
-use Rattle.std.specs.Prelude.{◌≡◌, ◌≤◌, ◌<◌, ℕ, ◌+◌, ◌*◌, ◌/◌, List, [], ◌∷◌, length, All, refl}
+use Rattle.std.specs.Prelude.{◌≡◌, ◌≤◌, ◌<◌, ℕ, ℤ, pos, negsuc, ◌+◌, ◌*◌, ◌/◌, List, [], ◌∷◌, length, All, refl}
 use Rattle.std.proofs.Common.{zero, suc, ap, arith, ◌∙◌}
 use Rattle.std.proofs.Math.Nat.{div-eq_of_lt}
 use Rattle.std.proofs.lemmas.Nat.{div_below}
@@ -12,9 +12,13 @@ use Rattle.fx_pixel.specs.declared.Components.TheVariants as components
 use Rattle.fx_pixel.specs.declared.Pixel.{Pixel}
 use Rattle.fx_pixel.specs.declared.Pixel.TheVariants.{Rgba, Alpha}
 use Rattle.fx_pixel.specs.Pixel.{greatest, zero as clear, IsOfDepth, components_of}
-use Rattle.fx_kernel.specs.Samples.{nth, each, rounded, sum_of, mean_of}
+use Rattle.fx_kernel.specs.Samples.{nth, each, rounded, clamped, sum_of, mean_of}
 
 -- ---- samples
+
+pub clamped_few : (m : ℕ) (z : ℤ) → clamped m z ≤ m
+clamped_few m (pos n) = grind arith
+clamped_few m (negsuc n) = omega arith
 
 pub nth_bound : (depth : Depth) (p : Pixel) (k : ℕ) → IsOfDepth depth p → nth p k ≤ greatest depth
 nth_bound depth (Rgba r g b a) zero of_depth = of_depth.0

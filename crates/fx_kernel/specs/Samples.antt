@@ -1,5 +1,5 @@
 -- Pixels sample by sample: r, g, b and a, or a alone.
-use Rattle.std.specs.Prelude.{ℕ, suc, zero, ◌+◌, ◌*◌, ◌/◌, List}
+use Rattle.std.specs.Prelude.{ℕ, suc, zero, ◌+◌, ◌*◌, ◌/◌, min, ℤ, pos, negsuc, List}
 use Rattle.std.specs.List.{sum_by}
 use Rattle.fx_pixel.specs.declared.Components.{Components}
 use Rattle.fx_pixel.specs.declared.Components.TheVariants as components
@@ -22,6 +22,11 @@ each components.Alpha f = Alpha (f 0)
 -- p / q to the nearest, halves up
 abbrev pub rounded : ℕ → ℕ → ℕ
 rounded p q = (2 * p + q) / (2 * q)
+
+-- brought into 0 to m
+abbrev pub clamped : ℕ → ℤ → ℕ
+clamped m (pos n) = min m n
+clamped m (negsuc n) = 0
 
 -- the sum of sample k
 abbrev pub sum_of : ℕ → List Pixel → ℕ

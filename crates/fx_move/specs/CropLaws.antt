@@ -28,7 +28,7 @@ use Rattle.fx_effect.specs.ShapeTests.{shape_is}
 use Rattle.fx_effect.specs.declared.action.Context.{Context}
 use Rattle.fx_effect.specs.declared.action.Identity.TheVariants.{Same, No}
 use Rattle.fx_effect.specs.declared.values.Values.{Values}
-use Rattle.fx_move.specs.SourceLaws.{source_flag, source_connected, same_source}
+use Rattle.fx_effect.specs.SourceLaws.{source_flag, source_connected, same_source}
 use Rattle.fx_move.specs.Crop.{corner, crop_params, crop_rect, is_within, one_of, crop_taps, crop_shape, crop}
 
 both_true : (a b : Bool) → a ≡ true → b ≡ true → (a && b) ≡ true

@@ -1,4 +1,3 @@
-pub mod SourceLaws
 pub mod Crop
 pub mod CropLaws
 pub mod Mirror

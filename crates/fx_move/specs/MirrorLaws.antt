@@ -20,7 +20,7 @@ use Rattle.fx_effect.specs.Laws.{Laws, TapPixels, IsCovered}
 use Rattle.fx_effect.specs.ShapeTests.{shape_is}
 use Rattle.fx_effect.specs.declared.action.Context.{Context}
 use Rattle.fx_effect.specs.declared.values.Values.{Values}
-use Rattle.fx_move.specs.SourceLaws.{source_flag}
+use Rattle.fx_effect.specs.SourceLaws.{source_flag}
 use Rattle.fx_move.specs.Mirror.{turns_columns, opposite, mirror_x, mirror_y, mirrored, mirror_shape, mirror}
 
 -- what a place of a rectangle reads lies in the mirrored one

@@ -39,7 +39,7 @@ use Rattle.fx_effect.specs.declared.action.Context.{Context}
 use Rattle.fx_effect.specs.declared.action.Identity.TheVariants.{Same, No}
 use Rattle.fx_effect.specs.declared.values.Values.{Values}
 use Rattle.fx_move.specs.declared.translate.Along.{Along}
-use Rattle.fx_move.specs.SourceLaws.{source_flag, source_connected, same_source}
+use Rattle.fx_effect.specs.SourceLaws.{source_flag, source_connected, same_source}
 use Rattle.fx_move.specs.Translate.{distance, translate_params, along, across, upward, extra, shares, places, weights, weighted, weighed, moved_to, moved_from, is_still, translate_shape, translate}
 
 -- ---- distances

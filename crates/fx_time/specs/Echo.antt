@@ -8,13 +8,13 @@ use Rattle.fx_params.specs.Def.{int_def}
 use Rattle.fx_props.specs.Entries.{region_of}
 use Rattle.fx_effect.specs.Local.{Read, own_taps}
 use Rattle.fx_effect.specs.Shape.{Shape}
-use Rattle.fx_effect.specs.Numbers.{number}
+use Rattle.fx_effect.specs.Numbers.{number, natural}
 use Rattle.fx_effect.specs.Meaning.{Meaning}
 use Rattle.fx_effect.specs.declared.action.Identity.TheVariants.{Same, No}
 use Rattle.fx_effect.specs.declared.action.Safety.TheVariants.{FullySafe}
 use Rattle.fx_effect.specs.declared.values.Values.{Values}
 use Rattle.fx_kernel.specs.Samples.{nth, each}
-use Rattle.fx_time.specs.Times.{time_shape, natural, alone, source_at}
+use Rattle.fx_time.specs.Times.{time_shape, alone, source_at}
 
 abbrev pub echo_params : List ParamDef
 echo_params = int_def (codes "count") (pos 0) (pos 8) (pos 2) ∷ int_def (codes "gap") (pos 1) (pos 8) (pos 1) ∷ []

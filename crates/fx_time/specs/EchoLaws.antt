@@ -16,7 +16,7 @@ use Rattle.fx_params.specs.Def.{int_def}
 use Rattle.fx_effect.specs.Shape.{IsLawfulIn}
 use Rattle.fx_effect.specs.ShapeTests.{shape_is}
 use Rattle.fx_effect.specs.Numbers.{number}
-use Rattle.fx_effect.specs.NumberLaws.{number_between}
+use Rattle.fx_effect.specs.NumberLaws.{number_between, natural_up_to}
 use Rattle.fx_effect.specs.Laws.{Laws, IsNearSpan, seen_as}
 use Rattle.fx_effect.specs.DefaultLaws.{region_near, region_is_rect}
 use Rattle.fx_effect.specs.Local.{Read, IsRead, IsSameRead, local_laws}
@@ -25,7 +25,8 @@ use Rattle.fx_effect.specs.declared.values.Values.{Values}
 use Rattle.fx_kernel.specs.Samples.{nth}
 use Rattle.fx_kernel.specs.SampleLaws.{nth_bound, nth_clear, each_same, each_of, each_clear, each_is_pixel}
 use Rattle.fx_time.specs.Times.{source_at, alone}
-use Rattle.fx_time.specs.TimesLaws.{source_there, source_connected, source_holds, read_alone, near_alone, natural_up_to, same_at_zero}
+use Rattle.fx_effect.specs.SourceLaws.{source_flag, source_connected}
+use Rattle.fx_time.specs.TimesLaws.{source_holds, read_alone, near_alone, same_at_zero}
 use Rattle.fx_time.specs.Echo.{echo_params, echo_shape, count, gap, back, moments, weighed, loudest, echoed, echo_reads, echo}
 
 -- ---- its numbers
@@ -113,7 +114,7 @@ reads_there context v lawful =
     All-map R source_at (moments v.frame (gap v) (suc (count v)))
     (all_moments (λ t. R (source_at t)) v.frame (gap v) (suc (count v))
     (λ k low. read_alone (length v.connected) (echo.spans v) (back v.frame (gap v) k)
-    (source_there v.connected lawful.connected) (listed v.frame (gap v) (suc (count v)) k low)))
+    (source_flag v.connected lawful.connected) (listed v.frame (gap v) (suc (count v)) k low)))
 
 frames_near : (context : Context) (v : Values) → IsLawfulIn echo_shape context v
     → All (IsNearSpan v.frame) (echo.spans v 0)

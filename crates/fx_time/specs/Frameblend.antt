@@ -5,14 +5,14 @@ use Rattle.fx_params.specs.Def.{int_def}
 use Rattle.fx_props.specs.Entries.{region_of}
 use Rattle.fx_effect.specs.Local.{Read, own_taps}
 use Rattle.fx_effect.specs.Shape.{Shape}
-use Rattle.fx_effect.specs.Numbers.{number}
+use Rattle.fx_effect.specs.Numbers.{number, natural}
 use Rattle.fx_effect.specs.Meaning.{Meaning}
 use Rattle.fx_effect.specs.declared.action.Identity.TheVariants.{Same, No}
 use Rattle.fx_effect.specs.declared.action.Safety.TheVariants.{Unsafe}
 use Rattle.fx_effect.specs.declared.values.Values.{Values}
 use Rattle.fx_kernel.specs.Samples.{mean_of}
 use Rattle.fx_kernel.specs.Around.{around}
-use Rattle.fx_time.specs.Times.{time_shape, natural, source_at}
+use Rattle.fx_time.specs.Times.{time_shape, source_at}
 
 abbrev pub frameblend_params : List ParamDef
 frameblend_params = int_def (codes "radius") (pos 0) (pos 16) (pos 1) ∷ []

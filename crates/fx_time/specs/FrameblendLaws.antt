@@ -14,7 +14,7 @@ use Rattle.fx_params.specs.Def.{int_def}
 use Rattle.fx_effect.specs.Shape.{IsLawfulIn}
 use Rattle.fx_effect.specs.ShapeTests.{shape_is}
 use Rattle.fx_effect.specs.Numbers.{number}
-use Rattle.fx_effect.specs.NumberLaws.{number_between}
+use Rattle.fx_effect.specs.NumberLaws.{number_between, natural_up_to}
 use Rattle.fx_effect.specs.Laws.{Laws, IsNearSpan, seen_as}
 use Rattle.fx_effect.specs.DefaultLaws.{region_near, region_is_rect}
 use Rattle.fx_effect.specs.Local.{Read, IsRead, IsSameRead, local_laws}
@@ -25,7 +25,8 @@ use Rattle.fx_kernel.specs.SampleLaws.{mean_clear, mean_one, mean_is_pixel}
 use Rattle.fx_kernel.specs.Around.{around}
 use Rattle.fx_kernel.specs.AroundLaws.{length-mapped, length-int_run}
 use Rattle.fx_time.specs.Times.{source_at}
-use Rattle.fx_time.specs.TimesLaws.{source_there, source_connected, source_holds, natural_up_to, same_at_zero}
+use Rattle.fx_effect.specs.SourceLaws.{source_flag, source_connected}
+use Rattle.fx_time.specs.TimesLaws.{source_holds, same_at_zero}
 use Rattle.fx_time.specs.Frameblend.{frameblend_params, frameblend_shape, radius, blend_reads, frameblend}
 
 pub radius_few : (context : Context) (v : Values) → IsLawfulIn frameblend_shape context v → radius v ≤ 16
@@ -45,7 +46,7 @@ reads_there : (context : Context) (v : Values) → IsLawfulIn frameblend_shape c
 reads_there context v lawful =
     All-reads (IsRead (length v.connected) (frameblend.spans v)) v.frame (radius v)
     (λ f a b. record {
-      there = source_there v.connected lawful.connected;
+      there = source_flag v.connected lawful.connected;
       span = (v.frame -ℤ pos (radius v), v.frame +ℤ pos (radius v));
       listed =
           (0, omega arith, refl);

@@ -20,7 +20,8 @@ use Rattle.fx_effect.specs.Local.{Read, IsRead, local_laws}
 use Rattle.fx_effect.specs.declared.action.Context.{Context}
 use Rattle.fx_effect.specs.declared.values.Values.{Values}
 use Rattle.fx_time.specs.Times.{source_at, alone}
-use Rattle.fx_time.specs.TimesLaws.{source_there, source_holds, read_alone, near_alone}
+use Rattle.fx_effect.specs.SourceLaws.{source_flag}
+use Rattle.fx_time.specs.TimesLaws.{source_holds, read_alone, near_alone}
 use Rattle.fx_time.specs.Framediff.{framediff_params, framediff_shape, earlier, differed, framediff}
 
 pub gap_between : (context : Context) (v : Values) → IsLawfulIn framediff_shape context v
@@ -60,7 +61,7 @@ reads v = source_at (earlier v) ∷ source_at v.frame ∷ []
 reads_there : (context : Context) (v : Values) → IsLawfulIn framediff_shape context v
     → All (IsRead (length v.connected) (framediff.spans v)) (reads v)
 reads_there context v lawful =
-    let some = source_there v.connected lawful.connected in
+    let some = source_flag v.connected lawful.connected in
     All-from_recursion (IsRead (length v.connected) (framediff.spans v)) (reads v) (
       read_alone (length v.connected) (framediff.spans v) (earlier v) some (0, omega arith, refl),
       (read_alone (length v.connected) (framediff.spans v) v.frame some (1, omega arith, refl), tt),

@@ -17,7 +17,8 @@ use Rattle.fx_effect.specs.Local.{Read, IsRead, IsSameRead, local_laws}
 use Rattle.fx_effect.specs.declared.action.Context.{Context}
 use Rattle.fx_effect.specs.declared.values.Values.{Values}
 use Rattle.fx_time.specs.Times.{source_at, alone}
-use Rattle.fx_time.specs.TimesLaws.{source_there, source_connected, source_holds, read_alone, near_alone}
+use Rattle.fx_effect.specs.SourceLaws.{source_flag, source_connected}
+use Rattle.fx_time.specs.TimesLaws.{source_holds, read_alone, near_alone}
 use Rattle.fx_time.specs.Timeoffset.{timeoffset_params, timeoffset_shape, moment, timeoffset}
 
 pub offset_between : (context : Context) (v : Values) → IsLawfulIn timeoffset_shape context v
@@ -53,7 +54,7 @@ timeoffset_laws =
       interest = λ v r clip. refl;
       reads_there = λ context v lawful.
           All-cons (IsRead (length v.connected) (timeoffset.spans v)) (source_at (moment v)) []
-          (read_alone (length v.connected) (timeoffset.spans v) (moment v) (source_there v.connected lawful.connected)
+          (read_alone (length v.connected) (timeoffset.spans v) (moment v) (source_flag v.connected lawful.connected)
           (0, omega arith, refl))
           (All-nil (IsRead (length v.connected) (timeoffset.spans v)));
       frames_near = λ context v clip lawful.

@@ -1,5 +1,5 @@
 -- Filters that read other frames of the clip Source.
-use Rattle.std.specs.Prelude.{ℕ, ℤ, pos, negsuc, true, List, [], ◌∷◌}
+use Rattle.std.specs.Prelude.{ℕ, ℤ, true, List, [], ◌∷◌}
 use Rattle.fx_pixel.specs.declared.Depth.TheVariants as depths
 use Rattle.fx_pixel.specs.declared.Components.TheVariants as components
 use Rattle.fx_params.specs.declared.def.ParamDef.{ParamDef}
@@ -11,11 +11,6 @@ use Rattle.fx_effect.specs.declared.action.Safety.{Safety}
 abbrev pub time_shape : List ℕ → Safety → List ParamDef → Shape
 time_shape label safety params =
     source_shape label (depths.Byte ∷ depths.Short ∷ []) (components.Rgba ∷ components.Alpha ∷ []) true safety params
-
--- a number that isn't negative
-abbrev pub natural : ℤ → ℕ
-natural (pos n) = n
-natural (negsuc n) = 0
 
 -- Source at a frame
 abbrev pub source_at : ℤ → Read

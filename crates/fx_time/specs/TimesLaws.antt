@@ -7,22 +7,12 @@ use Rattle.std.proofs.lemmas.Bool.Decides.{nat_tests}
 use Rattle.fx_base.specs.Bounds.{Bounds}
 use Rattle.fx_base.specs.Rect.{Holds}
 use Rattle.fx_props.specs.Entries.{region_of}
-use Rattle.fx_effect.specs.Shape.{MayBe}
-use Rattle.fx_effect.specs.Source.{source_clips}
-use Rattle.fx_effect.specs.DefaultLaws.{flag_for_each}
 use Rattle.fx_effect.specs.Laws.{IsNearSpan}
 use Rattle.fx_effect.specs.Local.{Read, IsRead}
 use Rattle.fx_effect.specs.declared.action.Identity.TheVariants.{Same, No}
-use Rattle.fx_time.specs.Times.{natural, source_at, alone}
+use Rattle.fx_time.specs.Times.{source_at, alone}
 
 -- ---- Source
-
-pub source_there : (connected : List Bool) → AllZip MayBe source_clips connected → 0 < length connected
-source_there connected may = let one = flag_for_each source_clips connected may in omega (arith, one)
-
-pub source_connected : (connected : List Bool) → AllZip MayBe source_clips connected → slice_get connected 0 ≡ Some true
-source_connected [] may = elim may [ ]
-source_connected (b ∷ connected) may = ap Some (may.0 refl)
 
 -- what is read is Source
 pub is_source : (frames : List ℤ) (r : Read) → Contains (map source_at frames) r → r.0 ≡ 0
@@ -46,16 +36,6 @@ read_alone clips spans t some listed =
 
 pub near_alone : (t f : ℤ) → (t -ℤ pos 100000) ≤ℤ f → f ≤ℤ (t +ℤ pos 100000) → IsNearSpan t (alone f)
 near_alone t f low high = record { first_after = low; first_before = high; last_after = low; last_before = high }
-
--- ---- numbers
-
-pub natural_up_to : (n : ℤ) (most : ℕ) → n ≤ℤ pos most → natural n ≤ most
-natural_up_to (pos n) most below = omega (arith, ints)
-natural_up_to (negsuc n) most below = omega arith
-
-pub natural_least : (n : ℤ) (least : ℕ) → pos least ≤ℤ n → least ≤ natural n
-natural_least (pos n) least above = omega (arith, ints)
-natural_least (negsuc n) least above = absurd (omega (arith, ints))
 
 -- ---- identities at 0
 

@@ -202,10 +202,10 @@ impl<'a, 'b> BlendRows<'a, 'b> {
             (blend_pixel me.inputs.now me.frame me.radius components) row.new }
     {
         let samples = offset(rect.x1, rect.x2) * components.count() as usize;
-        self.inputs.read_row(SOURCE, self.frame - 1, rect, y, line);
-        self.inputs.read_row(SOURCE, self.frame, rect, y, other);
+        let one = self.inputs.lend_row(SOURCE, self.frame - 1, rect, y, line);
+        let two = self.inputs.lend_row(SOURCE, self.frame, rect, y, other);
         self.inputs.read_row(SOURCE, self.frame + 1, rect, y, row);
-        write_mean_of_three(depth, line, other, row, samples);
+        write_mean_of_three(depth, one, two, row, samples);
     }
 
     // Makes a row of as many frames as there are, by their sums.
@@ -255,9 +255,10 @@ impl<'a, 'b> BlendRows<'a, 'b> {
         clear(cells);
         let first = self.frame - self.radius as i64;
         for k in 0..2 * self.radius + 1 {
-            self.inputs
-                .read_row(SOURCE, first + k as i64, rect, y, bytes);
-            add_row(depth, bytes, cells);
+            let line = self
+                .inputs
+                .lend_row(SOURCE, first + k as i64, rect, y, bytes);
+            add_row(depth, line, cells);
         }
     }
 

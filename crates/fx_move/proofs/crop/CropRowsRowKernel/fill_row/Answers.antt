@@ -13,7 +13,7 @@ use Rattle.fx_effect.specs.Meaning.{rendered}
 use Rattle.fx_effect.specs.Rows.{ShowsRow}
 use Rattle.fx_effect.specs.declared.values.Values.{Values}
 use Rattle.fx_effect.proofs.PieceLaws.{is_wide}
-use Rattle.fx_move.specs.SourceLaws.{shows_source}
+use Rattle.fx_effect.specs.SourceLaws.{shows_source}
 use Rattle.fx_move.specs.Crop.{crop, crop_shape, crop_rect}
 use Rattle.fx_move.proofs.crop.CropRowsRowKernel.fill_row.Goals as goal
 

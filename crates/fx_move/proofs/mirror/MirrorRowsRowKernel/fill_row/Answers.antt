@@ -8,7 +8,7 @@ use Rattle.fx_image.specs.Stored.{pixel_size}
 use Rattle.fx_image.proofs.ImageLaws.{gap_below, place_from}
 use Rattle.fx_effect.specs.Given.{row_pixel}
 use Rattle.fx_effect.specs.Rows.{IsLine, ShowsRow}
-use Rattle.fx_move.specs.SourceLaws.{shows_source}
+use Rattle.fx_effect.specs.SourceLaws.{shows_source}
 use Rattle.fx_move.specs.Mirror.{turns_columns, opposite, mirrored, mirror_shape}
 use Rattle.fx_move.proofs.MirrorRows.{row_wide, turned_line, other_line, turned_pixel, other_pixel, mirror_turned, mirror_other}
 use Rattle.fx_move.proofs.mirror.MirrorRowsRowKernel.fill_row.Goals as goal

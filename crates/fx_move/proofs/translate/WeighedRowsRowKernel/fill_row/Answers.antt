@@ -7,7 +7,7 @@ use Rattle.fx_pixel.specs.Pixel.{count}
 use Rattle.fx_image.specs.Stored.{pixel_size}
 use Rattle.fx_image.proofs.ImageLaws.{gap_below, place_from}
 use Rattle.fx_effect.specs.Given.{input_pixel, row_pixel}
-use Rattle.fx_move.specs.SourceLaws.{shows_source}
+use Rattle.fx_effect.specs.SourceLaws.{shows_source}
 use Rattle.fx_move.specs.Translate.{across, upward, translate_shape}
 use Rattle.fx_move.specs.TranslateRows.{lines_of, four_weights, weighed_sample}
 use Rattle.fx_move.specs.TranslateLaws.{IsAlong, axes_are}

@@ -7,7 +7,7 @@ use Rattle.fx_effect.specs.Tap.{tap}
 use Rattle.fx_effect.specs.Given.{row_pixel, clip_components}
 use Rattle.fx_effect.specs.Rows.{IsLine, ShowsRow}
 use Rattle.fx_move.specs.declared.translate.Along.{Along}
-use Rattle.fx_move.specs.SourceLaws.{shows_source}
+use Rattle.fx_effect.specs.SourceLaws.{shows_source}
 use Rattle.fx_move.specs.Translate.{across, upward, translate_shape}
 use Rattle.fx_move.specs.TranslateLaws.{axes_are}
 use Rattle.fx_move.proofs.MirrorRows.{row_wide}

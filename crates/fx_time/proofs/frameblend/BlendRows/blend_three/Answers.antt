@@ -13,14 +13,14 @@ use Rattle.fx_time.proofs.LineLaws.{line_of, shown_of}
 use Rattle.fx_time.proofs.BlendLaws.{sample_read, three_is}
 use Rattle.fx_time.proofs.frameblend.BlendRows.blend_three.Goals as goal
 
-pub read_row-requires-2-clause-row : goal.read_row-requires-2-clause-row
-read_row-requires-2-clause-row c =
+pub lend_row-two-requires-clause-row : goal.lend_row-two-requires-clause-row
+lend_row-two-requires-clause-row c =
     let y : FitsSigned w64 c.args.y = c.ranges.y in
     simp to_z-of_z (line_of c.args.self.now.inputs.now 0 c.args.depth c.args.components c.args.components c.args.rect c.args.y c.args.row.now c.args.other.now
     c.requires.shows c.requires.row c.requires.other)
 
-pub read_row-requires-3-clause-row : goal.read_row-requires-3-clause-row
-read_row-requires-3-clause-row c =
+pub read_row-requires-clause-row : goal.read_row-requires-clause-row
+read_row-requires-clause-row c =
     let y : FitsSigned w64 c.args.y = c.ranges.y in
     simp to_z-of_z (line_of c.args.self.now.inputs.now 0 c.args.depth c.args.components c.args.components c.args.rect c.args.y c.args.row.now c.args.row.now
     c.requires.shows c.requires.row c.requires.row.long)
@@ -40,9 +40,9 @@ returns c =
     let first : before ≡ me.frame -ℤ pos 1 = omega (arith, ints, q.frame.0, q.frame.1) in
     let here : now ≡ me.frame = omega (arith, ints, q.frame.0, q.frame.1) in
     let last : behind ≡ me.frame +ℤ pos 1 = omega (arith, ints, q.frame.0, q.frame.1) in
-    let one = sample_read given before d k rect c.args.y c.args.row.now c.read_row.new.row q.row (shown_of given 0 d k rect c.args.y before c.read_row.new.row q.shows (simp to_z-of_z at c.read_row.ensures)) in
-    let two = sample_read given now d k rect c.args.y c.args.row.now c.read_row-2.new.row q.row (shown_of given 0 d k rect c.args.y now c.read_row-2.new.row q.shows (simp to_z-of_z at c.read_row-2.ensures)) in
-    let three = sample_read given behind d k rect c.args.y c.args.row.now c.read_row-3.new.row q.row (shown_of given 0 d k rect c.args.y behind c.read_row-3.new.row q.shows (simp to_z-of_z at c.read_row-3.ensures)) in
+    let one = sample_read given before d k rect c.args.y c.args.row.now c.lend_row-one.result.now q.row (shown_of given 0 d k rect c.args.y before c.lend_row-one.result.now q.shows (simp to_z-of_z at c.lend_row-one.ensures.shows)) in
+    let two = sample_read given now d k rect c.args.y c.args.row.now c.lend_row-two.result.now q.row (shown_of given 0 d k rect c.args.y now c.lend_row-two.result.now q.shows (simp to_z-of_z at c.lend_row-two.ensures.shows)) in
+    let three = sample_read given behind d k rect c.args.y c.args.row.now c.read_row.new.row q.row (shown_of given 0 d k rect c.args.y behind c.read_row.new.row q.shows (simp to_z-of_z at c.read_row.ensures)) in
     let left_fits : FitsSigned w64 c.rect.inside.x1 = search rules in
     let right_fits : FitsSigned w64 c.rect.inside.x2 = search rules in
     let ends = simp to_z-of_z at c.offset.ensures in
@@ -56,6 +56,6 @@ returns c =
     let b = two s within ∙ ap (sample s) here in
     let e = three s within ∙ ap (sample s) last in
     let there : s < c.offset.result * c.count.result = rw (wide, c.count.ensures) within in
-    let sum = three_is given me.frame k rect c.args.y i n (sample_in d c.read_row.new.row s) (sample_in d c.read_row-2.new.row s) (sample_in d c.read_row-3.new.row s) few a b e in
+    let sum = three_is given me.frame k rect c.args.y i n (sample_in d c.lend_row-one.result.now s) (sample_in d c.lend_row-two.result.now s) (sample_in d c.read_row.new.row s) few a b e in
     c.write_mean_of_three.ensures s there ∙ ap (λ w. rounded w 3) sum
     ∙ ap (λ r. rounded (sum_of n (map (input_pixel given) (own_taps (blend_reads me.frame r) (rect.x1 +ℤ pos i) c.args.y))) (2 * r + 1)) (sym q.one))

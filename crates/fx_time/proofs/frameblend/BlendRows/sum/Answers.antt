@@ -12,8 +12,8 @@ use Rattle.fx_time.proofs.frameblend.BlendRows.sum.Goals as goal
 pub loop-k-init : goal.loop-k-init
 loop-k-init c = no_sums c.clear.new.cells _ _ _ c.clear.ensures
 
-pub read_row-requires-clause-row : goal.read_row-requires-clause-row
-read_row-requires-clause-row c =
+pub lend_row-line-requires-clause-row : goal.lend_row-line-requires-clause-row
+lend_row-line-requires-clause-row c =
     let y : FitsSigned w64 c.args.y = c.ranges.y in
     simp to_z-of_z (line_of c.args.self.now.inputs.now 0 c.args.depth c.args.components c.args.components c.args.rect c.args.y c.args.bytes.now c.loop-k.bytes
     c.requires.shows c.requires.row (c.loop-k.auto.bytes ∙ c.requires.row.long))
@@ -33,9 +33,9 @@ loop-k-preserved c =
     let z = to_z w64 (of_z w64 (to_z w64 (of_z w64 (to_z w64 (of_z w64 me.frame) -ℤ to_z w64 me.radius)) +ℤ to_z w64 k)) in
     let time : z ≡ a +ℤ pos k = omega (arith, ints, q.frame.0, q.frame.1, q.few, c.loop-k-test.true) in
     let y : FitsSigned w64 c.args.y = c.ranges.y in
-    let shown = shown_of given 0 d c.args.components rect c.args.y z c.read_row.new.row q.shows (simp to_z-of_z at c.read_row.ensures) in
+    let shown = shown_of given 0 d c.args.components rect c.args.y z c.lend_row-line.result.now q.shows (simp to_z-of_z at c.lend_row-line.ensures.shows) in
     let long : length c.loop-k.cells ≡ columns rect * count c.args.components = omega (arith, c.loop-k.auto.cells, c.clear.auto.cells, q.cells) in
-    let read = sample_read given z d c.args.components rect c.args.y c.args.bytes.now c.read_row.new.row q.row shown in
+    let read = sample_read given z d c.args.components rect c.args.y c.args.bytes.now c.lend_row-line.result.now q.row shown in
     let before = simp to_z-of_z at c.loop-k.invariant in
     simp to_z-of_z (more_sums c.loop-k.cells c.add_row.new.cells (moment_sample given c.args.components rect c.args.y) a z k (greatest d) time c.add_row.auto.cells before
     (λ s low. c.add_row.ensures s low ∙ ap (λ v. slice_index c.loop-k.cells s + v) (read s (rw (← long) low)))
