@@ -85,6 +85,15 @@ rows() {
   echo "a row of $2 pixels: $one ns of one piece, $three ns across three pieces, $(so_many "$three" "$one") times"
 }
 
+# many STRIP HEIGHT: rows of 1,920 pixels over pieces of this width and height, and over pieces as wide with all rows.
+many() {
+  local all some
+  if [ -n "$chosen" ] && [[ " $chosen " != *" row "* ]]; then return; fi
+  all=$(cost "row:0:1920:$1:1080" 100000 1000000)
+  some=$(cost "row:0:1920:$1:$2" 100000 1000000)
+  echo "a row across $((1920 / $1)) pieces: $all ns, and of $((1920 / $1 * 1080 / $2)) pieces that the row is asked of: $some ns"
+}
+
 chosen=$*
 uptime
 echo 'effect, its numbers and depth; of a whole frame, and of tiles, ms, MB a second and how many times a copy'
@@ -127,4 +136,6 @@ beside erode 32 2
 beside dilate 32 2
 rows 0 1920 640
 rows 63 66 64
+many 384 10
+many 64 60
 uptime

@@ -11,28 +11,33 @@ use fx_image::Image;
 use fx_pixel::{Components, Depth};
 use std::alloc::Global;
 
-// As many strips lie side by side at most.
-const MOST_STRIPS: u16 = 64;
+// As many pieces lie side by side at most, and as many above one another.
+const MOST_ACROSS: u16 = 64;
+
+const MOST_UP: u16 = 128;
 
 // As many rows take turns, so that they stay in the cache.
 const TURNS: u32 = 16;
 
-/// The columns that are read, and how wide the pieces are.
+/// The columns that are read, and how wide and high the pieces are.
 #[derive(Clone, Copy)]
 pub(crate) struct Strips {
     from: u8,
     width: u16,
     strip: u16,
+    height: u16,
 }
 
 impl Strips {
-    /// The first column, the columns and the width of a piece, of a word like `63:66:64`.
+    /// The first column, the columns, the width of a piece and, if it has not all rows, its height, of a
+    /// word like `63:66:64` or `0:1920:384:10`.
     pub(crate) fn read(word: &str) -> Option<Strips> {
         let mut parts = word.split(':');
         Some(Strips {
             from: parts.next()?.parse::<u8>().ok()?,
             width: parts.next()?.parse::<u16>().ok()?,
             strip: parts.next()?.parse::<u16>().ok()?,
+            height: parts.next().unwrap_or("1080").parse::<u16>().ok()?,
         })
     }
 
@@ -58,25 +63,45 @@ impl Strips {
         Rect::of(left, 0, left + i64::from(self.width.max(1)), ROWS)
     }
 
-    // One clip, in strips of the width side by side, of which those that the image has and that are read.
+    // One clip, in pieces of the size, of which those that the image has and that are read.
     fn inputs<'a>(self, alloc: Global, image: &'a Image) -> Result<Inputs<'a>, Memory>
         ensures depth { IfOk result (λ inputs. inputs.depth ≡ Byte) }
         ensures components { IfOk result (λ inputs. inputs.components ≡ RgbaSamples ∷ []) }
     {
         let mut inputs = Inputs::new(alloc, Depth::Byte, vec![in alloc; Components::Rgba]?)?;
-        for number in 0..MOST_STRIPS {
-            let strip = self.strip(number);
-            if !strip.meet(self.rect()).is_empty() {
-                show(alloc, image, strip, &mut inputs)?;
-            }
+        for row in 0..MOST_UP {
+            self.show_row(alloc, image, row, &mut inputs)?;
         }
         Ok(inputs)
     }
 
-    fn strip(self, number: u16) -> Rect {
-        let width = i64::from(self.strip);
-        let left = width.saturating_mul(i64::from(number));
-        Rect::of(left, 0, left.saturating_add(width), ROWS)
+    // The pieces side by side in a row of them.
+    fn show_row<'a>(
+        self,
+        alloc: Global,
+        image: &'a Image,
+        row: u16,
+        inputs: &mut Inputs<'a>,
+    ) -> Result<(), Memory>
+        requires { inputs.old.components ≡ RgbaSamples ∷ [] }
+        ensures depth { inputs.new.depth ≡ inputs.old.depth }
+        ensures components { inputs.new.components ≡ inputs.old.components }
+    {
+        for column in 0..MOST_ACROSS {
+            let piece = self.piece(column, row);
+            if !piece.meet(self.rect()).is_empty() {
+                show(alloc, image, piece, inputs)?;
+            }
+        }
+        Ok(())
+    }
+
+    fn piece(self, column: u16, row: u16) -> Rect {
+        let (width, height) = (i64::from(self.strip), i64::from(self.height));
+        let left = width.saturating_mul(i64::from(column));
+        let bottom = height.saturating_mul(i64::from(row));
+        let right = left.saturating_add(width);
+        Rect::of(left, bottom, right, bottom.saturating_add(height))
     }
 }
 
