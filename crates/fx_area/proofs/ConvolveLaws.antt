@@ -15,7 +15,7 @@ use Rattle.fx_pixel.specs.Pixel.{count, size, greatest}
 use Rattle.fx_image.specs.Stored.{pixel_size, sample_in, pixel_in}
 use Rattle.fx_image.proofs.ImageLaws.{fits_near}
 use Rattle.fx_image.proofs.RowsLaws.{rows_apart}
-use Rattle.fx_kernel.specs.Samples.{nth, rounded}
+use Rattle.fx_kernel.specs.Samples.{nth, rounded, clamped}
 use Rattle.fx_kernel.specs.RowLaws.{sample_at, shows_samples}
 use Rattle.fx_effect.specs.Tap.{tap}
 use Rattle.fx_effect.specs.Given.{Given, input_pixel, row_pixel}
@@ -28,7 +28,7 @@ use Rattle.fx_effect.specs.declared.action.Context.{Context}
 use Rattle.fx_effect.specs.declared.values.Values.{Values}
 use Rattle.fx_area.specs.declared.convolve3.Factors.{Factors}
 use Rattle.fx_area.specs.declared.convolve3.Triple.{Triple}
-use Rattle.fx_area.specs.Convolve3.{factor, convolve_params, factors, divisor, nine, sum_of_products, rounded_z, clamped, convolve_shape, convolve3}
+use Rattle.fx_area.specs.Convolve3.{factor, convolve_params, factors, divisor, nine, sum_of_products, rounded_z, convolve_shape, convolve3}
 use Rattle.fx_area.specs.Convolve3Laws.{nine_are}
 use Rattle.fx_area.specs.ConvolveRows.{triple_of, factors_of, IsTriple, triple_sum, nine_sum, convolved_sample}
 

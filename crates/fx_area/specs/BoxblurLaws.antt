@@ -25,7 +25,7 @@ use Rattle.fx_effect.specs.ShapeTests.{shape_is}
 use Rattle.fx_effect.specs.declared.action.Context.{Context}
 use Rattle.fx_effect.specs.declared.action.Identity.TheVariants.{Same, No}
 use Rattle.fx_effect.specs.declared.values.Values.{Values}
-use Rattle.fx_area.specs.SourceLaws.{source_flag, source_connected, same_source}
+use Rattle.fx_effect.specs.SourceLaws.{source_flag, source_connected, same_source}
 use Rattle.fx_area.specs.GrownLaws.{in_grown, grown_is_rect, grown_near, region_up_to, square_covered, natural_few}
 use Rattle.fx_area.specs.Boxblur.{box_radius, radii, rx, ry, box_count, boxblur_shape, boxblur}
 

@@ -1,6 +1,6 @@
 -- The effect convolve3: each sample is the sum of the nine at most one column and one row away, each times a number of
 -- its own, divided by a divisor, to the nearest and halves up, and brought into the samples' range.
-use Rattle.std.specs.Prelude.{ℕ, ◌+◌, ◌*◌, min, ℤ, pos, negsuc, ◌+ℤ◌, ◌-ℤ◌, ◌*ℤ◌, unsigned_abs, Bool, false, ◌&&◌, List, [], ◌∷◌, map, flat_map, codes, if◌then◌else◌}
+use Rattle.std.specs.Prelude.{ℕ, ◌+◌, ◌*◌, ℤ, pos, negsuc, ◌+ℤ◌, ◌-ℤ◌, ◌*ℤ◌, unsigned_abs, Bool, false, ◌&&◌, List, [], ◌∷◌, map, flat_map, codes, if◌then◌else◌}
 use Rattle.std.specs.List.{list_all}
 use Rattle.std.specs.Int.{int_div_euclid}
 use Rattle.std.specs.Ordering.{int_eq}
@@ -9,7 +9,7 @@ use Rattle.fx_pixel.specs.declared.Depth.TheVariants as depths
 use Rattle.fx_pixel.specs.declared.Components.{Components}
 use Rattle.fx_pixel.specs.declared.Components.TheVariants as components
 use Rattle.fx_pixel.specs.declared.Pixel.{Pixel}
-use Rattle.fx_kernel.specs.Samples.{nth, each}
+use Rattle.fx_kernel.specs.Samples.{nth, each, clamped}
 use Rattle.fx_kernel.specs.Around.{around}
 use Rattle.fx_params.specs.declared.def.ParamDef.{ParamDef}
 use Rattle.fx_params.specs.Def.{int_def}
@@ -66,11 +66,6 @@ sum_of_products ks samples = pos 0
 -- p / q to the nearest, halves up (`int_div_euclid` by a positive number is the floor)
 abbrev pub rounded_z : ℤ → ℕ → ℤ
 rounded_z p q = int_div_euclid ((pos 2 *ℤ p) +ℤ pos q) (pos (2 * q))
-
--- brought into 0 to m
-abbrev pub clamped : ℕ → ℤ → ℕ
-clamped m (pos n) = min m n
-clamped m (negsuc n) = 0
 
 abbrev pub convolved : Components → ℕ → List ℤ → ℕ → List Pixel → Pixel
 convolved c m ks q pixels =

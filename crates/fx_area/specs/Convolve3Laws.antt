@@ -17,8 +17,8 @@ use Rattle.fx_pixel.specs.declared.Depth.{Depth}
 use Rattle.fx_pixel.specs.declared.Components.{Components}
 use Rattle.fx_pixel.specs.declared.Pixel.{Pixel}
 use Rattle.fx_pixel.specs.Pixel.{greatest, zero as clear, IsOfDepth, components_of}
-use Rattle.fx_kernel.specs.Samples.{nth, each}
-use Rattle.fx_kernel.specs.SampleLaws.{nth_bound, nth_clear, each_same, each_of, each_clear, each_is_pixel}
+use Rattle.fx_kernel.specs.Samples.{nth, each, clamped}
+use Rattle.fx_kernel.specs.SampleLaws.{clamped_few, nth_bound, nth_clear, each_same, each_of, each_clear, each_is_pixel}
 use Rattle.fx_kernel.specs.Around.{around}
 use Rattle.fx_props.specs.Entries.{region_of}
 use Rattle.fx_effect.specs.Tap.{Tap, tap}
@@ -33,9 +33,9 @@ use Rattle.fx_effect.specs.ShapeTests.{shape_is}
 use Rattle.fx_effect.specs.declared.action.Context.{Context}
 use Rattle.fx_effect.specs.declared.action.Identity.TheVariants.{Same, No}
 use Rattle.fx_effect.specs.declared.values.Values.{Values}
-use Rattle.fx_area.specs.SourceLaws.{source_flag, source_connected, same_source}
+use Rattle.fx_effect.specs.SourceLaws.{source_flag, source_connected, same_source}
 use Rattle.fx_area.specs.GrownLaws.{in_grown, grown_is_rect, grown_near, region_up_to, natural_few}
-use Rattle.fx_area.specs.Convolve3.{divisor_param, convolve_params, factors, divisor, nine, sum_of_products, rounded_z, clamped, convolved, keeps_source, convolve_shape, convolve3}
+use Rattle.fx_area.specs.Convolve3.{divisor_param, convolve_params, factors, divisor, nine, sum_of_products, rounded_z, convolved, keeps_source, convolve_shape, convolve3}
 
 -- ---- the divisor
 
@@ -95,10 +95,6 @@ convolved_clear c m ks q pixels some all =
     ∙ ap (clamped m) (rounded_none q some)
     ∙ min_none m)
     ∙ each_clear c
-
-pub clamped_few : (m : ℕ) (z : ℤ) → clamped m z ≤ m
-clamped_few m (pos n) = grind arith
-clamped_few m (negsuc n) = omega arith
 
 -- ---- the source itself
 

@@ -10,7 +10,8 @@ use Rattle.fx_effect.specs.Numbers.{number}
 use Rattle.fx_effect.specs.declared.values.Values.{Values}
 use Rattle.fx_area.specs.declared.convolve3.Triple.{Triple}
 use Rattle.fx_area.specs.declared.convolve3.Factors.{Factors}
-use Rattle.fx_area.specs.Convolve3.{rounded_z, clamped}
+use Rattle.fx_area.specs.Convolve3.{rounded_z}
+use Rattle.fx_kernel.specs.Samples.{clamped}
 
 -- three numbers, from this one on
 abbrev pub triple_of : Values → ℕ → Triple

@@ -18,7 +18,7 @@ use Rattle.fx_effect.specs.declared.action.Context.{Context}
 use Rattle.fx_effect.specs.declared.action.Identity.TheVariants.{Same}
 use Rattle.fx_effect.specs.declared.values.Values.{Values}
 use Rattle.fx_area.specs.declared.extreme.Extreme.TheVariants.{Greatest}
-use Rattle.fx_area.specs.SourceLaws.{source_flag, source_connected}
+use Rattle.fx_effect.specs.SourceLaws.{source_flag, source_connected}
 use Rattle.fx_area.specs.GrownLaws.{in_grown, grown_is_rect, grown_near, region_up_to, square_covered}
 use Rattle.fx_area.specs.ExtremeLaws.{greatest_clear}
 use Rattle.fx_area.specs.Erode.{radius, square_taps, radius_shape}

@@ -29,7 +29,7 @@ use Rattle.fx_params.specs.declared.def.ParamDef.{ParamDef}
 use Rattle.fx_params.specs.Def.{int_def}
 use Rattle.fx_area.specs.declared.extreme.Extreme.{Extreme}
 use Rattle.fx_area.specs.declared.extreme.Extreme.TheVariants.{Least}
-use Rattle.fx_area.specs.SourceLaws.{source_flag, source_connected, same_source}
+use Rattle.fx_effect.specs.SourceLaws.{source_flag, source_connected, same_source}
 use Rattle.fx_area.specs.GrownLaws.{grown_is_rect, grown_near, square_covered, natural_few}
 use Rattle.fx_area.specs.Extreme.{extreme_of}
 use Rattle.fx_area.specs.ExtremeLaws.{extreme_is_pixel, extreme_one, least_clear}

@@ -1,4 +1,3 @@
-pub mod SourceLaws
 pub mod GrownLaws
 pub mod Boxblur
 pub mod BoxblurLaws

@@ -13,7 +13,7 @@ ghost use Rattle.fx_area.specs.Boxblur.{boxblur, boxblur_shape, rx as rx_of, ry 
 ghost use Rattle.fx_area.specs.BoxblurLaws.{boxblur_laws};
 ghost use Rattle.fx_area.specs.BoxRows.{line_width, box_line, box_pixel, box_sample, AreColumns, IsReady, IsBoxLine, IsBoxRow};
 
-use crate::lines::{Line, SOURCE, read_line};
+use crate::lines::{Line, SOURCE, lend_line};
 use fx_base::{Memory, Rect, offset};
 use fx_core::Ticket;
 use fx_effect::{
@@ -278,8 +278,8 @@ impl<'a, 'b> BoxRows<'a, 'b> {
         ensures bound { let k = self.now in (s : ℕ) → s < length cells.old
             → box_sample k.inputs.now k.frame k.rx components rect s j ≤ greatest depth }
     {
-        read_line(self.inputs, depth, components, self.line(rect, j), bytes);
-        add_row(depth, bytes, cells);
+        let line = lend_line(self.inputs, depth, components, self.line(rect, j), bytes);
+        add_row(depth, line, cells);
     }
 
     // Takes the samples of row j, which the cells have.
@@ -300,8 +300,8 @@ impl<'a, 'b> BoxRows<'a, 'b> {
             → slice_index cells.new s + box_sample k.inputs.now k.frame k.rx components rect s j
             ≡ slice_index cells.old s }
     {
-        read_line(self.inputs, depth, components, self.line(rect, j), bytes);
-        take_row(depth, bytes, cells);
+        let line = lend_line(self.inputs, depth, components, self.line(rect, j), bytes);
+        take_row(depth, line, cells);
     }
 
     // The pixels of row j that are summed for a row of the rectangle.

@@ -9,7 +9,8 @@ ghost use Rattle.fx_effect.specs.Given.{row_pixel, ShowsClip};
 ghost use Rattle.fx_effect.specs.Meaning.{rendered};
 ghost use Rattle.fx_effect.specs.Numbers.{number};
 ghost use Rattle.fx_effect.specs.Shape.{IsLawful};
-ghost use Rattle.fx_area.specs.Convolve3.{convolve3, convolve_shape, divisor, keeps_source, rounded_z, clamped};
+ghost use Rattle.fx_area.specs.Convolve3.{convolve3, convolve_shape, divisor, keeps_source, rounded_z};
+ghost use Rattle.fx_kernel.specs.Samples.{clamped};
 ghost use Rattle.fx_area.specs.Convolve3Laws.{convolve3_laws};
 ghost use Rattle.fx_area.specs.ConvolveRows.{
   triple_of,

@@ -20,6 +20,29 @@ pub(crate) struct Line {
     pub count: usize,
 }
 
+/// The bytes of the pixels of a line, each what `at` gives: lent where one piece has them all and converts
+/// nothing, and else written into these.
+pub(crate) fn lend_line<'s>(
+    inputs: &'s Inputs<'_>,
+    depth: Depth,
+    components: Components,
+    line: Line,
+    bytes: &'s mut [u8],
+) -> &'s [u8]
+    requires source { ShowsClip inputs.now 0 depth components }
+    requires place { IsStep 4294967296 line.x × IsStep 4294967296 line.y }
+    requires some { 0 < line.count }
+    requires few { line.count < 4294967296 }
+    requires long { length bytes.old ≡ line.count * pixel_size depth components }
+    ensures long { length result.now ≡ line.count * pixel_size depth components }
+    ensures pixels { (i : ℕ) → i < line.count → pixel_in depth components result.now i
+        ≡ row_pixel inputs.now 0 line.frame (line.x +ℤ pos i) line.y }
+{
+    let Line { frame, x, y, count } = line;
+    let rect = Rect::of(x, y, x + count as i64, y + 1);
+    inputs.lend_row(SOURCE, frame, rect, y, bytes)
+}
+
 /// Writes the pixels of a line into a row of bytes: each is what `at` gives.
 pub(crate) fn read_line(
     inputs: &Inputs<'_>,

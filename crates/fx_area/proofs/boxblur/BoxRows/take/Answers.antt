@@ -16,10 +16,10 @@ take_row-requires-clause-enough c s low =
     let given = k.inputs.now in
     let d = c.args.depth in
     let e = c.args.components in
-    let bytes = c.read_line.new.row in
+    let bytes = c.lend_line-line.result.now in
     let x = c.args.rect.x1 -ℤ pos k.rx in
     let is = c.line.ensures ∙ ap (box_line k.frame k.rx c.args.rect) (to_z-of_z w64 c.args.j c.ranges.j) in
-    let shows = subst (λ (l : Line). (i : ℕ) → i < l.count → pixel_in d e bytes i ≡ row_pixel given 0 l.frame (l.x +ℤ pos i) l.y) is c.read_line.ensures in
+    let shows = subst (λ (l : Line). (i : ℕ) → i < l.count → pixel_in d e bytes i ≡ row_pixel given 0 l.frame (l.x +ℤ pos i) l.y) is c.lend_line-line.ensures.pixels in
     let there : s < line_width k.rx c.args.rect * count e = rw (← c.requires.line.cell_for_each) low in
     rw (samples_of d e bytes (line_width k.rx c.args.rect) (λ i. row_pixel given 0 k.frame (x +ℤ pos i) c.args.j) shows s there) (c.requires.enough s low)
 
@@ -29,16 +29,16 @@ returns c s low =
     let given = k.inputs.now in
     let d = c.args.depth in
     let e = c.args.components in
-    let bytes = c.read_line.new.row in
+    let bytes = c.lend_line-line.result.now in
     let x = c.args.rect.x1 -ℤ pos k.rx in
     let is = c.line.ensures ∙ ap (box_line k.frame k.rx c.args.rect) (to_z-of_z w64 c.args.j c.ranges.j) in
-    let shows = subst (λ (l : Line). (i : ℕ) → i < l.count → pixel_in d e bytes i ≡ row_pixel given 0 l.frame (l.x +ℤ pos i) l.y) is c.read_line.ensures in
+    let shows = subst (λ (l : Line). (i : ℕ) → i < l.count → pixel_in d e bytes i ≡ row_pixel given 0 l.frame (l.x +ℤ pos i) l.y) is c.lend_line-line.ensures.pixels in
     let there : s < line_width k.rx c.args.rect * count e = rw (← c.requires.line.cell_for_each) low in
     ap (λ n. slice_index c.take_row.new.cells s + n) (sym (samples_of d e bytes (line_width k.rx c.args.rect) (λ i. row_pixel given 0 k.frame (x +ℤ pos i) c.args.j) shows s there))
     ∙ c.take_row.ensures s low
 
-pub read_line-requires-clause-place : goal.read_line-requires-clause-place
-read_line-requires-clause-place c =
+pub lend_line-line-requires-clause-place : goal.lend_line-line-requires-clause-place
+lend_line-line-requires-clause-place c =
     let k = c.args.self.now in
     let q = c.requires.line in
     let left = q.near.left in let right = q.near.right in
@@ -47,8 +47,8 @@ read_line-requires-clause-place c =
     let is = c.line.ensures ∙ ap (box_line k.frame k.rx c.args.rect) (to_z-of_z w64 c.args.j c.ranges.j) in
     subst (λ (l : Line). IsStep 4294967296 l.x × IsStep 4294967296 l.y) (sym is) ((omega (arith, ints), omega (arith, ints)), (omega (arith, ints), omega (arith, ints)))
 
-pub read_line-requires-clause-few : goal.read_line-requires-clause-few
-read_line-requires-clause-few c =
+pub lend_line-line-requires-clause-few : goal.lend_line-line-requires-clause-few
+lend_line-line-requires-clause-few c =
     let k = c.args.self.now in
     let q = c.requires.line in
     let left = q.near.left in let right = q.near.right in

@@ -1,6 +1,7 @@
 use Rattle.std.proofs.Common.{◌≡◌, ◌≢◌, ◌<◌, ◌+◌, ◌∙◌, ℕ, ap, refl, below_more, arith}
 use Rattle.fx_pixel.specs.Pixel.{greatest}
-use Rattle.fx_area.specs.Convolve3.{rounded_z, clamped}
+use Rattle.fx_area.specs.Convolve3.{rounded_z}
+use Rattle.fx_kernel.specs.Samples.{clamped}
 use Rattle.fx_area.proofs.ConvolveLaws.{two_sum, three_sum, three_are, sample_below}
 use Rattle.fx_area.proofs.convolve3.ConvolvedRows.convolve_each.Goals as goal
 
