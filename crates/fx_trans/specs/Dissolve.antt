@@ -9,7 +9,8 @@ use Rattle.fx_effect.specs.Default.{default_spans}
 use Rattle.fx_effect.specs.declared.action.Identity.TheVariants.{No}
 use Rattle.fx_kernel.specs.Samples.{nth, each}
 use Rattle.fx_kernel.specs.Blends.{blended}
-use Rattle.fx_trans.specs.Transitions.{transition_shape, level, both_taps, both_regions, at_ends}
+use Rattle.fx_effect.specs.Pairs.{both_regions}
+use Rattle.fx_trans.specs.Transitions.{transition_shape, level, both_taps, at_ends}
 
 abbrev pub dissolved : ℕ → Components → Pixel → Pixel → Pixel
 dissolved k c p q = each c (λ i. blended k (nth p i) (nth q i))

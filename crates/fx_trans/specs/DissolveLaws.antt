@@ -20,7 +20,8 @@ use Rattle.fx_kernel.specs.SampleLaws.{nth_bound, nth_clear, each_same, each_of,
 use Rattle.fx_kernel.specs.Blends.{blended}
 use Rattle.fx_kernel.specs.BlendLaws.{blended_bound, blended_zero, blended_first, blended_last}
 use Rattle.fx_trans.specs.Transitions.{level}
-use Rattle.fx_trans.specs.TransitionsLaws.{IsEnd, both_reads, both_there, both_near, both_rect, both_hold, from_connected, to_connected, level_few, end_of}
+use Rattle.fx_effect.specs.PairLaws.{both_reads, both_near, both_rect, both_hold}
+use Rattle.fx_trans.specs.TransitionsLaws.{IsEnd, both_there, from_connected, to_connected, level_few, end_of}
 use Rattle.fx_trans.specs.Dissolve.{dissolved, dissolve_shape, dissolve}
 
 dissolved_zero : (k : ℕ) (c : Components) → dissolved k c (clear c) (clear c) ≡ clear c

@@ -1,16 +1,13 @@
 -- Transitions from the clip SourceFrom to the clip SourceTo, by the parameter Transition (OpenFX 1.4, "Transition
 -- Context").
-use Rattle.std.specs.Prelude.{◌==◌, ℕ, ℤ, pos, negsuc, true, false, List, [], ◌∷◌, codes, if◌then◌else◌}
-use Rattle.fx_base.specs.Bounds.{Bounds}
-use Rattle.fx_base.specs.Rect.{hull}
+use Rattle.std.specs.Prelude.{◌==◌, ℕ, ℤ, pos, true, false, List, [], ◌∷◌, codes, if◌then◌else◌}
 use Rattle.fx_pixel.specs.declared.Depth.TheVariants as depths
 use Rattle.fx_pixel.specs.declared.Components.TheVariants as components
 use Rattle.fx_params.specs.declared.def.ParamDef.{ParamDef}
 use Rattle.fx_params.specs.Def.{fix_def}
-use Rattle.fx_props.specs.Entries.{region_of}
 use Rattle.fx_effect.specs.Tap.{Tap, tap}
 use Rattle.fx_effect.specs.Shape.{Clip, Shape}
-use Rattle.fx_effect.specs.Numbers.{number}
+use Rattle.fx_effect.specs.Numbers.{number, natural}
 use Rattle.fx_effect.specs.declared.action.Context.TheVariants as context
 use Rattle.fx_effect.specs.declared.action.Identity.{Identity}
 use Rattle.fx_effect.specs.declared.action.Identity.TheVariants.{Same}
@@ -39,11 +36,6 @@ transition_shape label =
       params = λ c. transition_params;
     }
 
--- a number that isn't negative
-abbrev pub natural : ℤ → ℕ
-natural (pos n) = n
-natural (negsuc n) = 0
-
 -- how far the transition has come, in units of 1/65536
 abbrev pub level : Values → ℕ
 level v = natural (number v 0)
@@ -51,10 +43,6 @@ level v = natural (number v 0)
 -- the pixel at the same place of either clip
 abbrev pub both_taps : Values → ℤ → ℤ → List Tap
 both_taps v x y = tap 0 v.frame x y ∷ tap 1 v.frame x y ∷ []
-
--- the hull of the regions of SourceFrom and SourceTo
-abbrev pub both_regions : List Bounds → Bounds
-both_regions regions = hull (region_of regions 0) (region_of regions 1)
 
 -- SourceFrom before the transition, SourceTo behind it, and another answer while it lasts
 abbrev pub at_ends : ℕ → ℤ → Identity → Identity

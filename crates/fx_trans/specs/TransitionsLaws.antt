@@ -1,43 +1,25 @@
 -- What holds of both clips of a transition, of its level and of its ends.
-use Rattle.std.specs.Prelude.{◌≡◌, ◌≢◌, ◌≤◌, ◌<◌, ◌==◌, ℕ, ◌+◌, ℤ, pos, negsuc, ◌≤ℤ◌, Bool, true, false, List, [], ◌∷◌, length, All, Some, slice_get, if◌then◌else◌, refl}
-use Rattle.std.specs.List.{AllZip, Contains}
-use Rattle.std.proofs.Common.{zero, suc, inl, inr, ◌⊎◌, ap, sym, subst, arith, ◌∙◌}
-use Rattle.std.proofs.lemmas.Int.{ints}
+use Rattle.std.specs.Prelude.{◌≡◌, ◌≢◌, ◌≤◌, ◌==◌, ℕ, ℤ, pos, Bool, true, false, List, [], ◌∷◌, length, All, Some, slice_get, if◌then◌else◌, refl}
+use Rattle.std.specs.List.{AllZip}
+use Rattle.std.proofs.Common.{inl, inr, ◌⊎◌, ap, arith}
 use Rattle.std.proofs.lemmas.Bool.Decides.{nat_tests}
 use Rattle.std.proofs.lemmas.List.Elements.{All-from_recursion}
-use Rattle.fx_base.specs.Bounds.{Bounds, IsRect}
-use Rattle.fx_base.specs.Rect.{Holds, IsUpTo}
-use Rattle.fx_base.proofs.RectLaws.{IsRect-hull, IsUpTo-hull}
-use Rattle.fx_base.proofs.RectLemmas.{IsWithin-hull_first, IsWithin-hull_second}
 use Rattle.fx_params.specs.Def.{fix_def}
-use Rattle.fx_props.specs.Entries.{region_of}
 use Rattle.fx_effect.specs.Shape.{MayBe, IsLawfulIn}
-use Rattle.fx_effect.specs.Asked.{AreRegions}
 use Rattle.fx_effect.specs.Default.{default_spans}
-use Rattle.fx_effect.specs.DefaultLaws.{region_near, region_is_rect, flag_for_each}
+use Rattle.fx_effect.specs.DefaultLaws.{flag_for_each}
 use Rattle.fx_effect.specs.Numbers.{number}
-use Rattle.fx_effect.specs.NumberLaws.{number_between}
-use Rattle.fx_effect.specs.Local.{Read, IsRead}
+use Rattle.fx_effect.specs.NumberLaws.{number_between, natural_up_to}
+use Rattle.fx_effect.specs.Local.{IsRead}
+use Rattle.fx_effect.specs.PairLaws.{both_reads, read_here}
 use Rattle.fx_effect.specs.declared.action.Context.{Context}
 use Rattle.fx_effect.specs.declared.action.Context.TheVariants as context
 use Rattle.fx_effect.specs.declared.action.Identity.{Identity}
 use Rattle.fx_effect.specs.declared.action.Identity.TheVariants.{Same}
 use Rattle.fx_effect.specs.declared.values.Values.{Values}
-use Rattle.fx_trans.specs.Transitions.{from_and_to, transition_params, transition_shape, natural, level, both_regions, at_ends}
+use Rattle.fx_trans.specs.Transitions.{from_and_to, transition_params, transition_shape, level, at_ends}
 
 -- ---- what is read
-
-abbrev pub both_reads : Values → List Read
-both_reads v = (0, v.frame) ∷ (1, v.frame) ∷ []
-
-read_here : (clips clip : ℕ) (v : Values) → clip < clips → IsRead clips (default_spans v) (clip, v.frame)
-read_here clips clip v low =
-    record {
-      there = low;
-      span = (v.frame, v.frame);
-      listed = (0, omega arith, refl);
-      at_frame = (omega (arith, ints), omega (arith, ints));
-    }
 
 pub both_there : (label : List ℕ) (c : Context) (v : Values) → IsLawfulIn (transition_shape label) c v
     → All (IsRead (length v.connected) (default_spans v)) (both_reads v)
@@ -57,34 +39,7 @@ to_connected [] may = elim may [ ]
 to_connected (c ∷ []) may = elim may.1 [ ]
 to_connected (c ∷ (d ∷ connected)) may = ap Some (may.1.0 refl)
 
--- ---- regions
-
-pub both_near : (n : ℕ) (p : Bounds) (regions : List Bounds) → All (IsUpTo n) (p ∷ regions)
-    → IsUpTo (n + 32768) (both_regions regions)
-both_near n p regions up_to =
-    IsUpTo-hull (n + 32768) (region_of regions 0) (region_of regions 1)
-    (region_near n 0 p regions up_to) (region_near n 1 p regions up_to)
-
-pub both_rect : (v : Values) (regions : List Bounds) → AreRegions v regions → IsRect (both_regions regions)
-both_rect v regions are =
-    IsRect-hull (region_of regions 0) (region_of regions 1) (region_is_rect 0 v regions are)
-    (region_is_rect 1 v regions are)
-
-pub both_hold : (v : Values) (regions : List Bounds) (r : Read) (x y : ℤ) → Contains (both_reads v) r
-    → Holds (region_of regions r.0) x y → Holds (both_regions regions) x y
-both_hold v regions r x y (zero, low, is) held =
-    IsWithin-hull_first (region_of regions 0) (region_of regions 1) x y
-    (subst (λ (k : Read). Holds (region_of regions k.0) x y) (sym is) held)
-both_hold v regions r x y (suc zero, low, is) held =
-    IsWithin-hull_second (region_of regions 0) (region_of regions 1) x y
-    (subst (λ (k : Read). Holds (region_of regions k.0) x y) (sym is) held)
-both_hold v regions r x y (suc (suc k), low, is) held = absurd (omega arith)
-
 -- ---- the level
-
-natural_up_to : (n : ℤ) (most : ℕ) → n ≤ℤ pos most → natural n ≤ most
-natural_up_to (pos n) most below = omega (arith, ints)
-natural_up_to (negsuc n) most below = omega arith
 
 pub level_few : (label : List ℕ) (c : Context) (v : Values) → IsLawfulIn (transition_shape label) c v → level v ≤ 65536
 level_few label c v lawful =

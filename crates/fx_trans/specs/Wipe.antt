@@ -11,7 +11,9 @@ use Rattle.fx_effect.specs.Default.{default_spans}
 use Rattle.fx_effect.specs.declared.action.Identity.{Identity}
 use Rattle.fx_effect.specs.declared.action.Identity.TheVariants.{Same, No}
 use Rattle.fx_effect.specs.declared.values.Values.{Values}
-use Rattle.fx_trans.specs.Transitions.{transition_shape, natural, level, both_taps, both_regions, at_ends}
+use Rattle.fx_effect.specs.Numbers.{natural}
+use Rattle.fx_effect.specs.Pairs.{both_regions}
+use Rattle.fx_trans.specs.Transitions.{transition_shape, level, both_taps, at_ends}
 
 -- the level times the project's width
 abbrev pub edge : Values → ℤ

@@ -20,7 +20,8 @@ use Rattle.fx_effect.specs.declared.action.Context.{Context}
 use Rattle.fx_effect.specs.declared.action.Identity.TheVariants.{Same, No}
 use Rattle.fx_effect.specs.declared.values.Values.{Values}
 use Rattle.fx_trans.specs.Transitions.{level}
-use Rattle.fx_trans.specs.TransitionsLaws.{IsEnd, both_reads, both_there, both_near, both_rect, both_hold, from_connected, to_connected, end_of}
+use Rattle.fx_effect.specs.PairLaws.{both_reads, both_near, both_rect, both_hold}
+use Rattle.fx_trans.specs.TransitionsLaws.{IsEnd, both_there, from_connected, to_connected, end_of}
 use Rattle.fx_trans.specs.Wipe.{edge, shows_to, wiped, side_of, wipe_shape, wipe}
 
 -- ---- which clip a column shows
