@@ -2,7 +2,7 @@
 ghost use Rattle.std.specs.Prelude.{◌≡◌, ◌≤◌, ◌+◌, ℕ, pos, All, IfOk, OnOk, vec_len};
 ghost use Rattle.fx_image.specs.Image.{SameImage};
 ghost use Rattle.fx_image.specs.Stored.{image_of};
-ghost use Rattle.fx_life.specs.Seats.{HasLife};
+ghost use Rattle.fx_life.specs.Posts.{HasLife};
 ghost use Rattle.fx_scene.specs.Scenes.{images_in, picture};
 ghost use Rattle.fx_shipped.specs.Shipped.{meaning_of, number_of};
 ghost use Rattle.fx_tile.specs.Moments.{IsFree};

@@ -5,7 +5,7 @@ ghost use Rattle.fx_outside.specs.Outside.{SameFiles};
 ghost use Rattle.fx_seq.specs.Filling.{IsQuiet};
 ghost use Rattle.fx_scene.specs.Scenes.{graph_shown, images_in};
 ghost use Rattle.fx_shipped.specs.Shipped.{number_of};
-ghost use Rattle.fx_life.specs.Seats.{HasLife};
+ghost use Rattle.fx_life.specs.Posts.{HasLife};
 ghost use Rattle.fx_app.specs.Crews.{IsCrew};
 ghost use Rattle.fx_app.specs.Graphs.{frame_count};
 ghost use Rattle.fx_app.specs.Files.{file_name, file_text, with_file, HasGained};

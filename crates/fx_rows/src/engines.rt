@@ -2,7 +2,7 @@
 ghost use Rattle.std.specs.Prelude.{◌≡◌, ◌≤◌, ◌+◌, [], None, ℕ, All, IfOk, OnOk, length, vec_len};
 ghost use Rattle.fx_app.specs.Crews.{IsSpare};
 ghost use Rattle.fx_eval.specs.Flights.{IsIdle};
-ghost use Rattle.fx_life.specs.Seats.{HasLife};
+ghost use Rattle.fx_life.specs.Posts.{HasLife};
 ghost use Rattle.fx_shipped.specs.Shipped.{all, number_of};
 ghost use Rattle.fx_tile.specs.Moments.{IsFree};
 ghost use Rattle.fx_turn.specs.Seats.{all_parts};
