@@ -1,6 +1,7 @@
 -- What a graph keeps by its type, and the values that an effect is asked with.
-use Rattle.std.specs.Prelude.{◌≡◌, ◌<◌, ◌≤◌, ◌+◌, ℕ, ℤ, Bool, List, map, length, All, IsTrue, is_some, IfSome, Option, Some, slice_get, take}
+use Rattle.std.specs.Prelude.{◌≡◌, ◌<◌, ◌≤◌, ◌+◌, ◌-◌, ℕ, ℤ, Bool, List, map, length, All, IsTrue, is_some, IfSome, Option, Some, slice_get, take}
 use Rattle.std.specs.List.{AllZip, list_any}
+use Rattle.fx_base.specs.declared.limits.TheConstants.{MOST_NODES, MOST_FRAMES, LAST_FRAME}
 use Rattle.fx_base.specs.Bounds.{Bounds}
 use Rattle.fx_params.specs.declared.def.ParamDef.{ParamDef}
 use Rattle.fx_params.specs.Parameter.{Parameter, value_at, IsSound}
@@ -56,14 +57,14 @@ AreNodes {E} meaning project nodes =
 
 -- 1 to 1,024 nodes, of which one is rendered
 pub record HasOutput (count output : ℕ) : Type 0 where
-  pub few : count ≤ 1024
+  pub few : count ≤ MOST_NODES
   pub there : output < count
 
 -- frames from 0 to 999,999, at most 100,000 of them
 pub record IsRange (first last : ℕ) : Type 0 where
   pub order : first ≤ last
-  pub few : last ≤ first + 99999
-  pub end : last ≤ 999999
+  pub few : last ≤ first + (MOST_FRAMES - 1)
+  pub end : last ≤ LAST_FRAME
 
 -- the values of parameters and of clips at a frame
 abbrev pub use_values : Bounds → ℤ → List (Option ℕ) → List Parameter → Values

@@ -1,6 +1,7 @@
 //! From a raw graph to a graph, node by node.
 ghost use Rattle.std.specs.Prelude.{◌≡◌, ◌≤◌, ◌<◌, true, [], length, map, position, None, Some, Ok, IfOk, IfErr, OnOk, codes};
 ghost use Rattle.std.specs.Str.{bytes_eq};
+ghost use Rattle.fx_base.specs.declared.limits.TheConstants.{MOST_NODES};
 ghost use Rattle.fx_text.specs.Answers.{Refuses};
 ghost use Rattle.fx_text.specs.Nodes.{IsInRange};
 ghost use Rattle.fx_text.specs.declared.fault.GraphCode.TheVariants.{UnknownOutput};
@@ -73,11 +74,11 @@ fn accept_nodes<E: Catalogue + Drop>(
     project: (Depth, Components),
     raws: &[RawNode],
 ) -> Result<Vec<Node<E>>, GraphFault>
-    requires few { length raws.now ≤ 1024 }
+    requires few { length raws.now ≤ MOST_NODES }
     ensures ok { IfOk result (λ nodes. nodes_of E.find E.meaning project [] raws.now ≡ Ok (map shown nodes.items)) }
     ensures err { IfErr result (λ e. TellsErr (nodes_of E.find E.meaning project [] raws.now) e) }
     ensures kept { IfOk result (λ nodes. AreNodes E.meaning project (map shown nodes.items)) }
-    ensures few { IfOk result (λ nodes. length nodes.items ≤ 1024) }
+    ensures few { IfOk result (λ nodes. length nodes.items ≤ MOST_NODES) }
 {
     let mut places = BTreeMap::new(alloc);
     let mut nodes = Vec::new(alloc);
@@ -218,7 +219,7 @@ fn output_node<E: Catalogue + Drop>(
     nodes: &[Node<E>],
     name: &str,
 ) -> Result<u32, GraphFault>
-    requires { length nodes.now ≤ 1024 }
+    requires { length nodes.now ≤ MOST_NODES }
     ensures ok { IfOk result (λ output. place_of (names_of (map shown nodes.now)) name.now ≡ Some output) }
     ensures there { IfOk result (λ output. output < length nodes.now) }
     ensures err { let found = place_of (names_of (map shown nodes.now)) name.now in

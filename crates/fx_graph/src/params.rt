@@ -4,6 +4,7 @@ ghost use Rattle.std.specs.List.{find, list_any};
 ghost use Rattle.std.specs.Option.{option_copied, option_map, option_and_then};
 ghost use Rattle.std.specs.Str.{bytes_eq};
 ghost use Rattle.fx_graph.specs.Refusal.{Tells};
+ghost use Rattle.fx_base.specs.declared.limits.TheConstants.{LAST_FRAME};
 ghost use Rattle.fx_base.specs.Fix.{raw_of_text};
 ghost use Rattle.fx_params.specs.Value.{refusal as refused_by};
 ghost use Rattle.fx_params.specs.declared.def.ParamValue.TheVariants as value;
@@ -292,8 +293,8 @@ fn set_key(alloc: Global, param: &mut Param, key: &RawKey) -> Result<(), Memory>
 }
 
 fn put_key(alloc: Global, param: &mut Param, frame: i64, value: ParamValue) -> Result<(), Memory>
-    requires low { neg_ℤ (pos 999999) ≤ℤ frame }
-    requires high { frame ≤ℤ pos 999999 }
+    requires low { neg_ℤ (pos LAST_FRAME) ≤ℤ frame }
+    requires high { frame ≤ℤ pos LAST_FRAME }
     requires taken { refused_by param.old.def value ≡ None }
     ensures { OnOk result
         (param.new ≡ record param.old {
