@@ -11,7 +11,8 @@ use Rattle.fx_effect.specs.declared.action.Identity.TheVariants.{Same, No}
 use Rattle.fx_effect.specs.declared.values.Values.{Values}
 use Rattle.fx_kernel.specs.Samples.{nth, each}
 use Rattle.fx_kernel.specs.Blends.{mixed}
-use Rattle.fx_merge.specs.Merges.{required, merges_shape, both_regions}
+use Rattle.fx_effect.specs.Pairs.{both_regions}
+use Rattle.fx_merge.specs.Merges.{required, merges_shape}
 
 -- the mask may be left unconnected
 abbrev pub keymix_clips : List Clip

@@ -21,8 +21,9 @@ use Rattle.fx_kernel.specs.Samples.{nth, each}
 use Rattle.fx_kernel.specs.SampleLaws.{nth_bound, nth_clear, each_same, each_clear, each_is_pixel}
 use Rattle.fx_kernel.specs.Blends.{mixed}
 use Rattle.fx_kernel.specs.BlendLaws.{mixed_bound, mixed_zero}
-use Rattle.fx_merge.specs.Merges.{both_regions}
-use Rattle.fx_merge.specs.MergesLaws.{both_near, both_rect, both_hold_first, both_hold_second, first_connected}
+use Rattle.fx_effect.specs.Pairs.{both_regions}
+use Rattle.fx_effect.specs.PairLaws.{both_near, both_rect, both_hold_first, both_hold_second}
+use Rattle.fx_merge.specs.MergesLaws.{first_connected}
 use Rattle.fx_merge.specs.MergeLaws.{greatest_some, clear_components}
 use Rattle.fx_merge.specs.Keymix.{keyed, has_mask, keymix_shape, keymix}
 

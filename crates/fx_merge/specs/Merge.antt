@@ -15,7 +15,8 @@ use Rattle.fx_kernel.specs.Samples.{nth, each}
 use Rattle.fx_kernel.specs.Blends.{product}
 use Rattle.fx_merge.specs.declared.operation.Operation.{Operation}
 use Rattle.fx_merge.specs.declared.operation.Operation.TheVariants.{Over, Plus, Multiply, Screen, Min, Max, Minus}
-use Rattle.fx_merge.specs.Merges.{required, merges_shape, both_regions}
+use Rattle.fx_effect.specs.Pairs.{both_regions}
+use Rattle.fx_merge.specs.Merges.{required, merges_shape}
 
 -- a sample of A and one of B, where m is the greatest and alpha the a of A's pixel
 abbrev pub operated : Operation → ℕ → ℕ → ℕ → ℕ → ℕ

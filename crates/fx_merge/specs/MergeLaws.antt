@@ -30,8 +30,7 @@ use Rattle.fx_kernel.specs.Blends.{product}
 use Rattle.fx_kernel.specs.BlendLaws.{product_bound}
 use Rattle.fx_merge.specs.declared.operation.Operation.{Operation}
 use Rattle.fx_merge.specs.declared.operation.Operation.TheVariants.{Over, Plus, Multiply, Screen, Min, Max, Minus}
-use Rattle.fx_merge.specs.Merges.{both_regions}
-use Rattle.fx_merge.specs.MergesLaws.{read_here, both_near, both_rect, both_hold_first, both_hold_second}
+use Rattle.fx_effect.specs.PairLaws.{both_reads, read_here, both_near, both_rect, both_hold}
 use Rattle.fx_merge.specs.Merge.{operated, merged, operation_at, merge_shape, merge}
 
 -- ---- samples
@@ -118,27 +117,16 @@ merged_is_pixel operation depth c p q first second is =
 
 -- ---- its laws
 
-abbrev reads : Values → List Read
-reads v = (0, v.frame) ∷ (1, v.frame) ∷ []
-
 reads_there : (context : Context) (v : Values) → IsLawfulIn merge_shape context v
-    → All (IsRead (length v.connected) (default_spans v)) (reads v)
+    → All (IsRead (length v.connected) (default_spans v)) (both_reads v)
 reads_there context v lawful =
     let flags : length v.connected ≡ 2 = flag_for_each (merge_shape.clips context) v.connected lawful.connected in
-    All-from_recursion (IsRead (length v.connected) (default_spans v)) (reads v)
+    All-from_recursion (IsRead (length v.connected) (default_spans v)) (both_reads v)
     (read_here (length v.connected) 0 v (omega arith), (read_here (length v.connected) 1 v (omega arith), tt))
-
-region_holds : (v : Values) (regions : List Bounds) (r : Read) (x y : ℤ) → Contains (reads v) r
-    → Holds (region_of regions r.0) x y → Holds (both_regions regions) x y
-region_holds v regions r x y (zero, low, is) held =
-    both_hold_first regions x y (subst (λ (k : Read). Holds (region_of regions k.0) x y) (sym is) held)
-region_holds v regions r x y (suc zero, low, is) held =
-    both_hold_second regions x y (subst (λ (k : Read). Holds (region_of regions k.0) x y) (sym is) held)
-region_holds v regions r x y (suc (suc k), low, is) held = absurd (omega arith)
 
 pub merge_laws : Laws merge
 merge_laws =
-    local_laws merge reads (shape_is merge_shape refl) (record {
+    local_laws merge both_reads (shape_is merge_shape refl) (record {
       taps = λ v x y. refl;
       interest = λ v r clip. refl;
       reads_there = reads_there;
@@ -146,7 +134,7 @@ merge_laws =
       region_near = λ context v regions n lawful are up_to. both_near n v.project regions up_to;
       region_is_rect = λ context v regions lawful are. both_rect v regions are;
       whole = λ context v regions whole lawful are. absurd cc;
-      region_holds = λ context v regions r x y lawful are there held. region_holds v regions r x y there held;
+      region_holds = λ context v regions r x y lawful are there held. both_hold v regions r x y there held;
       zero_stays =
           λ context v depth c x y lawful supported. merged_zero (operation_at (number v 0)) (greatest depth) c
           (greatest_some depth);

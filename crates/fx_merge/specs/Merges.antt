@@ -1,10 +1,7 @@
 -- Effects that merge the clips A and B, in the general context alone.
 use Rattle.std.specs.Prelude.{ℕ, true, false, List, [], ◌∷◌}
-use Rattle.fx_base.specs.Bounds.{Bounds}
-use Rattle.fx_base.specs.Rect.{hull}
 use Rattle.fx_pixel.specs.declared.Depth.TheVariants as depths
 use Rattle.fx_pixel.specs.declared.Components.TheVariants as components
-use Rattle.fx_props.specs.Entries.{region_of}
 use Rattle.fx_params.specs.declared.def.ParamDef.{ParamDef}
 use Rattle.fx_effect.specs.Shape.{Clip, Shape}
 use Rattle.fx_effect.specs.declared.action.Context.TheVariants as context
@@ -27,7 +24,3 @@ merges_shape label clips params =
       clips = λ c. clips;
       params = λ c. params;
     }
-
--- the hull of the regions of A and B
-abbrev pub both_regions : List Bounds → Bounds
-both_regions regions = hull (region_of regions 0) (region_of regions 1)

@@ -1,52 +1,17 @@
--- What holds of the clips A and B, and of the hull of their regions.
-use Rattle.std.specs.Prelude.{◌≡◌, ◌<◌, ℕ, ◌+◌, ℤ, Bool, true, false, List, [], ◌∷◌, All, Some, slice_get, if◌then◌else◌, refl}
+-- What holds of the clips A and B, and that the default region is the hull of theirs.
+use Rattle.std.specs.Prelude.{◌≡◌, ℕ, Bool, true, false, List, [], ◌∷◌, Some, slice_get, if◌then◌else◌, refl}
 use Rattle.std.specs.List.{AllZip, Contains}
 use Rattle.std.proofs.Common.{zero, suc, ap, sym, arith}
-use Rattle.std.proofs.lemmas.Int.{ints}
-use Rattle.fx_base.specs.Bounds.{Bounds, IsRect, none}
-use Rattle.fx_base.specs.Rect.{Holds, IsUpTo, hull}
-use Rattle.fx_base.proofs.RectLaws.{IsRect-hull, IsUpTo-hull}
-use Rattle.fx_base.proofs.RectLemmas.{IsWithin-hull_first, IsWithin-hull_second}
-use Rattle.fx_props.specs.Entries.{region_of}
+use Rattle.fx_base.specs.Bounds.{Bounds, none}
+use Rattle.fx_base.specs.Rect.{hull}
 use Rattle.fx_effect.specs.Shape.{Clip, MayBe}
 use Rattle.fx_effect.specs.Asked.{IsWindow, AreRegions}
-use Rattle.fx_effect.specs.Default.{default_rod, default_spans, hull_from, has_required}
-use Rattle.fx_effect.specs.DefaultLaws.{region_near, region_is_rect}
-use Rattle.fx_effect.specs.Local.{IsRead}
+use Rattle.fx_effect.specs.Default.{default_rod, hull_from, has_required}
 use Rattle.fx_effect.specs.declared.action.Context.{Context}
 use Rattle.fx_effect.specs.declared.action.Context.TheVariants as context
 use Rattle.fx_effect.specs.declared.values.Values.{Values}
-use Rattle.fx_merge.specs.Merges.{required, both_regions}
-
--- a clip that is there, at the current frame
-pub read_here : (clips clip : ℕ) (v : Values) → clip < clips → IsRead clips (default_spans v) (clip, v.frame)
-read_here clips clip v low =
-    record {
-      there = low;
-      span = (v.frame, v.frame);
-      listed = (0, omega arith, refl);
-      at_frame = (omega (arith, ints), omega (arith, ints));
-    }
-
-pub both_near : (n : ℕ) (p : Bounds) (regions : List Bounds) → All (IsUpTo n) (p ∷ regions)
-    → IsUpTo (n + 32768) (both_regions regions)
-both_near n p regions up_to =
-    IsUpTo-hull (n + 32768) (region_of regions 0) (region_of regions 1)
-    (region_near n 0 p regions up_to) (region_near n 1 p regions up_to)
-
-pub both_rect : (v : Values) (regions : List Bounds) → AreRegions v regions → IsRect (both_regions regions)
-both_rect v regions are =
-    IsRect-hull (region_of regions 0) (region_of regions 1) (region_is_rect 0 v regions are)
-    (region_is_rect 1 v regions are)
-
--- the hull has what either region has
-pub both_hold_first : (regions : List Bounds) (x y : ℤ) → Holds (region_of regions 0) x y
-    → Holds (both_regions regions) x y
-both_hold_first regions x y held = IsWithin-hull_first (region_of regions 0) (region_of regions 1) x y held
-
-pub both_hold_second : (regions : List Bounds) (x y : ℤ) → Holds (region_of regions 1) x y
-    → Holds (both_regions regions) x y
-both_hold_second regions x y held = IsWithin-hull_second (region_of regions 0) (region_of regions 1) x y held
+use Rattle.fx_effect.specs.Pairs.{both_regions}
+use Rattle.fx_merge.specs.Merges.{required}
 
 -- no other context than the general one
 pub general_alone : (c : Context) → Contains (context.General ∷ []) c → c ≡ context.General
