@@ -110,6 +110,23 @@ met_less : (r s : ℕ) (m n : Made) → s ≤ r → Met r m n → Met s m n
 met_less r s m n low met =
     let enough = met.enough in record { dropped = met.dropped; landed = met.landed; hits = met.hits; enough = omega (arith, low, enough) }
 
+-- what was fetched once nothing had been asked before
+pub fetched_after : (r : ℕ) (l m n : Made) → IsUnasked l m → Fetched r m n → Fetched r l n
+fetched_after r l m n unasked fetched =
+    let a = unasked.landed in
+    let b = unasked.hits in
+    let x = fetched.landed in
+    let y = fetched.hits in
+    record {
+      dropped = fetched.dropped ∙ unasked.dropped;
+      landed = omega (arith, a, x);
+      hits = omega (arith, b, y);
+      way = elim (fetched.way) [
+        | inl p ↦ let p0 = p.0 in let p1 = p.1 in inl (omega (arith, a, p0), omega (arith, b, p1))
+        | inr p ↦ let p0 = p.0 in let p1 = p.1 in inr (omega (arith, a, p0), omega (arith, a, b, p1))
+      ];
+    }
+
 met_unasked : (r : ℕ) (l m n : Made) → Met r l m → IsUnasked m n → Met r l n
 met_unasked r l m n met un =
     let d1 = met.dropped in let d2 = un.dropped in

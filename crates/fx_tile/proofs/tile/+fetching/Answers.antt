@@ -11,13 +11,23 @@ use Rattle.fx_image.specs.Stored.{Stored}
 use Rattle.fx_directory.specs.Seats.{Made}
 use Rattle.fx_scene.specs.Sites.{scene_nodes}
 use Rattle.fx_region.specs.declared.ends.Need.{Need}
-use Rattle.fx_tile.specs.Counts.{one_if_some}
-use Rattle.fx_tile.specs.Setups.{EachTile, IsFound, IsTileOf, MayBeTileOf}
-use Rattle.fx_tile.proofs.FlightLemmas.{follows_more, joined, met_both, met_same, right_of}
+use Rattle.fx_tile.specs.Counts.{AskedOnce, one_if_some}
+use Rattle.fx_tile.specs.Setups.{EachTile, IsFound, IsTileOf, MayBeTileOf, renders_needed}
+use Rattle.fx_tile.proofs.FlightLemmas.{fetched_after, follows_more, joined, met_both, met_same, right_of}
 use Rattle.fx_tile.proofs.GatherLemmas.{gathers_early, gathers_now}
 use Rattle.fx_tile.proofs.PieceLemmas.{tiles_long, tiles_more}
 use Rattle.fx_tile.proofs.tile.+fetching.Goals as goal
 use Rattle.fx_tile.proofs.tile.+fetching.Goals.{gathered-in-Some, gathered-in-None+in_ok-tile-in-None}
+
+pub fetch-returns-in-Some-2-clause-fetched : goal.fetch-returns-in-Some-2-clause-fetched
+fetch-returns-in-Some-2-clause-fetched g t c =
+    let fits : SFits w64 c.args.frame = c.ranges.frame in
+    let r = renders_needed g.E.ImageEffect.meaning c.args.setup.now c.args.node c.args.frame c.args.region in
+    let now = c.loop.seat.directory.made in
+    let new = c.fetch_unless_busy.new.seat.directory.made in
+    let asked = simp to_z-of_z at c.in_ok-image.ensures.asked in
+    fetched_after r c.args.seat.now.directory.made now new c.loop.invariant.unasked
+    (subst (λ (found : Option (Arc Stored Global)). AskedOnce found r now new) c.in-Some-2.is asked)
 
 pub made-landed-requires-clause-right : goal.made-landed-requires-clause-right
 made-landed-requires-clause-right g t c =
