@@ -1,6 +1,6 @@
 -- The gate and the instance of an effect in its place of a graph.
 use Rattle.std.proofs.Common.{ℕ, ◌<◌, ◌≤◌, ◌+◌, length, ap, arith}
-use Rattle.fx_life.specs.Seats.{HasLife, Lives, Plays, used_by}
+use Rattle.fx_life.specs.Posts.{HasLife, Lives, Plays, used_by}
 use Rattle.fx_graph.specs.Shown.{GraphShown}
 use Rattle.fx_scene.specs.declared.site.EffectNode.{EffectNode}
 use Rattle.fx_scene.specs.Sites.{StandsIn}
@@ -15,4 +15,4 @@ module _ {E : Type 0} (g : GraphShown E) where
   pub has_instance : (number : E → ℕ) (life : Lives E) → HasLife number g life → (n : EffectNode E) → StandsIn g n
       → Plays number life n.place n.effect.now
   has_instance number life has n at =
-      has n.place at.node (record { effect = n.effect.now; context = n.context }) at.there (ap used_by at.does)
+      (has n.place at.node (record { effect = n.effect.now; context = n.context }) at.there (ap used_by at.does)).0

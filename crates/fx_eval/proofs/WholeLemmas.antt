@@ -20,9 +20,6 @@ use Rattle.fx_pixel.specs.Pixel.{convert, zero as zero_pixel}
 use Rattle.fx_pam.specs.Laws.{components_for}
 use Rattle.fx_image.specs.Image.{SameImage, pixel_at}
 use Rattle.fx_image.specs.Stored.{Stored, image_of, shown}
-use Rattle.fx_image.specs.declared.part.Part.{Part}
-use Rattle.fx_image.specs.Part.{IsWritten}
-use Rattle.fx_image.proofs.ImageLaws.{place_from}
 use Rattle.fx_effect.specs.Given.{Given, row_pixel}
 use Rattle.fx_effect.specs.Meaning.{Meaning, rendered}
 use Rattle.fx_effect.specs.declared.values.Values.{Values}
@@ -122,17 +119,6 @@ windows_whole nodes ok k o stands t ks given w adds sees area_is windows =
     }
 
 -- ---- images that are written
-
-pub written_filled : (s : Stored) (p q : Part) (f : ℤ → ℤ → Pixel) → p.image.now ≡ s → p.rect ≡ s.rect → IsWritten p q f
-    → IsFilled s q.image.now f
-written_filled s p q f is whole written =
-    let frame = written.0.2 in
-    record {
-      rect = frame.rect ∙ ap (λ (i : Stored). i.rect) is;
-      depth = frame.depth ∙ ap (λ (i : Stored). i.depth) is;
-      components = frame.components ∙ ap (λ (i : Stored). i.components) is;
-      pixels = λ x y inside. written.1.inside x y (rw whole inside) (rw whole (place_from s.rect x y inside).top);
-    }
 
 pub filled_window : (s t : Stored) (m : Meaning) (v : Values) (given : Given) (depth : Depth) (c : Components) (region : Bounds)
     → s.rect ≡ region → s.depth ≡ depth → s.components ≡ c → IsFilled s t (rendered m v given s.depth s.components)

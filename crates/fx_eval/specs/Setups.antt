@@ -2,7 +2,7 @@
 use Rattle.std.specs.Prelude.{◌≡◌, ◌≤◌, ◌+◌, ℕ, length, None}
 use Rattle.fx_effect.specs.Meaning.{Meaning}
 use Rattle.fx_gate.specs.Gates.{GateSeatState}
-use Rattle.fx_life.specs.Seats.{HasLife}
+use Rattle.fx_life.specs.Posts.{HasLife}
 use Rattle.fx_scene.specs.Nodes.{Nodes, AreNodes}
 use Rattle.fx_scene.specs.Scenes.{graph_shown}
 use Rattle.fx_scene.specs.Sites.{nodes_over}

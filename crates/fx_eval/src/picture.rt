@@ -8,7 +8,7 @@ ghost use Rattle.fx_effect.specs.Shape.{IsProject};
 ghost use Rattle.fx_effect.specs.Given.{row_pixel};
 ghost use Rattle.fx_scene.specs.Scenes.{graph_nodes, graph_shown, images_in, picture};
 ghost use Rattle.fx_life.specs.Filled.{IsFilled};
-ghost use Rattle.fx_life.specs.Seats.{HasLife};
+ghost use Rattle.fx_life.specs.Posts.{HasLife};
 ghost use Rattle.fx_eval.specs.Setups.{IsSetup, setup_nodes};
 ghost use Rattle.fx_eval.specs.Wholes.{AreWhole, IsMade};
 ghost use Rattle.fx_eval.specs.Flights.{IsIdle, Drops};

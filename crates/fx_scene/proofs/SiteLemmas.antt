@@ -208,17 +208,19 @@ module _ {E : Type 0} (meaning : E → Meaning) (g : GraphShown E) where
     pub may_render : (images : Images) → AreNodes (graph_nodes meaning g images) → (n : EffectNode E) → StandsIn g n
         → (v : Values) (given : Given) → v ≡ use_values g.project v.frame n.clips.now n.params.now → given.depth ≡ n.depth
         → given.components ≡ map (seen_in n.components) n.masks.now
-        → MayRender (meaning n.effect.now).shape v given n.depth n.components
+        → (may : MayRender (meaning n.effect.now).shape v given n.depth n.components) × (may.context ≡ n.context)
     may_render images are n at v given is depth components =
         let i = is_effect images are n at in
-        let s = (meaning n.effect.now).shape in
-        record {
-          context = n.context;
-          lawful = subst (λ (w : Values). IsLawfulIn s n.context w) (sym is) (i.lawful v.frame);
-          supported = i.supported;
-          depth_is = depth;
-          clips = components ∙ seen_shown s n.context n.components n.masks.now (is_use n at).masks_are;
-        }
+        let s = (meaning n.effect.now).shape in (
+          record {
+            context = n.context;
+            lawful = subst (λ (w : Values). IsLawfulIn s n.context w) (sym is) (i.lawful v.frame);
+            supported = i.supported;
+            depth_is = depth;
+            clips = components ∙ seen_shown s n.context n.components n.masks.now (is_use n at).masks_are;
+          },
+          refl,
+        )
 
     -- as many masks as clips
     pub masks_counted : (n : EffectNode E) → StandsIn g n → length n.masks.now ≡ length n.clips.now

@@ -26,7 +26,7 @@ use Rattle.fx_graph.specs.Kept.{use_values}
 use Rattle.fx_graph.specs.Nodes.{Form}
 use Rattle.fx_graph.specs.Shown.{GraphShown}
 use Rattle.fx_life.specs.Filled.{IsFilled}
-use Rattle.fx_life.specs.Seats.{HasLife, Lives, Plays, used_by}
+use Rattle.fx_life.specs.Posts.{HasLife, Lives, Plays, used_by}
 use Rattle.fx_scene.specs.Nodes.{AreNodes, Effect, EffectNode as Effects, IsEffectNode, IsNode, Node, Nodes, depth_at, node_components, node_depth, seen}
 use Rattle.fx_scene.specs.Scenes.{Images, graph_nodes}
 use Rattle.fx_scene.specs.Value.{Pixels, node_value, tap_value, value}
@@ -47,7 +47,7 @@ use Rattle.fx_tile.proofs.PieceLemmas.{pieces_pixel}
 pub has_instance : {E : Type 0} (g : GraphShown E) (number : E → ℕ) (life : Lives E) → HasLife number g life
     → (n : EffectNode E) → StandsIn g n → Plays number life n.place n.effect.now
 has_instance g number life has n at =
-    has n.place at.node (record { effect = n.effect.now; context = n.context }) at.there (ap used_by at.does)
+    (has n.place at.node (record { effect = n.effect.now; context = n.context }) at.there (ap used_by at.does)).0
 
 -- ---- windows that were rendered
 

@@ -6,7 +6,7 @@ use Rattle.fx_base.specs.Rect.{Holds, IsWithin}
 use Rattle.fx_image.specs.Image.{Image, pixel_at}
 use Rattle.fx_image.specs.Stored.{SameFrame, Stored, shown}
 use Rattle.fx_effect.specs.Meaning.{Meaning}
-use Rattle.fx_life.specs.Seats.{HasLife}
+use Rattle.fx_life.specs.Posts.{HasLife}
 use Rattle.fx_pam.specs.Laws.{components_for}
 use Rattle.fx_scene.specs.Scenes.{Shot, images_in, picture}
 use Rattle.fx_region.specs.Counts.{is_asked, is_passed, is_void, window_tiles}

@@ -14,7 +14,7 @@ use Rattle.fx_gate.specs.Gates.{GateSeatState}
 use Rattle.fx_scene.specs.declared.key.Key.{Key}
 use Rattle.fx_scene.specs.Areas.{area}
 use Rattle.fx_scene.specs.Nodes.{AreNodes, EffectNode, Effect, Nodes, Source, SourceFrames}
-use Rattle.fx_life.specs.Seats.{HasLife}
+use Rattle.fx_life.specs.Posts.{HasLife}
 use Rattle.fx_scene.specs.Scenes.{Shot, graph_shown, node_values}
 use Rattle.fx_region.specs.declared.ends.End.{End}
 use Rattle.fx_region.specs.declared.ends.End.TheVariants as code

@@ -4,7 +4,7 @@ ghost use Rattle.fx_base.specs.declared.limits.TheConstants.{LAST_FRAME};
 ghost use Rattle.fx_image.specs.Image.{SameImage};
 ghost use Rattle.fx_effect.specs.Shape.{IsProject};
 ghost use Rattle.fx_image.specs.Stored.{SameFrame, image_of};
-ghost use Rattle.fx_life.specs.Seats.{HasLife};
+ghost use Rattle.fx_life.specs.Posts.{HasLife};
 ghost use Rattle.fx_pool.specs.Weights.{plus, weigh};
 ghost use Rattle.fx_region.specs.Counts.{window_ends, window_tiles};
 ghost use Rattle.fx_scene.specs.Sites.{scene_nodes};

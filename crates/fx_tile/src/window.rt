@@ -11,7 +11,7 @@ ghost use Rattle.fx_scene.specs.Sites.{scene_nodes};
 ghost use Rattle.fx_region.specs.Tables.{AreRegions};
 ghost use Rattle.fx_scene.specs.Scenes.{images_in, picture};
 ghost use Rattle.fx_tile.specs.Counts.{CountsEnd, CountsRises};
-ghost use Rattle.fx_life.specs.Seats.{HasLife};
+ghost use Rattle.fx_life.specs.Posts.{HasLife};
 ghost use Rattle.fx_tile.specs.Setups.{IsReady, IsSeat, IsSetup, IsTileOf, KeepsSeat, end_renders};
 ghost use Rattle.fx_tile.specs.Tiles.{IsRegion};
 

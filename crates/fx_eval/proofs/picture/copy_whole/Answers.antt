@@ -4,7 +4,7 @@ use mir.Val.{SFits}
 use Rattle.fx_effect.specs.Given.{row_pixel}
 use Rattle.fx_image.specs.Stored.{Stored}
 use Rattle.fx_life.specs.Filled.{IsFilled}
-use Rattle.fx_eval.proofs.WholeLemmas.{written_filled}
+use Rattle.fx_life.proofs.Filling.{written_filled}
 use Rattle.fx_eval.proofs.picture.copy_whole.Goals as goal
 
 pub returns : goal.returns

@@ -10,7 +10,7 @@ use Rattle.fx_scene.specs.Scenes.{graph_nodes, graph_shown, images_in, no_images
 use Rattle.fx_scene.proofs.NodesLemmas.{are_nodes}
 use Rattle.fx_scene.proofs.StoreLemmas.{store_images}
 use Rattle.fx_scene.specs.Reach.{has}
-use Rattle.fx_life.specs.Seats.{HasLife}
+use Rattle.fx_life.specs.Posts.{HasLife}
 use Rattle.fx_eval.specs.Renders.{HasRendered}
 use Rattle.fx_eval.proofs.FlightLemmas.{drops_none, on_err}
 use Rattle.fx_eval.proofs.OrderLemmas.{reach_order, reads_same, unread_output}

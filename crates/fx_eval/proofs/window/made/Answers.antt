@@ -1,4 +1,4 @@
-use Rattle.std.proofs.Common.{◌≡◌, ◌≤◌, ◌*◌, sym, subst, rules, arith}
+use Rattle.std.proofs.Common.{◌≡◌, ◌≤◌, ◌*◌, ap, sym, subst, rules, arith}
 use Rattle.std.proofs.Math.Nat.{mul-le-mul_right}
 use Rattle.std.proofs.lemmas.Int.{ints}
 use Rattle.fx_base.specs.Rect.{rows}
@@ -6,6 +6,8 @@ use Rattle.fx_image.specs.Stored.{Stored}
 use Rattle.fx_scene.specs.Scenes.{graph_shown, images_in}
 use Rattle.fx_scene.specs.Windows.{IsWindowOf}
 use Rattle.fx_scene.proofs.SiteLemmas.{is_effect, may_render}
+use Rattle.fx_life.specs.Posts.{used_by}
+use Rattle.fx_life.proofs.LifeLemmas.{may_play}
 use Rattle.fx_eval.proofs.EffectLemmas.{has_gate, has_instance}
 use Rattle.fx_eval.proofs.WholeLemmas.{filled_window}
 use Rattle.fx_eval.proofs.window.made.Goals as goal
@@ -42,12 +44,12 @@ render_image-requires-clause-may g c =
     let shown = graph_shown graph in
     let depth : c.in_ok-image.image.depth ≡ node.depth = search rules in
     let samples : c.in_ok-image.image.components ≡ node.components = search rules in
-    rw (depth, samples) (record {
-      effect = node.effect.now;
-      plays = has_instance shown g.E.Catalogue.number_of setup.life.now c.requires.setup.life node c.requires.asked.there;
-      may = may_render g.E.ImageEffect.meaning shown (graph.depth, graph.components) graph.kept (images_in setup.store.now) c.requires.setup.nodes node c.requires.asked.there
-          c.args.values.now c.args.inputs.now c.requires.asked.values c.requires.asked.depth c.requires.asked.components;
-    })
+    let m = g.E.ImageEffect.meaning in
+    let at = c.requires.asked.there in
+    rw (depth, samples) (may_play g.E.Catalogue.number_of m shown setup.life.now c.requires.setup.life node.place at.node
+    (record { effect = node.effect.now; context = node.context }) at.there (ap used_by at.does) c.args.values.now c.args.inputs.now node.depth node.components
+    (may_render m shown (graph.depth, graph.components) graph.kept (images_in setup.store.now) c.requires.setup.nodes node at
+    c.args.values.now c.args.inputs.now c.requires.asked.values c.requires.asked.depth c.requires.asked.components))
 
 pub returns-clause-window : goal.returns-clause-window
 returns-clause-window g c =

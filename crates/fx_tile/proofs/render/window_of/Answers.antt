@@ -4,7 +4,8 @@ use Rattle.std.proofs.lemmas.List.{length-map}
 use Rattle.fx_graph.specs.Shown.{GraphShown, shown}
 use Rattle.fx_scene.specs.Nodes.{AreNodes}
 use Rattle.fx_scene.specs.Scenes.{graph_nodes, graph_shown, images_in}
-use Rattle.fx_life.specs.Seats.{HasLife}
+use Rattle.fx_life.specs.Posts.{HasLife, used_by}
+use Rattle.fx_life.proofs.LifeLemmas.{may_play}
 use Rattle.fx_scene.proofs.SiteLemmas.{may_render, place_below}
 use Rattle.fx_tile.proofs.RenderLemmas.{filled_window, has_instance}
 use Rattle.fx_tile.proofs.render.window_of.Goals as goal
@@ -42,12 +43,11 @@ render_image-requires-clause-may g c =
     let samples : c.in_ok-image.image.components ≡ node.components = search rules in
     let life = subst (λ (h : GraphShown _). HasLife g.E.Catalogue.number_of h setup.life.now) of.graph of.life in
     let nodes = subst (λ (h : GraphShown _). AreNodes (graph_nodes m h (images_in setup.scene.now.store))) of.graph of.nodes in
-    rw (depth, samples) (record {
-      effect = node.effect.now;
-      plays = has_instance shown g.E.Catalogue.number_of setup.life.now life node c.requires.asked.there;
-      may = may_render m shown (graph.depth, graph.components) graph.kept (images_in setup.scene.now.store) nodes node c.requires.asked.there
-          c.args.values.now c.args.inputs.now c.requires.asked.values c.requires.asked.depth c.requires.asked.components;
-    })
+    let at = c.requires.asked.there in
+    rw (depth, samples) (may_play g.E.Catalogue.number_of m shown setup.life.now life node.place at.node
+    (record { effect = node.effect.now; context = node.context }) at.there (ap used_by at.does) c.args.values.now c.args.inputs.now node.depth node.components
+    (may_render m shown (graph.depth, graph.components) graph.kept (images_in setup.scene.now.store) nodes node at
+    c.args.values.now c.args.inputs.now c.requires.asked.values c.requires.asked.depth c.requires.asked.components))
 
 pub returns-clause-window : goal.returns-clause-window
 returns-clause-window g c =
