@@ -186,5 +186,6 @@ fn write_text<R: Threads + Wait + Clock + Sync, P: Pace>(
 {
     let image = crew.picture(rt, alloc, pace, scene, life, number)?;
     text.clear();
-    write(alloc, &image, scene.graph().format, text)
+    write(alloc, &image, scene.graph().format, text)?;
+    Ok(())
 }

@@ -17,11 +17,11 @@ text_as bytes format other image shown text is same =
 
 pub returns-clause-text : goal.returns-clause-text
 unfolding file_text
-returns-clause-text g c = λ done.
+returns-clause-text g c =
     let h : Graph = c.args.scene.now.graph in
     let image = image_of c.in_ok-image.image in
     let format = c.graph.result.now.format in
     let text : c.write.new.out.items ≡ pam_text format image =
-    c.write.ensures.ok done ∙ ap (λ bytes. bytes ++ pam_text format image) c.clear.ensures in
+    c.in_ok-write.ensures.ok ∙ ap (λ bytes. bytes ++ pam_text format image) c.clear.ensures.items in
     text_as c.write.new.out.items format h.format image (picture meaning_of h (images_in c.args.scene.now.store) (pos c.args.number))
     text (ap (λ (s : Graph). s.format) c.graph.ensures.shown) c.in_ok-image.ensures.picture
