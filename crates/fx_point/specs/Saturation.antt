@@ -1,5 +1,5 @@
 -- The effect saturation: each of r, g and b moves away from the pixel's luma, or toward it; a is kept.
-use Rattle.std.specs.Prelude.{ℕ, ◌+◌, ◌*◌, ◌/◌, min, ℤ, pos, negsuc, ◌+ℤ◌, ◌-ℤ◌, ◌*ℤ◌, List, [], ◌∷◌, codes, false}
+use Rattle.std.specs.Prelude.{ℕ, ◌+◌, ◌*◌, ◌/◌, ℤ, pos, ◌+ℤ◌, ◌-ℤ◌, ◌*ℤ◌, List, [], ◌∷◌, codes, false}
 use Rattle.std.specs.Int.{int_div_euclid}
 use Rattle.std.specs.Ordering.{int_eq}
 use Rattle.fx_pixel.specs.declared.Depth.TheVariants as depths
@@ -13,16 +13,12 @@ use Rattle.fx_effect.specs.Numbers.{number}
 use Rattle.fx_effect.specs.Meaning.{Meaning}
 use Rattle.fx_effect.specs.Source.{source_shape, point_effect}
 use Rattle.fx_effect.specs.declared.action.Safety.TheVariants.{FullySafe}
+use Rattle.fx_kernel.specs.Samples.{clamped}
 use Rattle.fx_point.specs.Colours.{source_where}
 
 -- 0.2126 r + 0.7152 g + 0.0722 b, to the nearest and halves up
 abbrev pub luma : ℕ → ℕ → ℕ → ℕ
 luma r g b = (r * 2126 + g * 7152 + b * 722 + 5000) / 10000
-
--- brought into 0 to m
-abbrev pub clamped : ℕ → ℤ → ℕ
-clamped m (pos n) = min m n
-clamped m (negsuc n) = 0
 
 -- the luma l, and k units of 1/65536 of the way from it to c. `int_div_euclid` by a positive number is the floor.
 abbrev pub saturated : ℕ → ℤ → ℕ → ℕ → ℕ

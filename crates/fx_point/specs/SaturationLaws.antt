@@ -15,12 +15,10 @@ use Rattle.fx_pixel.specs.Pixel.{greatest, zero as clear, IsOfDepth, components_
 use Rattle.fx_effect.specs.Numbers.{number}
 use Rattle.fx_effect.specs.Laws.{Laws}
 use Rattle.fx_effect.specs.ShapeTests.{shape_is}
+use Rattle.fx_kernel.specs.Samples.{clamped}
+use Rattle.fx_kernel.specs.SampleLaws.{clamped_few}
 use Rattle.fx_point.specs.Colours.{source_laws}
-use Rattle.fx_point.specs.Saturation.{luma, clamped, saturated, saturated_pixel, saturation_params, saturation_shape, saturation}
-
-clamped_bound : (m : ℕ) (z : ℤ) → clamped m z ≤ m
-clamped_bound m (pos n) = omega arith
-clamped_bound m (negsuc n) = omega arith
+use Rattle.fx_point.specs.Saturation.{luma, saturated, saturated_pixel, saturation_params, saturation_shape, saturation}
 
 -- the floor of a whole number
 whole_is : (z : ℤ) → int_div_euclid (z *ℤ pos 65536) (pos 65536) ≡ z
@@ -58,7 +56,7 @@ saturated_zero m k =
 saturated_of_depth : (k : ℤ) (depth : Depth) (p : Pixel) → IsOfDepth depth p
     → IsOfDepth depth (saturated_pixel k (greatest depth) p)
 saturated_of_depth k depth (Rgba r g b a) is =
-    let bound = clamped_bound (greatest depth) in
+    let bound = clamped_few (greatest depth) in
     (bound _, bound _, bound _, is.3)
 saturated_of_depth k depth (Alpha a) is = is
 

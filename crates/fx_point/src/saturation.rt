@@ -2,7 +2,8 @@
 ghost use Rattle.std.specs.Prelude.{◌≡◌, ◌≤◌, ◌≤ℤ◌, ◌*ℤ◌, pos, negsuc};
 ghost use Rattle.std.specs.Int.{int_div_euclid};
 ghost use Rattle.fx_pixel.specs.Pixel.{greatest};
-ghost use Rattle.fx_point.specs.Saturation.{saturation, luma, clamped, saturated, saturated_pixel};
+ghost use Rattle.fx_point.specs.Saturation.{saturation, luma, saturated, saturated_pixel};
+ghost use Rattle.fx_kernel.specs.Samples.{clamped};
 ghost use Rattle.fx_point.specs.SaturationLaws.{saturation_laws};
 
 use crate::filter::describe;
