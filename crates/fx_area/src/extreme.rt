@@ -12,7 +12,7 @@ ghost use Rattle.fx_area.specs.Extreme.{pick};
 ghost use Rattle.fx_area.specs.Erode.{radius as radius_of};
 ghost use Rattle.fx_area.specs.Gathered.{AreGathered, ArePicked, IsProperArea, ShowsArea, IsCopied, area_pixel, extreme_pixel};
 
-use crate::lines::{Line, read_line};
+use crate::lines::{Line, lend_line};
 use fx_base::{Memory, Rect, offset};
 use fx_effect::{Inputs, RowKernel, Values, fill_with};
 use fx_image::Part;
@@ -136,9 +136,9 @@ fn fill_area(
     for j in 0..offset(area.y1, area.y2) {
         let y = bottom + j as i64;
         let count = width;
-        let pixels = Line { frame, x, y, count };
-        read_line(inputs, depth, components, pixels, line);
-        copy_pixels(depth, components, line, bytes, j * width, width);
+        let place = Line { frame, x, y, count };
+        let pixels = lend_line(&*inputs, depth, components, place, line);
+        copy_pixels(depth, components, pixels, bytes, j * width, width);
     }
 }
 

@@ -34,8 +34,8 @@ overflow_add-y c =
     let is : to_z w64 j ≡ pos j = omega (arith, ints, less, (sides_of c.args.area c.requires.area).few_rows) in
     rw is (fits_far (y +ℤ pos j) (omega (arith, ints, far.0)) (omega (arith, ints, far.1)))
 
-pub read_line-requires-clause-place : goal.read_line-requires-clause-place
-read_line-requires-clause-place c =
+pub lend_line-pixels-requires-clause-place : goal.lend_line-pixels-requires-clause-place
+lend_line-pixels-requires-clause-place c =
     let inv = c.loop-j.invariant in
     let j = c.loop-j.j in
     let area = c.requires.area in
@@ -50,12 +50,12 @@ read_line-requires-clause-place c =
       (omega (arith, ints, level, far.0), omega (arith, ints, level, far.1)),
     )
 
-pub read_line-requires-clause-some : goal.read_line-requires-clause-some
-read_line-requires-clause-some c =
+pub lend_line-pixels-requires-clause-some : goal.lend_line-pixels-requires-clause-some
+lend_line-pixels-requires-clause-some c =
     omega (arith, c.loop-j.invariant.wide_is, (sides_of c.args.area c.requires.area).some_columns)
 
-pub read_line-requires-clause-few : goal.read_line-requires-clause-few
-read_line-requires-clause-few c =
+pub lend_line-pixels-requires-clause-few : goal.lend_line-pixels-requires-clause-few
+lend_line-pixels-requires-clause-few c =
     omega (arith, c.loop-j.invariant.wide_is, (sides_of c.args.area c.requires.area).few_columns)
 
 pub overflow_mul-j : goal.overflow_mul-j
@@ -95,8 +95,8 @@ loop-j-preserved c =
       shows =
           area_more c.args.inputs.now (to_z w64 (of_z w64 c.args.frame)) c.args.depth c.args.components c.args.area
           c.offset-width.result j
-          c.read_line.new.row c.loop-j.bytes c.copy_pixels.new.row inv.wide_is inv.shows
-          (λ i low. c.read_line.ensures i low ∙ rw (when, level, inv.left_is) refl) c.copy_pixels.ensures.copied
+          c.lend_line-pixels.result.now c.loop-j.bytes c.copy_pixels.new.row inv.wide_is inv.shows
+          (λ i low. c.lend_line-pixels.ensures.pixels i low ∙ rw (when, level, inv.left_is) refl) c.copy_pixels.ensures.copied
           c.copy_pixels.ensures.others;
     }
 
