@@ -1,5 +1,5 @@
 //! Rows worked by hand: values between keys, refusals, and each call once with ample memory.
-ghost use Rattle.std.specs.Prelude.{◌<◌, ◌≤ℤ◌, pos, IfOk};
+ghost use Rattle.std.specs.Prelude.{◌≤ℤ◌, pos, IfOk};
 
 use crate::same::{same, same_at};
 use fx_base::{Fix, Name, Names};
@@ -44,12 +44,11 @@ fn divided(alloc: Global, def: ParamDef, value: i64, by: u32) -> Result<(i64, i6
     requires low { def.least ≤ℤ def.start }
     requires high { def.start ≤ℤ def.greatest }
     requires top { pos 0 ≤ℤ def.greatest }
-    requires some { 0 < by }
 {
     let mut param = Param::new(alloc, def)?;
     param.set_value(ParamValue::Int(value))?;
     param.set_key(alloc, 3, ParamValue::Int(value))?;
-    param.divide(by);
+    param.divide(by.max(1));
     Ok((param.plain(), param.value_at(3)))
 }
 

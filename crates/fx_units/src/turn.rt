@@ -225,7 +225,7 @@ impl Clock for Sleeps {
     fn sleep(&self, duration: Duration) {
         self.count.fetch_add(1, Ordering::SeqCst);
         self.last
-            .store(duration.as_micros() as u64, Ordering::SeqCst);
+            .store(u64::from(duration.subsec_micros()), Ordering::SeqCst);
     }
 }
 
