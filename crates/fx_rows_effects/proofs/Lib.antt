@@ -1,1 +1,2 @@
 mod SmallWindows
+mod Renders

@@ -1,5 +1,5 @@
 //! One effect through all its actions: what it describes, what it answers, and what it renders.
-ghost use Rattle.std.specs.Prelude.{◌≡◌, ◌≢◌, ◌<◌, [], ◌∷◌, IsTrue, IfOk, IfSome, length, slice_get};
+ghost use Rattle.std.specs.Prelude.{◌≡◌, ◌≢◌, ◌<◌, [], ◌∷◌, IsTrue, IfOk, IfSome, Some, length, slice_get};
 ghost use Rattle.std.specs.List.{Contains};
 ghost use Rattle.fx_base.specs.Bounds.{none};
 ghost use Rattle.fx_base.specs.Rect.{IsFrame};
@@ -7,8 +7,9 @@ ghost use Rattle.fx_image.specs.Part.{IsPart, SamePart};
 ghost use Rattle.fx_pixel.specs.Pixel.{IsOfDepth, components_of};
 ghost use Rattle.fx_pixel.specs.declared.Depth.TheVariants.{Byte, Short};
 ghost use Rattle.fx_pixel.specs.declared.Components.TheVariants.{Rgba};
-ghost use Rattle.fx_effect.specs.Shape.{IsLawful, IsLawfulIn, clip_names, optional_flags, shown_components, supports};
-ghost use Rattle.fx_effect.specs.Asked.{AreRegions, IsWindow, MayRender};
+ghost use Rattle.fx_effect.specs.Shape.{IsLawfulIn, clip_names, optional_flags, shown_components, supports};
+ghost use Rattle.fx_effect.specs.Asked.{AreRegions, IsWindow};
+ghost use Rattle.fx_life.specs.Plugin.{MayRenderIn, Rendering};
 ghost use Rattle.fx_shipped.specs.Shipped.{meaning_of};
 ghost use Rattle.fx_rows_effects.specs.Asked.{IsSmallWindow};
 
@@ -425,10 +426,10 @@ fn second_renders<R: Wait + Clock>(
     requires second { IfSome (slice_get running.now.sequences 1) (λ s. s.node ≡ 4) }
     requires part { IsPart part.old }
     requires window { part.old.rect ≢ none }
-    requires lawful { IsLawful (meaning_of running.now.effect).shape values.now }
     requires frame { IsFrame values.now.frame }
-    requires may { let image = part.old.image.now in
-        MayRender (meaning_of running.now.effect).shape values.now inputs.now image.depth image.components }
+    requires may { let image = part.old.image.now in let shape = (meaning_of running.now.effect).shape in
+        (s : Rendering) → slice_get running.now.sequences 1 ≡ Some s
+        → MayRenderIn s.context shape values.now inputs.now image.depth image.components }
     ensures { SamePart part.old part.new }
 {
     let (gates, mut seat) = Gates::new(alloc, 69)?;

@@ -26,3 +26,5 @@ mod same;
 mod times;
 #[cfg(test)]
 mod toy;
+#[cfg(test)]
+mod toys;

@@ -1,16 +1,21 @@
 //! The order in which actions come to an effect, and the gates of its instances.
-ghost use Rattle.std.specs.Prelude.{◌≡◌, ◌<◌, ◌^◌};
+ghost use Rattle.std.specs.Prelude.{◌≡◌, ◌<◌, ◌^◌, pos};
+ghost use Rattle.fx_effect.specs.Shape.{IsLawfulIn};
 ghost use Rattle.fx_effect.specs.declared.action.Context.TheVariants as context;
+ghost use Rattle.fx_rows_effects.specs.Toy.{toy_shape};
 
 use crate::same::same;
 use crate::toy::Toy;
-use fx_base::{Memory, Rect};
+use crate::toys::Toys;
+use fx_actions::{frames_needed, identity, region_of_definition, regions_of_interest};
+use fx_base::{Memory, Names, Rect};
 use fx_core::Ticket;
-use fx_effect::{Catalogue, Context, Flags, Inputs, Numbers, Values};
+use fx_effect::{Catalogue, Context, Flags, ImageEffect, Inputs, Numbers, Values, window_args};
 use fx_gate::Gates;
 use fx_image::Image;
 use fx_life::{Loaded, Running, Use};
 use fx_pixel::{Components, Depth, Pixel};
+use fx_props::PropSet;
 use fx_shipped::Shipped;
 use std::alloc::Global;
 use std::rt::Clock;
@@ -41,23 +46,47 @@ fn used_by(node: u32) -> Use
     }
 }
 
+// A toy that notes the actions of its life.
+fn noting(notes: &AtomicU64) -> Toys<'_> {
+    Toys::One(Toy {
+        notes: Some(notes),
+        counts: None,
+    })
+}
+
+// A toy that counts its actions.
+fn counting(counts: &AtomicU64) -> Toy<'_> {
+    Toy {
+        notes: None,
+        counts: Some(counts),
+    }
+}
+
+// What a toy is asked with, at frame 4 of a project of 3 by 2 pixels.
+fn plain_values(alloc: Global) -> Values
+    ensures frame { result.frame ≡ pos 4 }
+    ensures lawful { IsLawfulIn toy_shape context.Generator result }
+{
+    Values {
+        frame: 4,
+        numbers: Numbers::of(Vec::new(alloc)),
+        connected: Flags::of(Vec::new(alloc)),
+        project: Rect::of(0, 0, 3, 2),
+    }
+}
+
 // Of a picture of 3 by 2 pixels that has two grey ones, an instance renders the two right columns, under a hold of the
 // effect's gate.
 fn one_renders<R: Wait + Clock>(
     rt: &R,
     alloc: Global,
-    effect: Toy<'_>,
+    effect: Toys<'_>,
 ) -> Result<(Image, bool), Memory> {
     let (byte, rgba) = (Depth::Byte, Components::Rgba);
     let mut image = Image::new(alloc, Rect::of(0, 0, 3, 2), byte, rgba, 12)?;
     image.put(0, 1, GREY);
     image.put(2, 0, GREY);
-    let values = Values {
-        frame: 4,
-        numbers: Numbers::of(Vec::new(alloc)),
-        connected: Flags::of(Vec::new(alloc)),
-        project: Rect::of(0, 0, 3, 2),
-    };
+    let values = plain_values(alloc);
     let inputs = Inputs::new(alloc, byte, Vec::new(alloc))?;
     let (gates, mut seat) = Gates::new(alloc, 4)?;
     let running = Running::start(alloc, effect, &[used_by(8)], 4, 9)?;
@@ -91,10 +120,7 @@ fn one_renders<R: Wait + Clock>(
 #[test]
 fn actions_come_in_order(rt: HostRuntime) -> Result<(), Fail> {
     let notes = AtomicU64::new(0);
-    let effect = Toy {
-        notes: Some(&notes),
-    };
-    let (image, stamped) = one_renders(&rt, rt.alloc(), effect)?;
+    let (image, stamped) = one_renders(&rt, rt.alloc(), noting(&notes))?;
     // loaded, described, and in its context; created; begun from 4 to 9; rendered; ended; destroyed; unloaded
     same(&rt, notes.load(Ordering::SeqCst), 1234549674989);
     assert!(rt; stamped);
@@ -107,10 +133,7 @@ fn actions_come_in_order(rt: HostRuntime) -> Result<(), Fail> {
 #[test]
 fn instances_stand_before_sequences_begin(rt: HostRuntime) -> Result<(), Fail> {
     let notes = AtomicU64::new(0);
-    let effect = Toy {
-        notes: Some(&notes),
-    };
-    Running::start(rt.alloc(), effect, &[used_by(8), used_by(9)], 4, 9)?.finish();
+    Running::start(rt.alloc(), noting(&notes), &[used_by(8), used_by(9)], 4, 9)?.finish();
     // Both are created, both begin; both end, both are destroyed.
     same(&rt, notes.load(Ordering::SeqCst), 12344549549749749889);
     Ok(())
@@ -119,12 +142,42 @@ fn instances_stand_before_sequences_begin(rt: HostRuntime) -> Result<(), Fail> {
 #[test]
 fn an_effect_without_instances_is_described(rt: HostRuntime) -> Result<(), Fail> {
     let notes = AtomicU64::new(0);
-    let effect = Toy {
-        notes: Some(&notes),
-    };
-    Running::start(rt.alloc(), effect, &[], 4, 9)?.finish();
+    Running::start(rt.alloc(), noting(&notes), &[], 4, 9)?.finish();
     // loaded, described, unloaded
     same(&rt, notes.load(Ordering::SeqCst), 129);
+    Ok(())
+}
+
+// Asks for all actions, each once: in the life of an instance that renders once, by the host's own questions, and
+// for the clips' preferences, which the host never changes.
+fn ask_each<R: Wait + Clock>(rt: &R, alloc: Global, effect: Toys<'_>) -> Result<(), Memory> {
+    one_renders(rt, alloc, effect)?;
+    ask_regions(alloc, effect)?;
+    let values = plain_values(alloc);
+    let mut preferences = PropSet::new(alloc, Vec::new(alloc))?;
+    effect.get_clip_preferences(alloc, &values, &mut preferences)?;
+    Ok(())
+}
+
+fn ask_regions(alloc: Global, effect: Toys<'_>) -> Result<(), Memory> {
+    let values = plain_values(alloc);
+    let window = Rect::of(0, 0, 3, 2);
+    let (names, optional) = (Names::of(Vec::new(alloc)), Flags::of(Vec::new(alloc)));
+    identity(&effect, &values, &window_args(alloc, 4, window)?);
+    frames_needed(alloc, &effect, &names, &values)?;
+    regions_of_interest(alloc, &effect, &names, &values, window)?;
+    region_of_definition(alloc, &effect, Context::Generator, &optional, &values, &[])?;
+    Ok(())
+}
+
+#[test]
+fn each_action_reaches_its_effect(rt: HostRuntime) -> Result<(), Fail> {
+    let (first, second) = (AtomicU64::new(0), AtomicU64::new(0));
+    ask_each(&rt, rt.alloc(), Toys::One(counting(&first)))?;
+    ask_each(&rt, rt.alloc(), Toys::Other(counting(&second)))?;
+    // Each of the fourteen came once.
+    same(&rt, first.load(Ordering::SeqCst), 0x11_1111_1111_1111);
+    same(&rt, second.load(Ordering::SeqCst), 0x11_1111_1111_1111);
     Ok(())
 }
 
@@ -155,9 +208,9 @@ fn gate_of<E: Catalogue + Drop>(alloc: Global, name: &str, node: u32) -> Result<
 #[test]
 fn gates_are_the_plugins_or_the_instances(rt: HostRuntime) -> Result<(), Fail> {
     let alloc = rt.alloc();
-    same(&rt, gate_of::<Toy<'_>>(alloc, "toy", 0)?, Some(3));
-    same(&rt, gate_of::<Toy<'_>>(alloc, "toy", 9)?, Some(3));
-    same(&rt, gate_of::<Toy<'_>>(alloc, "nobody", 9)?, None);
+    same(&rt, gate_of::<Toys<'_>>(alloc, "toy", 0)?, Some(3));
+    same(&rt, gate_of::<Toys<'_>>(alloc, "toy", 9)?, Some(3));
+    same(&rt, gate_of::<Toys<'_>>(alloc, "nobody", 9)?, None);
     // The number of an unsafe effect, and 64 plus the node of one whose instances are safe.
     same(&rt, gate_of::<Shipped>(alloc, "frameblend", 9)?, Some(19));
     same(&rt, gate_of::<Shipped>(alloc, "boxblur", 9)?, Some(73));

@@ -1,14 +1,13 @@
-//! An effect of the tests, which notes the actions that come to it.
-ghost use Rattle.std.specs.Prelude.{◌≡◌, Some, None, codes, if◌then◌else◌, refl};
-ghost use Rattle.std.specs.Str.{bytes_eq};
+//! An effect of the tests, which notes and counts the actions that come to it.
+ghost use Rattle.std.specs.Prelude.{◌<◌};
 ghost use Rattle.fx_pixel.specs.Pixel.{zero};
-ghost use Rattle.fx_rows_effects.specs.Toy.{toy, toy_laws, few_toys};
+ghost use Rattle.fx_rows_effects.specs.Toy.{toy, toy_laws};
 
 use fx_base::{Fix, Memory, Rect};
 use fx_core::Ticket;
 use fx_effect::{
-    Catalogue, Context, Description, Identity, ImageEffect, Inputs, PlaceKernel, Reply, Safety,
-    Values, fill_places,
+    Context, Description, Identity, ImageEffect, Inputs, PlaceKernel, Reply, Safety, Values,
+    fill_places,
 };
 use fx_gate::Hold;
 use fx_image::Part;
@@ -18,11 +17,13 @@ use fx_props::PropSet;
 use std::alloc::Global;
 use std::sync::atomic::{AtomicU64, Ordering};
 
-/// A generator of zero. Its notes are a digit for each action, and for a sequence also its first and its
-/// last frame; the latest is the last.
+/// A generator of zero. Its notes are a digit for each action of its life, and for a sequence also its first
+/// and its last frame; the latest is the last. Its counts are a hexadecimal digit for each of the fourteen
+/// actions, in the order of the trait from the last digit on.
 #[derive(Clone, Copy, Drop)]
 pub struct Toy<'a> {
     pub notes: Option<&'a AtomicU64>,
+    pub counts: Option<&'a AtomicU64>,
 }
 
 impl Toy<'_> {
@@ -33,6 +34,16 @@ impl Toy<'_> {
                 earlier.wrapping_mul(10).wrapping_add(digit),
                 Ordering::SeqCst,
             );
+        }
+    }
+
+    // The action at this place of the trait came.
+    fn count(&self, place: u32)
+        requires { place < 14 }
+    {
+        if let Some(counts) = self.counts {
+            let earlier = counts.load(Ordering::SeqCst);
+            counts.store(earlier.wrapping_add(1u64 << (4 * place)), Ordering::SeqCst);
         }
     }
 
@@ -50,16 +61,19 @@ impl ImageEffect for Toy<'_> {
     ghost laws = { λ _. toy_laws };
 
     fn load(&self, _alloc: Global) -> Result<Reply, Memory> {
+        self.count(0);
         self.note(1);
         Ok(Reply::Ok)
     }
 
     fn unload(&self) -> Reply {
+        self.count(1);
         self.note(9);
         Reply::Ok
     }
 
     fn describe(&self, alloc: Global, descriptor: &mut PropSet) -> Result<Reply, Memory> {
+        self.count(2);
         self.note(2);
         let description = Description {
             label: "toy",
@@ -80,18 +94,31 @@ impl ImageEffect for Toy<'_> {
         _clips: &mut Vec<PropSet>,
         _params: &mut Vec<ParamDef>,
     ) -> Result<Reply, Memory> {
+        self.count(3);
         self.note(3);
         Ok(Reply::Ok)
     }
 
     fn create_instance(&self, _alloc: Global) -> Result<Reply, Memory> {
+        self.count(4);
         self.note(4);
         Ok(Reply::Ok)
     }
 
     fn destroy_instance(&self) -> Reply {
+        self.count(5);
         self.note(8);
         Reply::Ok
+    }
+
+    fn get_clip_preferences(
+        &self,
+        _alloc: Global,
+        _values: &Values,
+        _out_args: &mut PropSet,
+    ) -> Result<Reply, Memory> {
+        self.count(6);
+        Ok(Reply::Default)
     }
 
     fn get_region_of_definition(
@@ -102,6 +129,7 @@ impl ImageEffect for Toy<'_> {
         _in_args: &PropSet,
         _out_args: &mut PropSet,
     ) -> Result<Reply, Memory> {
+        self.count(7);
         Ok(Reply::Default)
     }
 
@@ -112,6 +140,7 @@ impl ImageEffect for Toy<'_> {
         _in_args: &PropSet,
         _out_args: &mut PropSet,
     ) -> Result<Reply, Memory> {
+        self.count(8);
         Ok(Reply::Default)
     }
 
@@ -122,14 +151,17 @@ impl ImageEffect for Toy<'_> {
         _in_args: &PropSet,
         _out_args: &mut PropSet,
     ) -> Result<Reply, Memory> {
+        self.count(9);
         Ok(Reply::Default)
     }
 
     fn is_identity(&self, _values: &Values, _in_args: &PropSet) -> Identity {
+        self.count(10);
         Identity::No
     }
 
     fn begin_sequence_render(&self, _alloc: Global, in_args: &PropSet) -> Result<Reply, Memory> {
+        self.count(11);
         self.note(5);
         self.note_frames(in_args);
         Ok(Reply::Ok)
@@ -145,6 +177,7 @@ impl ImageEffect for Toy<'_> {
         ticket: &mut Ticket,
         out: &mut Part<'_>,
     ) -> Result<(), Memory> {
+        self.count(12);
         self.note(6);
         fill_places(&Zero, values.project, out);
         ticket.stamped = true;
@@ -152,42 +185,10 @@ impl ImageEffect for Toy<'_> {
     }
 
     fn end_sequence_render(&self, in_args: &PropSet) -> Reply {
+        self.count(13);
         self.note(7);
         self.note_frames(in_args);
         Reply::Ok
-    }
-}
-
-impl Catalogue for Toy<'_> {
-    ghost called = { λ _. codes "toy" };
-
-    ghost number_of = { λ _. 3 };
-
-    ghost find = { λ name. if bytes_eq name (codes "toy") then Some (record { notes = None }) else None };
-
-    ghost one_name = { λ a b e. refl };
-
-    ghost one_meaning = { λ a b e. refl };
-
-    ghost few = { λ e. few_toys };
-
-    fn named(name: &str) -> Option<Self> {
-        match name {
-            "toy" => Some(Toy { notes: None }),
-            _ => None,
-        }
-    }
-
-    fn number(&self) -> u32 {
-        3
-    }
-
-    fn safety(&self) -> Safety {
-        Safety::Unsafe
-    }
-
-    fn supports_tiles(&self) -> bool {
-        true
     }
 }
 
