@@ -1,0 +1,147 @@
+//! Runs cases: `fx_cases FILE..` reads each file of cases from the working folder, makes the files of each case in memory,
+//! calls what the program calls, and tells a line for each case, and at the end how many there were. What is other than
+//! wanted is told as it is found, and then the status is 1. docs/cases.md has the form of the files.
+#![tactic(auto)]
+
+mod bytes;
+mod case;
+mod fault;
+mod graph;
+mod outcome;
+mod pace;
+mod tell;
+
+use case::{Case, CaseFile};
+use fault::CaseFault;
+use fx_outside::{FileLibrary, Library};
+use outcome::is_right;
+use serde_json::Value;
+use std::alloc::Global;
+use std::env;
+use std::io::Print;
+use std::process::ExitCode;
+use std::rt::{Clock, Env, Files};
+use std::sync::Wait;
+use std::thread::Threads;
+
+// How many cases were run, how often, and how many left something else.
+#[derive(Clone, Copy, Debug)]
+struct Tally {
+    cases: u64,
+    runs: u64,
+    failed: u64,
+}
+
+impl Tally {
+    fn add(&mut self, runs: u64, right: bool) {
+        self.cases = self.cases.saturating_add(1);
+        self.runs = self.runs.saturating_add(runs);
+        if !right {
+            self.failed = self.failed.saturating_add(1);
+        }
+    }
+}
+
+// Runs a case by its words, and again with those of each list behind them. Whether it left what is wanted each time.
+fn each_is_right<R: Threads + Wait + Clock + Print + Sync>(
+    rt: &R,
+    alloc: Global,
+    file: &str,
+    case: Case<'_>,
+    again: &[Value],
+) -> Result<bool, CaseFault> {
+    let mut right = is_right(rt, alloc, file, case, None)?;
+    for behind in again {
+        right &= is_right(rt, alloc, file, case, Some(behind))?;
+    }
+    Ok(right)
+}
+
+// Runs one case, and tells its name where it left what is wanted.
+fn add_case<R: Threads + Wait + Clock + Print + Sync>(
+    rt: &R,
+    alloc: Global,
+    file: &str,
+    case: Case<'_>,
+    again: &[Value],
+    tally: &mut Tally,
+) -> Result<(), CaseFault> {
+    let name = case.name()?;
+    let right = each_is_right(rt, alloc, file, case, again)?;
+    if right {
+        let _ = println!(rt; "{file}: {name}");
+    }
+    tally.add(1 + again.len() as u64, right);
+    Ok(())
+}
+
+// Runs the cases of a file. One that isn't of the form fails.
+fn add_cases<R: Threads + Wait + Clock + Print + Sync>(
+    rt: &R,
+    alloc: Global,
+    file: &str,
+    cases: CaseFile<'_>,
+    tally: &mut Tally,
+) -> Result<(), CaseFault> {
+    let again = cases.again()?;
+    for value in cases.cases()? {
+        let done = match cases.case(value) {
+            Ok(case) => add_case(rt, alloc, file, case, again, tally),
+            Err(fault) => Err(fault),
+        };
+        if let Err(fault) = done {
+            let _ = println!(rt; "{file}: {fault:?} in {value}");
+            tally.add(0, false);
+        }
+    }
+    Ok(())
+}
+
+// The value of a file.
+fn value_of<R: Files>(rt: &R, alloc: Global, file: &str) -> Result<Value, CaseFault> {
+    let mut library = FileLibrary::new(rt, alloc);
+    let bytes = library.fetch(alloc, file);
+    let bytes = bytes.ok().ok_or(CaseFault::Form("no such file"))?;
+    let value = Value::from_slice(alloc, bytes.as_slice());
+    value.ok().ok_or(CaseFault::Form("no JSON text"))
+}
+
+fn add_file<R: Threads + Wait + Clock + Print + Files + Sync>(
+    rt: &R,
+    alloc: Global,
+    file: &str,
+    tally: &mut Tally,
+) -> Result<(), CaseFault> {
+    let value = value_of(rt, alloc, file)?;
+    let cases = CaseFile::of(&value)?;
+    add_cases(rt, alloc, file, cases, tally)
+}
+
+fn main(rt: HostRuntime) -> ExitCode {
+    let alloc = rt.alloc();
+    let mut tally = Tally {
+        cases: 0,
+        runs: 0,
+        failed: 0,
+    };
+    let Ok(files) = env::args(&rt) else {
+        return ExitCode::FAILURE;
+    };
+    for file in files.skip(1) {
+        if let Err(fault) = add_file(&rt, alloc, file.as_str(), &mut tally) {
+            let _ = println!(&rt; "{file}: {fault:?}");
+            tally.add(0, false);
+        }
+    }
+    let Tally {
+        cases,
+        runs,
+        failed,
+    } = tally;
+    let _ = println!(&rt; "cases {cases} runs {runs} failed {failed}");
+    if failed == 0 {
+        ExitCode::SUCCESS
+    } else {
+        ExitCode::FAILURE
+    }
+}

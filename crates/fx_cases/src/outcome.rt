@@ -1,0 +1,113 @@
+//! Runs of cases over objects in memory, and what they left beside what is wanted.
+use crate::case::{Case, Wanted};
+use crate::fault::CaseFault;
+use crate::pace::CasePace;
+use crate::tell::{At, bytes_are, is_kept, status_is, text_is};
+use fx_app::run;
+use fx_outside::{MemoryDepot, MemorySink};
+use serde_json::Value;
+use std::alloc::Global;
+use std::io::Print;
+use std::rt::Clock;
+use std::sync::Wait;
+use std::thread::Threads;
+
+// What a run answered and left.
+#[derive(Drop)]
+struct Outcome {
+    status: u8,
+    out: MemorySink,
+    err: MemorySink,
+    depot: MemoryDepot,
+    paced: bool,
+}
+
+// Runs a case by these words.
+fn outcome_of<R: Threads + Wait + Clock + Sync>(
+    rt: &R,
+    alloc: Global,
+    case: Case<'_>,
+    words: &[String],
+) -> Result<Outcome, CaseFault> {
+    let mut library = case.library(alloc)?;
+    let mut depot = MemoryDepot::new(alloc, case.failing(alloc, "put")?);
+    let mut out = MemorySink::new(alloc, case.failing(alloc, "out")?);
+    let mut err = MemorySink::new(alloc, case.failing(alloc, "err")?);
+    let pace = CasePace::new(case.holds()?);
+    let status = run(
+        rt,
+        alloc,
+        words,
+        &mut library,
+        &mut depot,
+        &mut out,
+        &mut err,
+        &pace,
+    );
+    let paced = pace.was_kept();
+    Ok(Outcome {
+        status,
+        out,
+        err,
+        depot,
+        paced,
+    })
+}
+
+// Whether the depot has the files that are wanted, and none that is to be absent.
+fn files_are<R: Print>(
+    rt: &R,
+    alloc: Global,
+    at: &At<'_>,
+    wanted: Wanted<'_>,
+    depot: &MemoryDepot,
+) -> Result<bool, CaseFault> {
+    let mut right = true;
+    if let Some(files) = wanted.files()? {
+        for (name, file) in files.iter() {
+            let bytes = wanted.bytes(alloc, file)?;
+            let bytes = bytes.as_ref().map(Vec::as_slice);
+            let found = depot.get(name.as_str());
+            right &= bytes_are(rt, alloc, at, name.as_str(), bytes, found)?;
+        }
+    }
+    Ok(right)
+}
+
+// Whether a run left what is wanted.
+fn outcome_is<R: Print>(
+    rt: &R,
+    alloc: Global,
+    at: &At<'_>,
+    wanted: Wanted<'_>,
+    outcome: &Outcome,
+) -> Result<bool, CaseFault> {
+    let status = status_is(rt, at, wanted.status()?, outcome.status);
+    let out = match wanted.text("out")? {
+        Some(text) => text_is(rt, alloc, at, "out", text, outcome.out.bytes())?,
+        None => true,
+    };
+    let line = wanted.text("err")?.unwrap_or("");
+    let err = text_is(rt, alloc, at, "err", line, outcome.err.bytes())?;
+    let files = files_are(rt, alloc, at, wanted, &outcome.depot)?;
+    Ok(status & out & err & files & is_kept(rt, at, outcome.paced))
+}
+
+/// Runs a case with these words behind its own. Whether it left what is wanted; each part that is other is told.
+pub(crate) fn is_right<R: Threads + Wait + Clock + Print + Sync>(
+    rt: &R,
+    alloc: Global,
+    file: &str,
+    case: Case<'_>,
+    behind: Option<&Value>,
+) -> Result<bool, CaseFault> {
+    let words = case.words(alloc, behind)?;
+    let name = case.name()?;
+    let at = At {
+        file,
+        name,
+        words: &words,
+    };
+    let outcome = outcome_of(rt, alloc, case, &words)?;
+    outcome_is(rt, alloc, &at, case.wanted()?, &outcome)
+}
