@@ -1,29 +1,11 @@
-//! Tests that cross crates: runs of the top call over objects in memory, with the bytes of their files worked by hand,
-//! and what scenes, regions and tiles make of the same graphs.
+//! Tests that cross crates: what scenes, regions and tiles make of graphs over the effects of the program, and the picture
+//! of a frame by whole frames beside that by tiles. Runs from files to files are cases of fx_cases.
 #![tactic(auto)]
 
 #[cfg(test)]
-mod chain;
-#[cfg(test)]
-mod endings;
-#[cfg(test)]
 mod engines;
 #[cfg(test)]
-mod first_frame;
-#[cfg(test)]
-mod graph_text;
-#[cfg(test)]
-mod graphs;
-#[cfg(test)]
-mod modes;
-#[cfg(test)]
 mod numbers;
-#[cfg(test)]
-mod outcome;
-#[cfg(test)]
-mod pace;
-#[cfg(test)]
-mod pixels;
 #[cfg(test)]
 mod regions;
 #[cfg(test)]
@@ -33,10 +15,6 @@ mod same_pictures;
 #[cfg(test)]
 mod scenes;
 #[cfg(test)]
-mod strips;
-#[cfg(test)]
 mod tile_counts;
-#[cfg(test)]
-mod tiles;
 #[cfg(test)]
 mod worked;

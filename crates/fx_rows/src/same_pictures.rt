@@ -3,11 +3,8 @@
 ghost use Rattle.std.specs.Prelude.{◌≤◌};
 
 use crate::engines::{Engine, are_same, by_frames, by_tiles};
-use crate::graph_text::SOLID;
 use crate::numbers::{NumberGraph, draw_graph};
-use crate::outcome::files_of;
-use crate::strips::{self, STRIPS};
-use crate::worked::{ROWS, Whole};
+use crate::worked::{GRAPHS, STRIPS, Whole, library, strip_text};
 use fx_outside::SureLibrary;
 use std::alloc::Global;
 use std::process::Abort;
@@ -66,9 +63,9 @@ fn frame_is_the_same<R: Threads + Wait + Clock + Sync + Abort>(
 #[test]
 fn worked_graphs_are_the_same(rt: HostRuntime) -> Result<(), Fail> {
     let alloc = rt.alloc();
-    for &(whole, others, _, _) in ROWS {
+    let mut library = library(alloc)?;
+    for whole in GRAPHS {
         let text = whole.text(alloc)?;
-        let mut library = SureLibrary::new(alloc, files_of(alloc, "", others)?);
         for at in 0..whole.last.min(2) + 1 {
             frame_is_the_same(&rt, alloc, &mut library, text.as_str(), at, 1, EACH)?;
         }
@@ -79,20 +76,13 @@ fn worked_graphs_are_the_same(rt: HostRuntime) -> Result<(), Fail> {
 #[test]
 fn worked_strips_are_the_same(rt: HostRuntime) -> Result<(), Fail> {
     let alloc = rt.alloc();
-    let mut library = SureLibrary::new(alloc, files_of(alloc, "", strips::FILES)?);
+    let mut library = library(alloc)?;
     for strip in STRIPS {
-        let &(_, _, at, _) = strip;
-        let text = strips::graph_of(alloc, strip)?;
+        let &(_, _, at) = strip;
+        let text = strip_text(alloc, strip)?;
         frame_is_the_same(&rt, alloc, &mut library, text.as_str(), at.min(1), 1, EACH)?;
     }
     Ok(())
-}
-
-#[test]
-fn a_worked_solid_is_the_same(rt: HostRuntime) -> Result<(), Fail> {
-    let alloc = rt.alloc();
-    let mut library = SureLibrary::new(alloc, Vec::new(alloc));
-    frame_is_the_same(&rt, alloc, &mut library, SOLID, 0, 1, EACH)
 }
 
 // Of a blur that is wider than an image may be, so that whole frames make it in two pieces.

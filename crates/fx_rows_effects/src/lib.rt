@@ -1,5 +1,5 @@
 //! The effects of the catalogue one by one, over the host's own calls: each through all its actions, the lives of
-//! plug-ins, and which graph files are accepted. Worked by hand.
+//! plug-ins, and what a graph that is accepted holds. Worked by hand.
 #![tactic(auto)]
 
 #[cfg(test)]
