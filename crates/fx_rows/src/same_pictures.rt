@@ -64,7 +64,7 @@ fn frame_is_the_same<R: Threads + Wait + Clock + Sync + Abort>(
 fn worked_graphs_are_the_same(rt: HostRuntime) -> Result<(), Fail> {
     let alloc = rt.alloc();
     let mut library = library(alloc)?;
-    for whole in GRAPHS {
+    for &whole in GRAPHS {
         let text = whole.text(alloc)?;
         for at in 0..whole.last.min(2) + 1 {
             frame_is_the_same(&rt, alloc, &mut library, text.as_str(), at, 1, EACH)?;
