@@ -14,7 +14,7 @@ use Rattle.lru.proofs.CallerLemmas.{Contains-remove_entry, Contains-lookup}
 use Rattle.fx_core.specs.State.{State}
 use Rattle.fx_core.specs.Step.{Event, Ask, Land, Drop, Reply, Here, Busy, Fly, Done, with_front, is_full, with_new, key_of, after_hit, after_busy, after_flight, after_landing, after_drop, is_flying, ask_step, step}
 use Rattle.fx_core.specs.Sound.{IsSound}
-use Rattle.fx_core.specs.Run.{Moment, IsStart, IsRun, flights_of, endings_of, last_landed, IsLastLanded, IsOnlyFlight, FliesOnce, NumbersDiffer}
+use Rattle.fx_core.specs.Run.{Answered, IsStart, IsRun, flights_of, endings_of, last_landed, IsLastLanded, IsOnlyFlight, FliesOnce, NumbersDiffer}
 use Rattle.fx_core.proofs.Counting.{count, count_by-is, count-map, count-agree, none_from_any, distinct_from_once, count-remove_entry, entry_of, count-with_front}
 use Rattle.fx_core.proofs.Soundness.{counted, sound_step, turned, more}
 use Rattle.fx_core.proofs.CallerLemmas.{cases, none_in, first, later}
@@ -40,15 +40,15 @@ module _ {K V : Type 0} (eq : K → K → Bool) (laws : IsEquivalence eq) where
         | false ↦ λ is. let other : eq k j ≡ false = laws.congr k e.0 j e.2 ∙ (laws.symm e.0 j ∙ is) in rest ∙ rw other refl
       ]) refl)
 
-  -- what the moments tell of the state to which they lead
-  record Told (moments : List (Moment K V)) (s : State K V) : Type 0 where
+  -- what the events tell of the state to which they lead
+  record Told (events : List (Answered K V)) (s : State K V) : Type 0 where
     sound : IsSound eq s
-    below : (n : ℕ) → s.next ≤ n → count (λ f. f.0 == n) (flights_of moments) ≡ 0
-    once : (n : ℕ) → count (λ f. f.0 == n) (flights_of moments) ≤ 1
-    known : (f : ℕ × K) → Contains s.flying f → lookup (λ m. m == f.0) (flights_of moments) ≡ Some f.1
-    ended : (f : ℕ × K) → Contains (flights_of moments) f → Contains s.flying f ⊎ Contains (endings_of moments) f.0
-    landed_last : (k : K) (v : V) → lookup (eq k) s.kept ≡ Some v → last_landed eq k moments ≡ Some v
-    flights : 0 < s.capacity → (k : K) → count (λ f. eq k f.1) (flights_of moments) ≤ (count (λ e. eq k e.0) s.kept + count (λ f. eq k f.1) s.flying) + (s.totals.dropped + s.totals.evicted)
+    below : (n : ℕ) → s.next ≤ n → count (λ f. f.0 == n) (flights_of events) ≡ 0
+    once : (n : ℕ) → count (λ f. f.0 == n) (flights_of events) ≤ 1
+    known : (f : ℕ × K) → Contains s.flying f → lookup (λ m. m == f.0) (flights_of events) ≡ Some f.1
+    ended : (f : ℕ × K) → Contains (flights_of events) f → Contains s.flying f ⊎ Contains (endings_of events) f.0
+    landed_last : (k : K) (v : V) → lookup (eq k) s.kept ≡ Some v → last_landed eq k events ≡ Some v
+    flights : 0 < s.capacity → (k : K) → count (λ f. eq k f.1) (flights_of events) ≤ (count (λ e. eq k e.0) s.kept + count (λ f. eq k f.1) s.flying) + (s.totals.dropped + s.totals.evicted)
 
   told_start : (s : State K V) → IsStart s → Told [] s
   told_start s e = record {
@@ -61,10 +61,10 @@ module _ {K V : Type 0} (eq : K → K → Bool) (laws : IsEquivalence eq) where
     flights = λ h k. omega arith;
   }
 
-  abbrev moment : Event K V → Reply V → Moment K V
-  moment e r = record { event = e; reply = r }
+  abbrev answered : Event K V → Reply V → Answered K V
+  answered e r = record { event = e; reply = r }
 
-  told_hit : (ms : List (Moment K V)) (s : State K V) (k : K) (v : V) → Told ms s → lookup (eq k) s.kept ≡ Some v → IsSound eq (after_hit s (eq k)) → Told (moment (Ask k) (Here v) ∷ ms) (after_hit s (eq k))
+  told_hit : (ms : List (Answered K V)) (s : State K V) (k : K) (v : V) → Told ms s → lookup (eq k) s.kept ≡ Some v → IsSound eq (after_hit s (eq k)) → Told (answered (Ask k) (Here v) ∷ ms) (after_hit s (eq k))
   told_hit ms s k v t f sound = record {
     sound = sound;
     below = t.below;
@@ -75,10 +75,10 @@ module _ {K V : Type 0} (eq : K → K → Bool) (laws : IsEquivalence eq) where
     flights = λ h j. let a = count-with_front (eq k) (λ e. eq j e.0) s.kept v f in let b = t.flights h j in omega arith;
   }
 
-  told_busy : (ms : List (Moment K V)) (s : State K V) (k : K) → Told ms s → IsSound eq (after_busy s) → Told (moment (Ask k) Busy ∷ ms) (after_busy s)
+  told_busy : (ms : List (Answered K V)) (s : State K V) (k : K) → Told ms s → IsSound eq (after_busy s) → Told (answered (Ask k) Busy ∷ ms) (after_busy s)
   told_busy ms s k t sound = record { sound = sound; below = t.below; once = t.once; known = t.known; ended = t.ended; landed_last = t.landed_last; flights = t.flights }
 
-  told_fly : (ms : List (Moment K V)) (s : State K V) (k : K) → Told ms s → IsSound eq (after_flight s k) → Told (moment (Ask k) (Fly s.next) ∷ ms) (after_flight s k)
+  told_fly : (ms : List (Answered K V)) (s : State K V) (k : K) → Told ms s → IsSound eq (after_flight s k) → Told (answered (Ask k) (Fly s.next) ∷ ms) (after_flight s k)
   told_fly ms s k t sound = record {
     sound = sound;
     below = λ n h. let ne : s.next ≢ n = λ e. omega arith in let old = t.below n (omega arith) in rw (ne_eqb s.next n ne) (omega arith);
@@ -101,18 +101,18 @@ module _ {K V : Type 0} (eq : K → K → Bool) (laws : IsEquivalence eq) where
     flights = λ h j. let a = more (λ f. eq j f.1) s.flying (s.next, k) in let b = t.flights h j in omega arith;
   }
 
-  told_ask : (ms : List (Moment K V)) (s : State K V) (k : K) → Told ms s → (o : Option V) → lookup (eq k) s.kept ≡ o → (b : Bool) → IsSound eq (ask_step eq s k o b).1 → Told (moment (Ask k) (ask_step eq s k o b).0 ∷ ms) (ask_step eq s k o b).1
+  told_ask : (ms : List (Answered K V)) (s : State K V) (k : K) → Told ms s → (o : Option V) → lookup (eq k) s.kept ≡ o → (b : Bool) → IsSound eq (ask_step eq s k o b).1 → Told (answered (Ask k) (ask_step eq s k o b).0 ∷ ms) (ask_step eq s k o b).1
   told_ask ms s k t (Some v) f b sound = told_hit ms s k v t f sound
   told_ask ms s k t None f true sound = told_busy ms s k t sound
   told_ask ms s k t None f false sound = told_fly ms s k t sound
 
-  over : (ms : List (Moment K V)) (s : State K V) (n : ℕ) → Told ms s → (f : ℕ × K) → Contains (flights_of ms) f → Contains (remove_entry (λ m. m == n) s.flying) f ⊎ Contains (n ∷ endings_of ms) f.0
+  over : (ms : List (Answered K V)) (s : State K V) (n : ℕ) → Told ms s → (f : ℕ × K) → Contains (flights_of ms) f → Contains (remove_entry (λ m. m == n) s.flying) f ⊎ Contains (n ∷ endings_of ms) f.0
   over ms s n t f c = elim (t.ended f c) [
     | inl flying ↦ elim (others s.flying n f flying) [ inl same ↦ inr (subst (Contains (n ∷ endings_of ms)) (sym same) (first n (endings_of ms))) | inr d ↦ inl d ]
     | inr ended ↦ inr (later n (endings_of ms) f.0 ended)
   ]
 
-  told_drop : (ms : List (Moment K V)) (s : State K V) (n : ℕ) (k : K) → Told ms s → key_of s n ≡ Some k → IsSound eq (after_drop s n) → Told (moment (Drop n) Done ∷ ms) (after_drop s n)
+  told_drop : (ms : List (Answered K V)) (s : State K V) (n : ℕ) (k : K) → Told ms s → key_of s n ≡ Some k → IsSound eq (after_drop s n) → Told (answered (Drop n) Done ∷ ms) (after_drop s n)
   told_drop ms s n k t f sound = record {
     sound = sound;
     below = t.below;
@@ -150,13 +150,13 @@ module _ {K V : Type 0} (eq : K → K → Bool) (laws : IsEquivalence eq) where
   ]) refl
 
   -- the flight of a number is known by its key
-  flown_under : (ms : List (Moment K V)) (s : State K V) (n : ℕ) (k : K) → Told ms s → key_of s n ≡ Some k → lookup (λ m. m == n) (flights_of ms) ≡ Some k
+  flown_under : (ms : List (Answered K V)) (s : State K V) (n : ℕ) (k : K) → Told ms s → key_of s n ≡ Some k → lookup (λ m. m == n) (flights_of ms) ≡ Some k
   flown_under ms s n k t f =
       let e = Contains-lookup (λ m. m == n) s.flying k f in
       let same : e.0 ≡ n = eqb-true e.0 n e.2 in
       subst (λ (i : ℕ). lookup (λ m. m == i) (flights_of ms) ≡ Some k) same (t.known (e.0, k) e.1)
 
-  told_land : (ms : List (Moment K V)) (s : State K V) (n : ℕ) (k : K) (v : V) → Told ms s → key_of s n ≡ Some k → IsSound eq (after_landing s n k v) → Told (moment (Land n v) Done ∷ ms) (after_landing s n k v)
+  told_land : (ms : List (Answered K V)) (s : State K V) (n : ℕ) (k : K) (v : V) → Told ms s → key_of s n ≡ Some k → IsSound eq (after_landing s n k v) → Told (answered (Land n v) Done ∷ ms) (after_landing s n k v)
   told_land ms s n k v t f sound =
       let flew : lookup (λ m. m == n) (flights_of ms) ≡ Some k = flown_under ms s n k t f in record {
         sound = sound;
@@ -173,20 +173,20 @@ module _ {K V : Type 0} (eq : K → K → Bool) (laws : IsEquivalence eq) where
       }
 
   -- of what a step answers: the reply and the state
-  told_after : (ms : List (Moment K V)) (e : Event K V) (r : Reply V) (s : State K V) (p : Reply V × State K V) → Told (moment e p.0 ∷ ms) p.1 → Some p ≡ Some (r, s) → Told (moment e r ∷ ms) s
-  told_after ms e r s p t h = let same : p ≡ (r, s) = cc in subst (λ (q : Reply V × State K V). Told (moment e q.0 ∷ ms) q.1) same t
+  told_after : (ms : List (Answered K V)) (e : Event K V) (r : Reply V) (s : State K V) (p : Reply V × State K V) → Told (answered e p.0 ∷ ms) p.1 → Some p ≡ Some (r, s) → Told (answered e r ∷ ms) s
+  told_after ms e r s p t h = let same : p ≡ (r, s) = cc in subst (λ (q : Reply V × State K V). Told (answered e q.0 ∷ ms) q.1) same t
 
-  told_landing : (ms : List (Moment K V)) (b s : State K V) (n : ℕ) (v : V) (r : Reply V) → Told ms b → (o : Option K) → key_of b n ≡ o → option_map {U = Reply V × State K V} (λ k. (Done, after_landing b n k v)) o ≡ Some (r, s)
-      → ((k : K) → key_of b n ≡ Some k → IsSound eq (after_landing b n k v)) → Told (moment (Land n v) r ∷ ms) s
+  told_landing : (ms : List (Answered K V)) (b s : State K V) (n : ℕ) (v : V) (r : Reply V) → Told ms b → (o : Option K) → key_of b n ≡ o → option_map {U = Reply V × State K V} (λ k. (Done, after_landing b n k v)) o ≡ Some (r, s)
+      → ((k : K) → key_of b n ≡ Some k → IsSound eq (after_landing b n k v)) → Told (answered (Land n v) r ∷ ms) s
   told_landing ms b s n v r t None f h sound = cc
   told_landing ms b s n v r t (Some k) f h sound = told_after ms (Land n v) r s (Done, after_landing b n k v) (told_land ms b n k v t f (sound k f)) h
 
-  told_dropping : (ms : List (Moment K V)) (b s : State K V) (n : ℕ) (r : Reply V) → Told ms b → (o : Option K) → key_of b n ≡ o → option_map {U = Reply V × State K V} (λ (k : K). (Done, after_drop b n)) o ≡ Some (r, s)
-      → ((k : K) → key_of b n ≡ Some k → IsSound eq (after_drop b n)) → Told (moment (Drop n) r ∷ ms) s
+  told_dropping : (ms : List (Answered K V)) (b s : State K V) (n : ℕ) (r : Reply V) → Told ms b → (o : Option K) → key_of b n ≡ o → option_map {U = Reply V × State K V} (λ (k : K). (Done, after_drop b n)) o ≡ Some (r, s)
+      → ((k : K) → key_of b n ≡ Some k → IsSound eq (after_drop b n)) → Told (answered (Drop n) r ∷ ms) s
   told_dropping ms b s n r t None f h sound = cc
   told_dropping ms b s n r t (Some k) f h sound = told_after ms (Drop n) r s (Done, after_drop b n) (told_drop ms b n k t f (sound k f)) h
 
-  told_step : (ms : List (Moment K V)) (b s : State K V) (e : Event K V) (r : Reply V) → Told ms b → step eq b e ≡ Some (r, s) → Told (moment e r ∷ ms) s
+  told_step : (ms : List (Answered K V)) (b s : State K V) (e : Event K V) (r : Reply V) → Told ms b → step eq b e ≡ Some (r, s) → Told (answered e r ∷ ms) s
   told_step ms b s (Ask k) r t h =
       let answer = ask_step eq b k (lookup (eq k) b.kept) (is_flying eq b k) in
       told_after ms (Ask k) r s answer (told_ask ms b k t (lookup (eq k) b.kept) refl (is_flying eq b k) (sound_step eq laws b answer.1 (Ask k) answer.0 t.sound refl)) h
@@ -195,18 +195,18 @@ module _ {K V : Type 0} (eq : K → K → Bool) (laws : IsEquivalence eq) where
   told_step ms b s (Drop n) r t h =
       told_dropping ms b s n r t (key_of b n) refl h (λ k f. sound_step eq laws b (after_drop b n) (Drop n) Done t.sound (rw f refl))
 
-  told : (ms : List (Moment K V)) (s : State K V) → IsRun eq ms s → Told ms s
+  told : (ms : List (Answered K V)) (s : State K V) → IsRun eq ms s → Told ms s
   told [] s run = told_start s run
   told (m ∷ ms) s run = told_step ms run.0 s m.event m.reply (told ms run.0 run.1) run.2
 
-  pub sound_run : (ms : List (Moment K V)) (s : State K V) → IsRun eq ms s → IsSound eq s
+  pub sound_run : (ms : List (Answered K V)) (s : State K V) → IsRun eq ms s → IsSound eq s
   sound_run ms s run = (told ms s run).sound
 
-  pub numbers_differ : (ms : List (Moment K V)) (s : State K V) → IsRun eq ms s → NumbersDiffer ms
+  pub numbers_differ : (ms : List (Answered K V)) (s : State K V) → IsRun eq ms s → NumbersDiffer ms
   numbers_differ ms s run = distinct_from_once nat_eq nat_eq_equiv (keys_of (flights_of ms))
       (λ n. let once = (told ms s run).once n in let c = count-map (nat_eq n) (λ (f : ℕ × K). f.0) (flights_of ms) in let d = count-agree (λ (f : ℕ × K). nat_eq n f.0) (λ f. f.0 == n) (λ f. turned n f.0) (flights_of ms) in omega arith)
 
-  pub flies_once : (ms : List (Moment K V)) (s : State K V) → IsRun eq ms s → FliesOnce eq ms s
+  pub flies_once : (ms : List (Answered K V)) (s : State K V) → IsRun eq ms s → FliesOnce eq ms s
   flies_once ms s run capacity none_dropped none_evicted k =
       let t = told ms s run in
       let flights = t.flights capacity k in
@@ -229,15 +229,15 @@ module _ {K V : Type 0} (eq : K → K → Bool) (laws : IsEquivalence eq) where
   fly_from b k n None false h = refl
 
   -- an ask of a run, as a step
-  asked_in : (m : Moment K V) (b s : State K V) (k : K) (r : Reply V) → step eq b m.event ≡ Some (m.reply, s) → m.event ≡ Ask k → m.reply ≡ r → (ask_step eq b k (lookup (eq k) b.kept) (is_flying eq b k)).0 ≡ r
+  asked_in : (m : Answered K V) (b s : State K V) (k : K) (r : Reply V) → step eq b m.event ≡ Some (m.reply, s) → m.event ≡ Ask k → m.reply ≡ r → (ask_step eq b k (lookup (eq k) b.kept) (is_flying eq b k)).0 ≡ r
   asked_in m b s k r h asks is =
       reply_is (ask_step eq b k (lookup (eq k) b.kept) (is_flying eq b k)) m.reply s (subst (λ (e : Event K V). step eq b e ≡ Some (m.reply, s)) asks h) ∙ is
 
-  pub last_is_here : (m : Moment K V) (ms : List (Moment K V)) (s : State K V) → IsRun eq (m ∷ ms) s → IsLastLanded eq ms m
+  pub last_is_here : (m : Answered K V) (ms : List (Answered K V)) (s : State K V) → IsRun eq (m ∷ ms) s → IsLastLanded eq ms m
   last_is_here m ms s run k v asks here =
       (told ms run.0 run.1).landed_last k v (here_from run.0 k v (lookup (eq k) run.0.kept) (is_flying eq run.0 k) (asked_in m run.0 s k (Here v) run.2 asks here))
 
-  pub flies_alone : (m : Moment K V) (ms : List (Moment K V)) (s : State K V) → IsRun eq (m ∷ ms) s → IsOnlyFlight eq ms m
+  pub flies_alone : (m : Answered K V) (ms : List (Answered K V)) (s : State K V) → IsRun eq (m ∷ ms) s → IsOnlyFlight eq ms m
   flies_alone m ms s run k n f asks flew began same =
       let none = none_from_any (λ (g : ℕ × K). eq k g.1) run.0.flying (fly_from run.0 k n (lookup (eq k) run.0.kept) (is_flying eq run.0 k) (asked_in m run.0 s k (Fly n) run.2 asks flew)) in
       elim ((told ms run.0 run.1).ended f began) [

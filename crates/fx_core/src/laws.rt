@@ -4,7 +4,7 @@ ghost use Rattle.std.specs.Prelude.{◌≡◌, List, ◌∷◌, Some};
 ghost use Rattle.fx_core.specs.State.{State};
 ghost use Rattle.fx_core.specs.Step.{Event, Reply, step};
 ghost use Rattle.fx_core.specs.Sound.{IsSound};
-ghost use Rattle.fx_core.specs.Run.{Moment, IsRun, IsLastLanded, IsOnlyFlight, FliesOnce, NumbersDiffer, CountsRun};
+ghost use Rattle.fx_core.specs.Run.{Answered, IsRun, IsLastLanded, IsOnlyFlight, FliesOnce, NumbersDiffer, CountsRun};
 
 /// Nothing is done here: the contract is what holds of every run. Each step keeps a core sound, and
 /// each state that a run reaches is sound. A value that is here is the one that landed last under its
@@ -13,15 +13,15 @@ ghost use Rattle.fx_core.specs.Run.{Moment, IsRun, IsLastLanded, IsOnlyFlight, F
 pub fn every_run<K: Eq, V>()
     ensures keeps { (s t : State K V) (event : Event K V) (reply : Reply V)
         → IsSound K.eq s → step K.eq s event ≡ Some (reply, t) → IsSound K.eq t }
-    ensures sound { (moments : List (Moment K V)) (s : State K V) → IsRun K.eq moments s → IsSound K.eq s }
-    ensures here { (m : Moment K V) (earlier : List (Moment K V)) (s : State K V)
+    ensures sound { (events : List (Answered K V)) (s : State K V) → IsRun K.eq events s → IsSound K.eq s }
+    ensures here { (m : Answered K V) (earlier : List (Answered K V)) (s : State K V)
         → IsRun K.eq (m ∷ earlier) s → IsLastLanded K.eq earlier m }
-    ensures flies { (m : Moment K V) (earlier : List (Moment K V)) (s : State K V)
+    ensures flies { (m : Answered K V) (earlier : List (Answered K V)) (s : State K V)
         → IsRun K.eq (m ∷ earlier) s → IsOnlyFlight K.eq earlier m }
-    ensures once { (moments : List (Moment K V)) (s : State K V)
-        → IsRun K.eq moments s → FliesOnce K.eq moments s }
-    ensures numbers { (moments : List (Moment K V)) (s : State K V)
-        → IsRun K.eq moments s → NumbersDiffer moments }
-    ensures totals { (moments : List (Moment K V)) (s : State K V)
-        → IsRun K.eq moments s → CountsRun moments s.totals }
+    ensures once { (events : List (Answered K V)) (s : State K V)
+        → IsRun K.eq events s → FliesOnce K.eq events s }
+    ensures numbers { (events : List (Answered K V)) (s : State K V)
+        → IsRun K.eq events s → NumbersDiffer events }
+    ensures totals { (events : List (Answered K V)) (s : State K V)
+        → IsRun K.eq events s → CountsRun events s.totals }
 {}
