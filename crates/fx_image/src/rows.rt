@@ -120,7 +120,8 @@ impl Rows {
         requires long { vec_len bytes ≡ height * pitch }
         ensures pitch { IfOk result (λ s. s.pitch ≡ pitch) }
         ensures height { IfOk result (λ s. s.height ≡ height) }
-        ensures rows { IfOk result (λ s. (y : ℕ) → y < height → row_of s y ≡ take pitch (drop (y * pitch) bytes.items)) }
+        ensures rows { IfOk result (λ s. (y : ℕ) → y < height
+            → row_of s y ≡ take pitch (drop (y * pitch) bytes.items)) }
     {
         let mut blocks = Vec::new(alloc);
         blocks.push(Block { bytes })?;

@@ -54,7 +54,8 @@ impl<F: Read + Drop> Read for Watched<F> {
         ensures given { IfOk result (λ n. self.new.given ≡ so_many_more n self.old.given) }
         ensures none_given { OnErr result (self.new.given ≡ self.old.given) }
         ensures none_failed { OnOk result (self.new.failed ≡ self.old.failed) }
-        ensures failed { IfErr result (λ e. error_kind e ≢ ErrorKind.Interrupted → self.new.failed ≡ one_more self.old.failed) }
+        ensures failed { IfErr result (λ e. error_kind e ≢ ErrorKind.Interrupted
+            → self.new.failed ≡ one_more self.old.failed) }
         ensures again { IfErr result (λ e. error_kind e ≡ ErrorKind.Interrupted → self.new.failed ≡ self.old.failed) }
     {
         let read = self.reader.read(buf);

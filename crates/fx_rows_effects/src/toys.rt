@@ -146,7 +146,8 @@ impl Catalogue for Toys<'_> {
 
     ghost number_of = { λ _. 3 };
 
-    ghost find = { λ name. if bytes_eq name (codes "toy") then Some (One (record { notes = None; counts = None })) else None };
+    ghost find = { λ name. if bytes_eq name (codes "toy")
+        then Some (One (record { notes = None; counts = None })) else None };
 
     ghost one_name = { λ a b e. refl };
 
