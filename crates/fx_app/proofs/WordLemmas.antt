@@ -14,7 +14,7 @@ use Rattle.std.specs.Prelude.{option_and_then, codes}
 use Rattle.std.proofs.lemmas.Option.{none-some, same_Some}
 use Rattle.fx_words.specs.declared.order.Mode.TheVariants.{Render, Check, Bench}
 use Rattle.fx_words.specs.declared.order.Mode.{Mode}
-use Rattle.fx_app.specs.Words.{order_of}
+use Rattle.fx_words.specs.Order.{order_of}
 
 for_bench : (mode : Mode) (graph : List ℕ) → is_graph_for mode graph ≡ true → mode ≡ Bench → is_bench_number graph ≡ true
 for_bench Render graph fits is = cc

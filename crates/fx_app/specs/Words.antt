@@ -1,12 +1,8 @@
--- What the words order, and in which mode.
+-- In which mode the words order.
 use Rattle.std.specs.Prelude.{◌≡◌, ℕ, List, Option, Some, option_map}
 use Rattle.fx_words.specs.Ordered.{Ordered}
-use Rattle.fx_words.specs.Order as command
+use Rattle.fx_words.specs.Order.{order_of}
 use Rattle.fx_words.specs.declared.order.Mode.{Mode}
-
--- what the words order, or None where they are no use of the command
-unfoldable pub order_of : List (List ℕ) → Option Ordered
-order_of words = command.order_of words
 
 abbrev pub mode_in : Option Ordered → Option Mode
 mode_in asked = option_map (λ order. order.mode) asked

@@ -1,22 +1,12 @@
-//! What the words order, and which frames of a graph that is.
-ghost use Rattle.std.specs.Prelude.{◌≡◌, ◌≤◌, map, string_bytes};
+//! Which frames of a graph are ordered.
+ghost use Rattle.std.specs.Prelude.{◌≡◌, ◌≤◌};
 ghost use Rattle.fx_base.specs.declared.limits.TheConstants.{LAST_FRAME};
 ghost use Rattle.fx_scene.specs.Scenes.{graph_shown};
-ghost use Rattle.fx_words.specs.Seen.{Reads};
-ghost use Rattle.fx_app.specs.Words.{order_of};
 ghost use Rattle.fx_app.specs.Graphs.{first_of, last_of, frame_count};
 
 use fx_graph::Graph;
 use fx_shipped::Shipped;
-use fx_words::{Order, WordFault, read_words};
-use std::alloc::Global;
-
-/// What the words order. `Usage` comes where they are no use of the command.
-pub(crate) fn order_of(alloc: Global, words: &[String]) -> Result<Order, WordFault>
-    ensures { Reads result (order_of (map string_bytes words.now)) }
-{
-    read_words(alloc, words)
-}
+use fx_words::Order;
 
 /// The first frame that is rendered: that of the graph's range, or a later one that is ordered.
 pub(crate) fn first_of(graph: &Graph<Shipped>, order: &Order) -> u32

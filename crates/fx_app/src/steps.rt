@@ -8,7 +8,8 @@ ghost use Rattle.fx_words.specs.Texts.{fault_text, report_text};
 ghost use Rattle.fx_words.specs.declared.order.Mode.TheVariants.{Render, Check, Bench};
 ghost use Rattle.fx_words.specs.declared.fault.RunFault.{RunFault};
 ghost use Rattle.fx_words.specs.declared.fault.RunFault.TheVariants.{Memory as OutOfMemory, Usage as OtherWords};
-ghost use Rattle.fx_app.specs.Words.{order_of, mode_in, Orders};
+ghost use Rattle.fx_words.specs.Order.{order_of};
+ghost use Rattle.fx_app.specs.Words.{mode_in, Orders};
 ghost use Rattle.fx_app.specs.Texts.{status_of, GainsLine};
 ghost use Rattle.fx_app.specs.Run.{is_status, Job, IsAccepted, NamesNoGraph, HasPutAll, HasTold};
 ghost use Rattle.fx_app.specs.Run.{Cause, Rose, Leaves, LeavesReport, LeavesOwnReport, LeavesLibrary, LeavesDepot, LeavesOut};
@@ -20,12 +21,12 @@ ghost use Rattle.fx_app.specs.Steps.{IsMakingFault};
 use crate::bench::{file_names, made_of, totals_of};
 use crate::frames::put_frames;
 use crate::graph::{graph_of, node_count};
-use crate::order::{first_of, frame_count, last_of, order_of};
+use crate::order::{first_of, frame_count, last_of};
 use crate::report::{report_frames, report_lines};
 use crate::sources::{count_wanted, sources_of};
 use crate::tell::tell;
 use fx_outside::{Depot, Library, Pace, Sink, SureDepot};
-use fx_words::{Mode, Order, Report, RunFault, WordFault};
+use fx_words::{Mode, Order, Report, RunFault, WordFault, read_words};
 use std::alloc::Global;
 use std::rt::Clock;
 use std::sync::Wait;
@@ -207,7 +208,7 @@ fn ordered(alloc: Global, words: &[String]) -> Result<Order, RunFault>
     ensures err { IfErr result
         (λ e. ((e ≡ OtherWords) × (order_of (map string_bytes words.now) ≡ None)) ⊎ (e ≡ OutOfMemory)) }
 {
-    match order_of(alloc, words) {
+    match read_words(alloc, words) {
         Ok(order) => Ok(order),
         Err(WordFault::Usage) => Err(RunFault::Usage),
         Err(WordFault::Memory) => Err(RunFault::Memory),

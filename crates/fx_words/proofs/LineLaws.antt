@@ -110,6 +110,7 @@ line_faults ps e two =
     (no_defaults_fault top.rules (settled top.rules (held e.rows e.pending)).rows none_has_defaults) checks
 
 line_order : (ps : List Argument) → IsLine ps → order_of (words_of ps) ≡ order_by (arguments_fault ps) (rows_from 0 ps)
+unfolding order_of
 line_order ps line =
     let two : 0 + length (words_in ps) ≡ 2 = omega (arith, line.two) in
     let e : Ends ps [] None 0 = walk_line ps [] None 0 (distinct 0 ps line.once two) line.plain two in

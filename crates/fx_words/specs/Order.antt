@@ -92,5 +92,5 @@ order_by [] rows = order_in rows
 order_by (fault ∷ faults) rows = None
 
 -- what the words order, or None where they are no use of the command
-abbrev pub order_of : List Text → Option Ordered
+unfoldable pub order_of : List Text → Option Ordered
 order_of words = order_by (fault_of ofxr words) (matches_of ofxr words)

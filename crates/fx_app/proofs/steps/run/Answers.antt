@@ -1,6 +1,6 @@
 use Rattle.std.proofs.Common.{map, string_bytes}
 use Rattle.fx_words.specs.declared.order.Mode.TheVariants.{Render, Check, Bench}
-use Rattle.fx_app.specs.Words.{order_of}
+use Rattle.fx_words.specs.Order.{order_of}
 use Rattle.fx_app.proofs.StepsLemmas.{only_memory, ends_by_memory}
 use Rattle.fx_app.proofs.ModeLemmas as mode
 use Rattle.fx_app.proofs.steps.run.Goals as goal

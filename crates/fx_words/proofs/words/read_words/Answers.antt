@@ -6,6 +6,7 @@ use Rattle.clap.specs.Simple.{App, app_of, is_simple, matches_of}
 use Rattle.clap.specs.Values.{kind_of}
 use Rattle.clap.specs.Walk.{Text, rows_of}
 use Rattle.fx_words.specs.Command.{ofxr}
+use Rattle.fx_words.specs.Order.{order_of}
 use Rattle.fx_words.proofs.Found.{reads_found, none_refused}
 use Rattle.fx_words.proofs.words.read_words.Goals as goal
 
@@ -16,6 +17,7 @@ free : is_simple_and_free ofxr ≡ true
 free = refl
 
 pub returns-in-Ok : goal.returns-in-Ok
+unfolding order_of
 returns-in-Ok c =
     let is : app_of c.in_ok-command.command ≡ ofxr = c.in_ok-command.ensures in
     let parsed = c.in-Ok.ensures in
@@ -26,6 +28,7 @@ returns-in-Ok c =
     reads_found c.order_in.result (fault_of ofxr words) (matches_of ofxr words) (rows_of (found_of c.in-Ok.matches)) none same c.order_in.ensures
 
 pub returns-in-Err : goal.returns-in-Err
+unfolding order_of
 returns-in-Err c =
     let is : app_of c.in_ok-command.command ≡ ofxr = c.in_ok-command.ensures in
     let words : List Text = map string_bytes c.args.words.now in
