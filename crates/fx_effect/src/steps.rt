@@ -52,7 +52,7 @@ impl Steps {
     }
 
     /// Whether each of these conversions leaves pixels of this depth and these components as they are.
-    pub fn keep(&self, depth: Depth, components: Components) -> bool
+    pub(crate) fn keep(&self, depth: Depth, components: Components) -> bool
         ensures { result ≡ true → Keep depth components self.now }
     {
         all_keep(self.items.as_slice(), depth, components)
@@ -60,7 +60,7 @@ impl Steps {
 
     /// Whether these conversions and a last one come to one, of pixels of this depth and these components:
     /// some leave them as they are, and those behind convert to what the last one gives.
-    pub fn are_one(&self, from: Depth, seen: Components, to: Depth, c: Components) -> bool
+    pub(crate) fn are_one(&self, from: Depth, seen: Components, to: Depth, c: Components) -> bool
         ensures { result ≡ true → AreOne from seen to c self.now }
     {
         let steps = self.items.as_slice();
