@@ -31,7 +31,8 @@ use fx_props::{PropSet, write_interest, write_region};
 use std::alloc::Global;
 
 /// The mean of the pixels at most rx columns and ry rows away: a filter. The parameters rx and ry go from
-/// 0 to 64. It keeps sums in the workspace of its hold, so that its renders need the gate of its instance.
+/// 0 to 64. It keeps sums and a row of pixels in the workspace of its hold, so that its renders need the
+/// gate of its instance.
 #[derive(Clone, Copy, Debug, PartialEq, Eq)]
 pub struct Boxblur;
 
@@ -347,7 +348,8 @@ impl<'a, 'b> BoxRows<'a, 'b> {
         write_window_means(depth, self.mean, cells, windows, row);
     }
 
-    // Fills a part, with sums in the workspace of the hold. At want of memory the part is as it was.
+    // Fills a part, with sums and a row of pixels in the workspace of the hold. At want of memory the part is
+    // as it was.
     fn render(&self, alloc: Global, hold: &mut Hold, out: &mut Part<'_>) -> Result<(), Memory>
         requires part { IsPart out.old }
         requires source { let image = out.old.image.now in
@@ -362,8 +364,7 @@ impl<'a, 'b> BoxRows<'a, 'b> {
     {
         let rect = out.rect();
         let pixel = pixel_size(out.depth(), out.components());
-        let mut bytes = Vec::new(alloc);
-        bytes.resize(out.row_bytes() + 2 * self.rx * pixel, 0)?;
+        let row = out.row_bytes() + 2 * self.rx * pixel;
         let line = offset(rect.x1, rect.x2) + 2 * self.rx;
         let count = line * out.components().count() as usize;
         let Ok(room) = u32::try_from(count) else {
@@ -371,8 +372,10 @@ impl<'a, 'b> BoxRows<'a, 'b> {
         };
         let workspace = hold.workspace();
         workspace.room(alloc, room)?;
+        workspace.byte_room(alloc, row)?;
         let cells = workspace.cells.slice_mut(0..count);
-        fill_with(self, cells, bytes.as_mut_slice(), out);
+        let bytes = workspace.bytes.slice_mut(0..row);
+        fill_with(self, cells, bytes, out);
         Ok(())
     }
 }

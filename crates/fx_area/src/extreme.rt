@@ -1,9 +1,9 @@
 //! The least or the greatest sample of a square. The samples of the whole area are picked in place, first
 //! along columns and then along rows: windows of 1, 2, 4 and more samples are each made of two that are
 //! half as long, so that the work grows with the logarithm of the radius.
-ghost use Rattle.std.specs.Prelude.{◌≡◌, ◌≢◌, ◌≤◌, ◌<◌, ◌+◌, ◌*◌, ℕ, length, IfOk, OnOk, vec_len};
+ghost use Rattle.std.specs.Prelude.{◌≡◌, ◌≢◌, ◌≤◌, ◌<◌, ◌+◌, ◌*◌, ℕ, pos, ◌+ℤ◌, length, IfOk, OnOk, vec_len};
 ghost use Rattle.fx_base.specs.Bounds.{none};
-ghost use Rattle.fx_base.specs.Rect.{columns, rows, IsUpTo};
+ghost use Rattle.fx_base.specs.Rect.{columns, rows, IsStep, IsUpTo};
 ghost use Rattle.fx_pixel.specs.Pixel.{size};
 ghost use Rattle.fx_image.specs.Stored.{pixel_size, sample_in, pixel_in};
 ghost use Rattle.fx_image.specs.Part.{IsPart, SamePart, IsWritten};
@@ -17,6 +17,7 @@ use fx_base::{Memory, Rect, offset};
 use fx_effect::{Inputs, RowKernel, Values, fill_with};
 use fx_image::Part;
 use fx_image::samples::{copy_pixels, pixel_size, sample, set_sample};
+use fx_kernel::blank_bytes;
 use fx_pixel::{Components, Depth};
 use std::alloc::Global;
 
@@ -102,15 +103,12 @@ fn read_area(
         IfOk result (λ bytes. vec_len bytes ≡ rows area * columns area * size) }
     ensures pixels { IfOk result (λ bytes. ShowsArea inputs.now frame depth components area (rows area) bytes.items) }
 {
-    let size = pixel_size(depth, components);
-    let width = offset(area.x1, area.x2);
-    let mut line = Vec::new(alloc);
-    line.resize(width * size, 0)?;
-    let Some(count) = offset(area.y1, area.y2).checked_mul(width * size) else {
+    let row = offset(area.x1, area.x2) * pixel_size(depth, components);
+    let Some(count) = offset(area.y1, area.y2).checked_mul(row) else {
         return Err(Memory);
     };
-    let mut bytes = Vec::new(alloc);
-    bytes.resize(count, 0)?;
+    let mut line = blank_bytes(alloc, row)?;
+    let mut bytes = blank_bytes(alloc, count)?;
     let (line, rows) = (line.as_mut_slice(), bytes.as_mut_slice());
     fill_area(inputs, frame, depth, components, area, line, rows);
     Ok(bytes)
@@ -132,13 +130,27 @@ fn fill_area(
     ensures { ShowsArea inputs.now frame depth components area (rows area) bytes.new }
 {
     let width = offset(area.x1, area.x2);
-    let (x, bottom) = (area.x1, area.y1);
     for j in 0..offset(area.y1, area.y2) {
-        let y = bottom + j as i64;
-        let count = width;
-        let place = Line { frame, x, y, count };
+        let place = area_line(frame, area, j);
         let pixels = lend_line(&*inputs, depth, components, place, line);
         copy_pixels(depth, components, pixels, bytes, j * width, width);
+    }
+}
+
+// Row j of an area, from the bottom.
+fn area_line(frame: i64, area: Rect, j: usize) -> Line
+    requires area { IsProperArea area }
+    requires row { j < rows area }
+    ensures value { result ≡ record { frame = frame; x = area.x1; y = area.y1 +ℤ pos j; count = columns area } }
+    ensures place { IsStep 4294967296 result.x × IsStep 4294967296 result.y }
+    ensures some { 0 < result.count }
+    ensures few { result.count ≤ 2147483776 }
+{
+    Line {
+        frame,
+        x: area.x1,
+        y: area.y1 + j as i64,
+        count: offset(area.x1, area.x2),
     }
 }
 

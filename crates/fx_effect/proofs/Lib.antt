@@ -1,4 +1,5 @@
 pub mod PieceLaws
+pub mod BandLaws
 pub mod RunLaws
 pub mod DescribedLaws
 pub mod WindowLaws

@@ -35,7 +35,7 @@ pub is_high : (r : Bounds) → IsRect r → r.y1 ≤ℤ r.y2
 is_high r (inl is) = let low = ap (λ (b : Bounds). b.y1) is in let high = ap (λ (b : Bounds). b.y2) is in omega (arith, ints)
 is_high r (inr is) = omega (arith, ints, is.1)
 
-both : (a b : Bool) → a && b ≡ true → (a ≡ true) × (b ≡ true)
+pub both : (a b : Bool) → a && b ≡ true → (a ≡ true) × (b ≡ true)
 both true b h = (refl, h)
 both false b h = absurd cc
 

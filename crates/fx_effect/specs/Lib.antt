@@ -1,6 +1,7 @@
 pub mod Tap
 pub mod Given
 pub mod Placed
+pub mod Bands
 pub mod Rows
 pub mod Pairs
 pub mod Shape

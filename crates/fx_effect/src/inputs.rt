@@ -7,6 +7,7 @@ ghost use Rattle.fx_pixel.specs.Pixel.{IsOfDepth, components_of};
 ghost use Rattle.fx_image.specs.Stored.{pixel_size, pixel_in};
 
 use crate::Piece;
+use crate::bands::{Band, pieces_in_row, take_piece};
 use crate::piece::Placed;
 use fx_base::{Memory, Rect};
 use fx_pixel::{Components, Depth, Pixel};
@@ -19,6 +20,7 @@ pub struct Inputs<'a> {
     depth: Depth,
     components: Vec<Components>,
     pieces: Vec<Placed<'a>>,
+    bands: Vec<Band>,
 }
 
 impl<'a> Model for Inputs<'a> {
@@ -28,6 +30,7 @@ impl<'a> Model for Inputs<'a> {
     ghost Value = { Given };
 
     ghost use Rattle.fx_effect.specs.Placed.{given_piece, ArePlaced};
+    ghost use Rattle.fx_effect.specs.Bands.{AreBands};
 
     ghost view = { λ a. record {
       depth = a.depth;
@@ -35,7 +38,7 @@ impl<'a> Model for Inputs<'a> {
       pieces = map given_piece a.pieces.items;
     } };
 
-    ghost invariant = { λ a. ArePlaced a.pieces.items };
+    ghost invariant = { λ a. ArePlaced a.pieces.items × AreBands a.bands.items a.pieces.items };
 }
 
 impl<'a> Inputs<'a> {
@@ -58,6 +61,7 @@ impl<'a> Inputs<'a> {
             depth,
             components,
             pieces: Vec::new(alloc),
+            bands: Vec::new(alloc),
         })
     }
 
@@ -65,7 +69,7 @@ impl<'a> Inputs<'a> {
     /// added.
     pub fn push(
         &mut self,
-        _alloc: Global,
+        alloc: Global,
         clip: u32,
         frame: i64,
         piece: Piece<'a>,
@@ -76,7 +80,10 @@ impl<'a> Inputs<'a> {
             OnOk result (self.new ≡ record self.old { pieces = pieces }) }
         ensures memory { OnErr result (self.new ≡ self.old) }
     {
-        self.pieces.push(Placed { clip, frame, piece })?;
+        self.pieces.reserve(1)?;
+        let count = self.pieces.len();
+        take_piece(alloc, &mut self.bands, count, clip, frame, piece.rect())?;
+        self.pieces.push_reserved(Placed { clip, frame, piece });
         Ok(())
     }
 
@@ -108,7 +115,7 @@ impl<'a> Inputs<'a> {
             ShowsRow self.now.depth c rect y (row_pixel self.now clip frame) row.new }
     {
         let components = self.components[clip as usize];
-        let pieces = near_row(self.pieces.as_slice(), clip, frame, rect, y);
+        let pieces = self.near(clip, frame, rect, y);
         match row_in_pieces(pieces, self.depth, components, clip, frame, rect, y) {
             Some(bytes) => row.copy_from_slice(bytes),
             None => read_pieces(pieces, self.depth, components, clip, frame, rect, y, row),
@@ -132,7 +139,7 @@ impl<'a> Inputs<'a> {
             ShowsRow self.now.depth c rect y (row_pixel self.now clip frame) result.now }
     {
         let components = self.components[clip as usize];
-        let pieces = near_row(self.pieces.as_slice(), clip, frame, rect, y);
+        let pieces = self.near(clip, frame, rect, y);
         match row_in_pieces(pieces, self.depth, components, clip, frame, rect, y) {
             Some(lent) => lent,
             None => {
@@ -152,8 +159,20 @@ impl<'a> Inputs<'a> {
             IfSome result (λ bytes. ShowsRow self.now.depth c rect y (row_pixel self.now clip frame) bytes.now) }
     {
         let components = self.components[clip as usize];
-        let pieces = near_row(self.pieces.as_slice(), clip, frame, rect, y);
+        let pieces = self.near(clip, frame, rect, y);
         row_in_pieces(pieces, self.depth, components, clip, frame, rect, y)
+    }
+
+    // Pieces among which are all that have a place of row y of the rectangle, in their order.
+    fn near(&self, clip: u32, frame: i64, rect: Rect, y: i64) -> &[Placed<'a>]
+        ensures placed { ArePlaced result.now }
+        ensures pixels { (depth : Depths) (c : Samples) (x : ℤ) → Holds rect x y
+            → pieces_pixel depth c (map given_piece result.now) clip frame x y
+            ≡ pieces_pixel depth c self.now.pieces clip frame x y }
+    {
+        let bands = self.bands.as_slice();
+        let pieces = pieces_in_row(bands, self.pieces.as_slice(), clip, frame, y);
+        near_row(pieces, clip, frame, rect, y)
     }
 }
 
@@ -196,7 +215,7 @@ fn pieces_fit(pieces: &[Placed<'_>])
 }
 
 // The pieces from the first that has a place of row y of the rectangle to the last one: each is asked this
-// before anything else, so that of many pieces those of other rows cost little.
+// before anything else, so that those beside the rectangle cost little.
 fn near_row<'s, 'a>(
     pieces: &'s [Placed<'a>],
     clip: u32,

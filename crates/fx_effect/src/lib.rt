@@ -7,6 +7,7 @@
 mod action;
 mod args;
 mod asked;
+mod bands;
 mod describe;
 mod effect;
 mod inputs;

@@ -36,7 +36,7 @@ pub enum Piece<'a> {
 }
 
 impl<'a> Piece<'a> {
-    fn rect(&self) -> Rect
+    pub(crate) fn rect(&self) -> Rect
         ensures { result ≡ piece_rect self.now }
     {
         match self {

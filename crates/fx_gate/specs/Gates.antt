@@ -13,10 +13,11 @@ pub record GateSeatState : Type 0 where
   pub parts : ℕ
   pub turn : Option ℕ
 
--- the gate that is held, if one is, and the cells of the workspace
+-- the gate that is held, if one is, and the cells and the bytes of the workspace
 pub record HoldState : Type 0 where
   pub gate : Option ℕ
   pub cells : List ℕ
+  pub bytes : List ℕ
 
 -- a row of gates is a row of turns without a name
 abbrev pub row_of : Row (Unit {0}) → GateRow

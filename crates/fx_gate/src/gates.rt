@@ -60,7 +60,7 @@ impl Gates {
 
     /// A hold of no gate, with an empty workspace.
     pub fn free(alloc: Global) -> Hold
-        ensures { result ≡ record { gate = None; cells = [] } }
+        ensures { result ≡ record { gate = None; cells = []; bytes = [] } }
     {
         Hold::free(alloc)
     }

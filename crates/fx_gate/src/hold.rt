@@ -1,9 +1,10 @@
-//! A hold of a gate, or of none. Contracts see it as the gate's number and the cells.
+//! A hold of a gate, or of none. Contracts see it as the gate's number, the cells
+//! and the bytes.
 ghost use Rattle.std.specs.Prelude.{◌≡◌, [], IsSome, None, Some};
 ghost use Rattle.std.specs.Borrow.{Lends, sem};
 ghost use Rattle.fx_gate.specs.contracts.hold.Hold.{the_row};
 ghost use Rattle.fx_gate.specs.contracts.workspace.Workspace.{the_row as the_workspace};
-ghost use Rattle.fx_gate.specs.Holding.{with_cells};
+ghost use Rattle.fx_gate.specs.Holding.{with_workspace};
 
 use crate::workspace::Workspace;
 use fx_turn::Held;
@@ -24,7 +25,11 @@ impl Model for Hold {
 
     ghost Value = { HoldState };
 
-    ghost view = { λ h. record { gate = h.gate; cells = h.workspace.cells.items } };
+    ghost view = { λ h. record {
+      gate = h.gate;
+      cells = h.workspace.cells.items;
+      bytes = h.workspace.bytes.items;
+    } };
 
     ghost invariant = { λ h. h.gate ≡ option_map (λ t. t.slot) h.turn };
 }
@@ -45,7 +50,7 @@ impl Drop for Hold {
 impl Hold {
     // The hold of no gate.
     pub(crate) fn free(alloc: Global) -> Hold
-        ensures { (result.gate ≡ None) × (result.cells ≡ []) }
+        ensures { (result.gate ≡ None) × (result.cells ≡ []) × (result.bytes ≡ []) }
     {
         Hold {
             gate: None,
@@ -92,8 +97,9 @@ impl Hold {
 
     /// The workspace, to be used.
     pub fn workspace(&mut self) -> &mut Workspace
-        ensures* lends { sem 𝓛 (Lends the_row the_workspace self.entry result (with_cells self.old)) }
-        ensures value { result.now.cells.items ≡ self.old.cells }
+        ensures* lends { sem 𝓛 (Lends the_row the_workspace self.entry result (with_workspace self.old)) }
+        ensures cells { result.now.cells.items ≡ self.old.cells }
+        ensures bytes { result.now.bytes.items ≡ self.old.bytes }
     {
         &mut self.workspace
     }

@@ -1,35 +1,55 @@
-//! Room for the sums of a render.
+//! Room for the sums and the rows of a render.
 ghost use Rattle.std.specs.Prelude.{◌≡◌, ◌++◌, ◌-◌, ◌≤◌, [], OnErr, OnOk, replicate, vec_len};
 
 use fx_base::Memory;
 use fx_turn::Fits;
 use std::alloc::Global;
 
-/// Cells that a render may use. It clears what it uses first: an earlier render may have left anything.
+/// Cells and bytes that a render may use. It clears what it uses first: an earlier render may have left
+/// anything.
 #[derive(Debug, Drop)]
 pub struct Workspace {
     pub cells: Vec<u64>,
+    pub bytes: Vec<u8>,
 }
 
 impl Workspace {
     pub(crate) fn empty(alloc: Global) -> Workspace
-        ensures { result.cells.items ≡ [] }
+        ensures { (result.cells.items ≡ []) × (result.bytes.items ≡ []) }
     {
         Workspace {
             cells: Vec::new(alloc),
+            bytes: Vec::new(alloc),
         }
     }
 
-    /// Makes room: at least so many cells, with the old ones unchanged. At `Memory` nothing changed.
+    /// Makes room: at least so many cells, with the old ones and the bytes unchanged. At `Memory` nothing
+    /// changed.
     pub fn room(&mut self, _alloc: Global, n: u32) -> Result<(), Memory>
         ensures enough { OnOk result (n ≤ vec_len self.new.cells) }
         ensures cells { let old = self.old.cells in
             OnOk result (self.new.cells.items ≡ old.items ++ replicate (n - vec_len old) 0) }
         ensures err { OnErr result (self.new.cells.items ≡ self.old.cells.items) }
+        ensures bytes { self.new.bytes ≡ self.old.bytes }
     {
         let count = n as usize;
         if self.cells.len() < count {
             self.cells.resize(count, 0)?;
+        }
+        Ok(())
+    }
+
+    /// Makes room: at least so many bytes, with the old ones and the cells unchanged. At `Memory` nothing
+    /// changed.
+    pub fn byte_room(&mut self, _alloc: Global, count: usize) -> Result<(), Memory>
+        ensures enough { OnOk result (count ≤ vec_len self.new.bytes) }
+        ensures bytes { let old = self.old.bytes in
+            OnOk result (self.new.bytes.items ≡ old.items ++ replicate (count - vec_len old) 0) }
+        ensures err { OnErr result (self.new.bytes.items ≡ self.old.bytes.items) }
+        ensures cells { self.new.cells ≡ self.old.cells }
+    {
+        if self.bytes.len() < count {
+            self.bytes.resize(count, 0)?;
         }
         Ok(())
     }

@@ -4,12 +4,14 @@
 #![tactic(auto)]
 
 mod blend;
+mod bytes;
 mod cells;
 mod mean;
 mod products;
 mod windows;
 
 pub use blend::{blend_row, in_units};
+pub use bytes::blank_bytes;
 pub use cells::{add_row, clear, take_row, write_means};
 pub use mean::Mean;
 pub use products::{divided, mixed, product};

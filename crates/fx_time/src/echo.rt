@@ -10,7 +10,7 @@ ghost use Rattle.fx_time.specs.Times.{source_at, alone};
 ghost use Rattle.fx_time.specs.Echo.{echo, echo_shape, echoed, weighed, moments, back as back_of, count as count_of, gap as gap_of};
 ghost use Rattle.fx_time.specs.EchoLaws.{echo_laws};
 
-use crate::parts::{SOURCE, blank_bytes};
+use crate::parts::SOURCE;
 use crate::weight::Weight;
 use fx_base::{Memory, Rect, offset};
 use fx_core::Ticket;
@@ -21,6 +21,7 @@ use fx_effect::{
 use fx_gate::Hold;
 use fx_image::Part;
 use fx_image::samples::{sample, set_sample};
+use fx_kernel::blank_bytes;
 use fx_params::ParamDef;
 use fx_pixel::{Components, Depth};
 use fx_props::{PropSet, write_frames};

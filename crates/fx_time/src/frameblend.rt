@@ -12,7 +12,7 @@ ghost use Rattle.fx_time.specs.Frameblend.{frameblend, frameblend_shape, radius 
 ghost use Rattle.fx_time.specs.FrameblendLaws.{frameblend_laws};
 ghost use Rattle.fx_time.specs.BlendRows.{blend_pixel, moment_sample};
 
-use crate::parts::{SOURCE, blank_bytes};
+use crate::parts::SOURCE;
 use crate::three::write_mean_of_three;
 use fx_base::{Memory, Rect, offset};
 use fx_core::Ticket;
@@ -29,7 +29,8 @@ use fx_props::{PropSet, write_frames};
 use std::alloc::Global;
 
 /// The mean of the pixels of the frames at most as far away as its parameter radius says: a filter. It keeps
-/// its sums, but for those of three frames, in the workspace of its gate, and so is not safe for threads.
+/// its sums, but for those of three frames, and two rows of pixels in the workspace of its gate, and so is not
+/// safe for threads.
 #[derive(Clone, Copy, Debug, PartialEq, Eq)]
 pub struct Frameblend;
 
@@ -274,17 +275,15 @@ impl<'a, 'b> BlendRows<'a, 'b> {
         ensures ok { let me = self.now in OnOk result (IsWritten out.old out.new
             (blend_pixel me.inputs.now me.frame me.radius out.old.image.now.components)) }
     {
-        let mut bytes = blank_bytes(alloc, 2 * out.row_bytes())?;
+        let two_rows = 2 * out.row_bytes();
         let rect = out.rect();
         let cells = offset(rect.x1, rect.x2) * out.components().count() as usize;
         let workspace = hold.workspace();
         workspace.room(alloc, cells as u32)?;
-        fill_with(
-            self,
-            workspace.cells.slice_mut(0..cells),
-            bytes.as_mut_slice(),
-            out,
-        );
+        workspace.byte_room(alloc, two_rows)?;
+        let cells = workspace.cells.slice_mut(0..cells);
+        let bytes = workspace.bytes.slice_mut(0..two_rows);
+        fill_with(self, cells, bytes, out);
         Ok(())
     }
 }

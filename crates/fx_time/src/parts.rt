@@ -1,17 +1,4 @@
-//! What the time effects share: their clip, and bytes to work with.
-ghost use Rattle.std.specs.Prelude.{◌≡◌, IfOk, vec_len};
-
-use fx_base::Memory;
-use std::alloc::Global;
+//! What the time effects share: their clip.
 
 // The place of the clip Source.
 pub const SOURCE: u32 = 0;
-
-/// Bytes to work with.
-pub fn blank_bytes(alloc: Global, count: usize) -> Result<Vec<u8>, Memory>
-    ensures { IfOk result (λ bytes. vec_len bytes ≡ count) }
-{
-    let mut bytes = Vec::new(alloc);
-    bytes.resize(count, 0)?;
-    Ok(bytes)
-}

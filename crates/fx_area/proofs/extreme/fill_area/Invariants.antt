@@ -1,4 +1,4 @@
-use Rattle.std.proofs.Common.{◌≡◌, length}
+use Rattle.std.proofs.Common.{◌≡◌}
 use Rattle.fx_base.specs.Rect.{columns, rows}
 use Rattle.fx_area.specs.Gathered.{ShowsArea}
 use Rattle.fx_area.proofs.extreme.fill_area.Given as goal
@@ -8,7 +8,5 @@ invariant-loop-j l =
     record {
       until : l.j-end ≡ rows l.fn.area;
       wide_is : l.width ≡ columns l.fn.area;
-      left_is : l.x ≡ l.fn.area.x1;
-      low_is : l.bottom ≡ l.fn.area.y1;
       shows : ShowsArea l.inputs l.fn.frame l.depth l.components l.fn.area l.j l.bytes;
     }
