@@ -20,7 +20,7 @@ use Rattle.fx_graph.specs.Shown.{Shown, names_of}
 use Rattle.fx_graph.specs.Kept.{IsUse, IsNode, has_context}
 use Rattle.fx_graph.specs.Uses.{Place, connection, unsupported, unknown_clip, missing_clip, lost_clip, clip_fault, is_connected}
 use Rattle.fx_graph.specs.Params.{param_of, params_fault}
-use Rattle.fx_graph.specs.Nodes.{Form, place_of, use_of, use_fault, told_fault}
+use Rattle.fx_graph.specs.Nodes.{Form, place_of, use_of, told_fault}
 use Rattle.fx_graph.proofs.Connecting.{connected_all, earlier_all, defs_all}
 
 none_of_both : (a b : Option Fault) → option_or a b ≡ None → (a ≡ None) × (b ≡ None)
@@ -38,18 +38,16 @@ none_found f (Some a) h = absurd (none-some (f a) (sym h))
 pub place_below : (names : List (List ℕ)) (name : List ℕ) (k : ℕ) → place_of names name ≡ Some k → k < length names
 place_below names name k e = (position-Some (λ n. bytes_eq n name) names k [] e).0
 
-pub kept_use : (s : Shape) (names : List (List ℕ)) (k : ℕ) (c : Context) (clips : List RawClip) (params : List RawParam) → use_fault s k (place_of names) c clips params ≡ None → All IsSound (map (param_of params) (s.params c)) → IsUse s (length names) c (map (connection (place_of names) clips) (s.clips c)) (clip_names s c) (optional_flags s c) (map is_mask (clip_names s c)) (map (param_of params) (s.params c))
-kept_use s names k c clips params none sound =
-    let a = none_of_both (unsupported k s.contexts c) (first_of (told_fault k (place_of names) (s.clips c) (s.params c) clips params ∷ [])) none in
-    let t = none_of_both (told_fault k (place_of names) (s.clips c) (s.params c) clips params) None a.1 in
-    let b = none_of_both (clip_fault k (place_of names) (s.clips c) clips) (first_of (params_fault k (s.params c) params ∷ [])) t.0 in
+pub kept_use : (s : Shape) (names : List (List ℕ)) (k : List ℕ) (c : Context) (clips : List RawClip) (params : List RawParam) → unsupported k s.contexts c ≡ None → told_fault k (place_of names) (s.clips c) (s.params c) clips params ≡ None → All IsSound (map (param_of params) (s.params c)) → IsUse s (length names) c (map (connection (place_of names) clips) (s.clips c)) (clip_names s c) (optional_flags s c) (map is_mask (clip_names s c)) (map (param_of params) (s.params c))
+kept_use s names k c clips params ok told sound =
+    let b = none_of_both (clip_fault k (place_of names) (s.clips c) clips) (first_of (params_fault k (s.params c) params ∷ [])) told in
     let u = none_of_both (unknown_clip k (s.clips c) clips) (first_of (missing_clip k (s.clips c) clips ∷ lost_clip k (place_of names) clips ∷ [])) b.0 in
     let m = none_of_both (missing_clip k (s.clips c) clips) (first_of (lost_clip k (place_of names) clips ∷ [])) u.1 in
     let l = none_of_both (lost_clip k (place_of names) clips) None m.1 in
     let missing = none_found _ (find (λ i. not i.optional && not (is_connected clips i.name)) (s.clips c)) m.0 in
     let lost = none_found _ (find (λ r. is_none (place_of names r.node)) clips) l.0 in
     record {
-      supported = holds_so (has_context s c) _ _ a.0;
+      supported = holds_so (has_context s c) _ _ ok;
       names_are = refl;
       optional_are = refl;
       masks_are = refl;
@@ -59,14 +57,10 @@ kept_use s names k c clips params none sound =
       sound = sound;
     }
 
-pub kept_node : {E : Type 0} (meaning : E → Meaning) (project : Form) (before : List (Shown E)) (name : List ℕ) (e : E) (c : Context) (clips : List RawClip) (params : List RawParam) → use_fault (meaning e).shape (length before) (place_of (names_of before)) c clips params ≡ None → All IsSound (map (param_of params) ((meaning e).shape.params c)) → IsNode meaning project before (use_of e (meaning e).shape project before name c (map (connection (place_of (names_of before)) clips) ((meaning e).shape.clips c)) params)
-kept_node meaning project before name e c clips params none sound =
+pub kept_node : {E : Type 0} (meaning : E → Meaning) (project : Form) (before : List (Shown E)) (path name : List ℕ) (e : E) (c : Context) (clips : List RawClip) (params : List RawParam) → unsupported path (meaning e).shape.contexts c ≡ None → told_fault path (place_of (names_of before)) ((meaning e).shape.clips c) ((meaning e).shape.params c) clips params ≡ None → All IsSound (map (param_of params) ((meaning e).shape.params c)) → IsNode meaning project before (use_of e (meaning e).shape project before name c (map (connection (place_of (names_of before)) clips) ((meaning e).shape.clips c)) params)
+kept_node meaning project before path name e c clips params ok told sound =
     let s = (meaning e).shape in
     let nodes = map (connection (place_of (names_of before)) clips) (s.clips c) in
-    let used = kept_use s (names_of before) (length before) c clips params none sound in
+    let used = kept_use s (names_of before) path c clips params ok told sound in
     let long : length (names_of before) ≡ length before = length-map before (λ n. n.name) in
     (subst (λ k. IsUse s k c nodes (clip_names s c) (optional_flags s c) (map is_mask (clip_names s c)) (map (param_of params) (s.params c))) long used, refl)
-
--- no refusal of the context, and none of what is described in it
-pub use_none : (s : Shape) (k : ℕ) (place : Place) (c : Context) (clips : List RawClip) (params : List RawParam) → unsupported k s.contexts c ≡ None → told_fault k place (s.clips c) (s.params c) clips params ≡ None → use_fault s k place c clips params ≡ None
-use_none s k place c clips params ok told = rw (ok, told) refl

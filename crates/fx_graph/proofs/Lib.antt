@@ -6,3 +6,5 @@ mod Pushing
 mod Outputs
 mod Graphing
 mod DescribedLaws
+pub mod EditLaws
+mod NamedLaws

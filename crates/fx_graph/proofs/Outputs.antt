@@ -13,7 +13,7 @@ prefix_map : {A B : Type 0} (f : A → B) (p : B → Bool) (xs : List A) → pre
 prefix_map f p [] = refl
 prefix_map f p (x ∷ xs) = ap (λ n. cond (p (f x)) (1 + n) 0) (prefix_map f p xs)
 
-position_map : {A B : Type 0} (f : A → B) (p : B → Bool) (xs : List A) → position p (map f xs) ≡ position (λ x. p (f x)) xs
+pub position_map : {A B : Type 0} (f : A → B) (p : B → Bool) (xs : List A) → position p (map f xs) ≡ position (λ x. p (f x)) xs
 position_map f p xs = rw (prefix_map f (λ b. not (p b)) xs, length-map xs f) refl
 
 -- the place of the node of a name

@@ -7,3 +7,6 @@ pub mod Params
 pub mod Nodes
 pub mod Graphs
 pub mod Described
+pub mod Edits
+pub mod Beside
+pub mod Named

@@ -13,7 +13,7 @@ use Rattle.fx_params.specs.declared.def.ParamDef.{ParamDef}
 use Rattle.fx_text.specs.Fault.{Fault}
 use Rattle.fx_text.specs.Json.{after}
 use Rattle.fx_text.specs.Nodes.{Node as RawNode}
-use Rattle.fx_text.specs.declared.fault.GraphCode.TheVariants.{NameRepeated, UnknownEffect, PatternWrong}
+use Rattle.fx_text.specs.declared.fault.GraphCode.TheVariants.{NameRepeated, UnknownEffect, PatternWrong, UnknownGroup}
 use Rattle.fx_text.specs.declared.raw.RawContext.{RawContext}
 use Rattle.fx_text.specs.declared.raw.RawWork.{RawWork}
 use Rattle.fx_text.specs.declared.raw.RawWork.TheVariants as raw
@@ -40,9 +40,9 @@ names_frames first last (Some pattern) = nat_eq first last || nat_eq (runs patte
 abbrev pub is_source : List ℕ → ℕ → ℕ → Bool
 is_source text first last = names_frames first last (pattern_of text)
 
-abbrev pub wrong_source : ℕ → List ℕ → ℕ → ℕ → Option Fault
-wrong_source k text first last =
-    where_so (not (is_source text first last)) PatternWrong (node_path k (codes "source"))
+abbrev pub wrong_source : List ℕ → List ℕ → ℕ → ℕ → Option Fault
+wrong_source path text first last =
+    where_so (not (is_source text first last)) PatternWrong (node_path path (codes "source"))
 
 -- ---- the depth and the components of a node
 
@@ -90,48 +90,51 @@ use_of e s project before name c clips params =
     record { name = name; depth = form.0; components = form.1; does = does }
 
 -- the first refusal of clips and parameters, where these are described
-abbrev pub told_fault : ℕ → Place → List Clip → List ParamDef → List RawClip → List RawParam → Option Fault
-told_fault k place inputs defs clips params =
-    first_of (clip_fault k place inputs clips ∷ params_fault k defs params ∷ [])
+abbrev pub told_fault : List ℕ → Place → List Clip → List ParamDef → List RawClip → List RawParam → Option Fault
+told_fault path place inputs defs clips params =
+    first_of (clip_fault path place inputs clips ∷ params_fault path defs params ∷ [])
 
--- the first refusal of the use of an effect in a context
-abbrev pub use_fault : Shape → ℕ → Place → Context → List RawClip → List RawParam → Option Fault
-use_fault s k place c clips params =
-    first_of (unsupported k s.contexts c ∷ told_fault k place (s.clips c) (s.params c) clips params ∷ [])
-
--- the use of an effect, behind these nodes
-abbrev pub effect_of : {E : Type 0} → (E → Meaning) → Form → List (Shown E) → List ℕ → Option E → Option RawContext
-    → List RawClip → List RawParam → Result (Shown E) Fault
-effect_of meaning project before name None context clips params =
-    Err (refusal UnknownEffect (node_path (length before) (codes "effect")))
-effect_of meaning project before name (Some e) context clips params =
-    let s = (meaning e).shape in
-    let c = chosen s.contexts context in
+-- the use of an effect in a context that it supports, behind these nodes
+abbrev pub use_in : {E : Type 0} → E → Shape → Form → List (Shown E) → List ℕ → List ℕ → Context → List RawClip
+    → List RawParam → Result (Shown E) Fault
+use_in e s project before path name c clips params =
     let place = place_of (names_of before) in
-    refused_or (use_fault s (length before) place c clips params)
+    refused_or (told_fault path place (s.clips c) (s.params c) clips params)
     (Ok (use_of e s project before name c (map (connection place clips) (s.clips c)) params))
 
+-- the use of an effect, behind these nodes
+abbrev pub effect_of : {E : Type 0} → (E → Meaning) → Form → List (Shown E) → List ℕ → List ℕ → Option E → Option RawContext
+    → List RawClip → List RawParam → Result (Shown E) Fault
+effect_of meaning project before path name None context clips params =
+    Err (refusal UnknownEffect (node_path path (codes "effect")))
+effect_of meaning project before path name (Some e) context clips params =
+    let s = (meaning e).shape in
+    let c = chosen s.contexts context in
+    refused_or (unsupported path s.contexts c) (use_in e s project before path name c clips params)
+
 -- what a node does, behind these nodes
-abbrev pub work_of : {E : Type 0} → (List ℕ → Option E) → (E → Meaning) → Form → List (Shown E) → List ℕ → RawWork
+abbrev pub work_of : {E : Type 0} → (List ℕ → Option E) → (E → Meaning) → Form → List (Shown E) → List ℕ → List ℕ → RawWork
     → Result (Shown E) Fault
-work_of find meaning project before name (raw.Source pattern first last hold depth components) =
+work_of find meaning project before path name (raw.Source pattern first last hold depth components) =
     let does = Source pattern first last hold in
-    refused_or (wrong_source (length before) pattern first last)
+    refused_or (wrong_source path pattern first last)
     (Ok (record { name = name; depth = depth; components = components; does = does }))
-work_of find meaning project before name (raw.Effect effect context clips params) =
-    effect_of meaning project before name (find effect) context clips params
+work_of find meaning project before path name (raw.Effect effect context clips params) =
+    effect_of meaning project before path name (find effect) context clips params
+work_of find meaning project before path name (raw.GroupUse group clips) =
+    Err (refusal UnknownGroup (node_path path (codes "group")))
 
 -- refused where one of these nodes has the name
-abbrev pub repeated : {E : Type 0} → List (Shown E) → List ℕ → Option Fault
-repeated before name =
+abbrev pub repeated : {E : Type 0} → List (Shown E) → List ℕ → List ℕ → Option Fault
+repeated before path name =
     let taken = is_some (place_of (names_of before) name) in
-    where_so taken NameRepeated (node_path (length before) (codes "name"))
+    where_so taken NameRepeated (node_path path (codes "name"))
 
 -- the node that stands behind these, or why it is refused
 abbrev pub node_of : {E : Type 0} → (List ℕ → Option E) → (E → Meaning) → Form → List (Shown E) → RawNode
     → Result (Shown E) Fault
 node_of find meaning project before node =
-    refused_or (repeated before node.name) (work_of find meaning project before node.name node.work)
+    refused_or (repeated before node.path node.name) (work_of find meaning project before node.path node.name node.work)
 
 -- these nodes, and then those that stand behind them
 abbrev pub nodes_of : {E : Type 0} → (List ℕ → Option E) → (E → Meaning) → Form → List (Shown E) → List RawNode

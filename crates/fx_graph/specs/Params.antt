@@ -20,9 +20,10 @@ use Rattle.fx_text.specs.declared.value.RawValue.{RawValue}
 use Rattle.fx_text.specs.declared.value.RawValue.TheVariants as raw
 use Rattle.fx_text.specs.Key.{Key as RawKey}
 use Rattle.fx_text.specs.declared.value.RawParam.{RawParam}
+use Rattle.fx_text.specs.declared.fault.GraphCode.{GraphCode}
 use Rattle.fx_text.specs.declared.fault.GraphCode.TheVariants.{UnknownParam, ParamRefused, KeysNotRising}
 use Rattle.fx_text.specs.Fault.{Fault}
-use Rattle.fx_graph.specs.Refusal.{refusal, param_path, where_so, first_of, first_in}
+use Rattle.fx_graph.specs.Refusal.{refusal, param_path, fault_at, first_in}
 
 -- a whole number as a fixed-point one, where its units fit
 abbrev pub whole : ℤ → Option ParamValue
@@ -71,18 +72,21 @@ is_rising (raw.Keyed keys step) = rises_after None keys
 
 -- ---- the rows
 
-abbrev pub param_fault : ℕ → RawParam → Option ParamDef → Option Fault
-param_fault k p None = Some (refusal UnknownParam (param_path k p.name))
-param_fault k p (Some def) =
-    let path = param_path k p.name in
-    first_of (where_so (is_refused def p.value) ParamRefused path
-    ∷ where_so (not (is_rising p.value)) KeysNotRising path ∷ [])
+-- why a parameter refuses what it is given
+abbrev pub value_fault : ParamDef → RawValue → Option GraphCode
+value_fault def v =
+    if is_refused def v then Some ParamRefused else
+    if is_rising v then None else Some KeysNotRising
+
+abbrev pub param_fault : List ℕ → RawParam → Option ParamDef → Option Fault
+param_fault at p None = Some (refusal UnknownParam (param_path at p.name))
+param_fault at p (Some def) = fault_at (param_path at p.name) (value_fault def p.value)
 
 abbrev pub def_of : List ParamDef → List ℕ → Option ParamDef
 def_of defs name = find (λ d. bytes_eq d.name name) defs
 
-abbrev pub params_fault : ℕ → List ParamDef → List RawParam → Option Fault
-params_fault k defs params = first_in (λ p. param_fault k p (def_of defs p.name)) params
+abbrev pub params_fault : List ℕ → List ParamDef → List RawParam → Option Fault
+params_fault at defs params = first_in (λ p. param_fault at p (def_of defs p.name)) params
 
 -- ---- what is made
 

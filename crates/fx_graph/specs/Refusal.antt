@@ -1,5 +1,5 @@
 -- Why a graph is refused: rows of a table, each of which gives a fault or none, and the first fault in their order.
-use Rattle.std.specs.Prelude.{◌≡◌, ℕ, Bool, List, [], ◌∷◌, ◌++◌, codes, decimal, Option, Some, None, Result, Ok, Err, if◌then◌else◌}
+use Rattle.std.specs.Prelude.{◌≡◌, ℕ, Bool, List, [], ◌∷◌, ◌++◌, codes, Option, Some, None, Result, Ok, Err, if◌then◌else◌}
 use Rattle.std.specs.Option.{option_or, option_map}
 use Rattle.std.specs.List.{find}
 use Rattle.fx_text.specs.Fault.{Fault}
@@ -10,15 +10,19 @@ use Rattle.fx_text.specs.declared.fault.GraphFault.TheVariants as fault
 abbrev pub refusal : GraphCode → List ℕ → Fault
 refusal code path = record { code = code; path = path }
 
--- the path of a member of the node at a place
-abbrev pub node_path : ℕ → List ℕ → List ℕ
-node_path k member = codes "nodes[" ++ decimal k ++ codes "]." ++ member
+-- the path of a member of the node at a path
+abbrev pub node_path : List ℕ → List ℕ → List ℕ
+node_path path member = path ++ codes "." ++ member
 
-abbrev pub clip_path : ℕ → List ℕ → List ℕ
-clip_path k name = node_path k (codes "clips." ++ name)
+abbrev pub clip_path : List ℕ → List ℕ → List ℕ
+clip_path path name = node_path path (codes "clips." ++ name)
 
-abbrev pub param_path : ℕ → List ℕ → List ℕ
-param_path k name = node_path k (codes "params." ++ name)
+abbrev pub param_path : List ℕ → List ℕ → List ℕ
+param_path path name = node_path path (codes "params." ++ name)
+
+-- the fault of a code at a path
+abbrev pub fault_at : List ℕ → Option GraphCode → Option Fault
+fault_at path code = option_map (λ c. refusal c path) code
 
 -- a row of the table: refused exactly where the test holds
 abbrev pub where_so : Bool → GraphCode → List ℕ → Option Fault

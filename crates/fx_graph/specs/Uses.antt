@@ -43,22 +43,22 @@ connection place clips input = option_and_then (λ r. place r.node) (find (λ r.
 
 -- ---- the rows
 
-abbrev pub unsupported : ℕ → List Context → Context → Option Fault
-unsupported k contexts c =
-    where_so (not (list_any (is_context c) contexts)) ContextNotSupported (node_path k (codes "context"))
+abbrev pub unsupported : List ℕ → List Context → Context → Option Fault
+unsupported path contexts c =
+    where_so (not (list_any (is_context c) contexts)) ContextNotSupported (node_path path (codes "context"))
 
-abbrev pub unknown_clip : ℕ → List Clip → List RawClip → Option Fault
-unknown_clip k inputs clips =
-    at_first (λ r. not (is_input inputs r.name)) clips UnknownClip (λ r. clip_path k r.name)
+abbrev pub unknown_clip : List ℕ → List Clip → List RawClip → Option Fault
+unknown_clip path inputs clips =
+    at_first (λ r. not (is_input inputs r.name)) clips UnknownClip (λ r. clip_path path r.name)
 
-abbrev pub missing_clip : ℕ → List Clip → List RawClip → Option Fault
-missing_clip k inputs clips =
+abbrev pub missing_clip : List ℕ → List Clip → List RawClip → Option Fault
+missing_clip path inputs clips =
     let is_missing = λ (i : Clip). not i.optional && not (is_connected clips i.name) in
-    at_first is_missing inputs ClipMissing (λ i. clip_path k i.name)
+    at_first is_missing inputs ClipMissing (λ i. clip_path path i.name)
 
-abbrev pub lost_clip : ℕ → Place → List RawClip → Option Fault
-lost_clip k place clips = at_first (λ r. is_none (place r.node)) clips NoEarlierNode (λ r. clip_path k r.name)
+abbrev pub lost_clip : List ℕ → Place → List RawClip → Option Fault
+lost_clip path place clips = at_first (λ r. is_none (place r.node)) clips NoEarlierNode (λ r. clip_path path r.name)
 
-abbrev pub clip_fault : ℕ → Place → List Clip → List RawClip → Option Fault
-clip_fault k place inputs clips =
-    first_of (unknown_clip k inputs clips ∷ missing_clip k inputs clips ∷ lost_clip k place clips ∷ [])
+abbrev pub clip_fault : List ℕ → Place → List Clip → List RawClip → Option Fault
+clip_fault path place inputs clips =
+    first_of (unknown_clip path inputs clips ∷ missing_clip path inputs clips ∷ lost_clip path place clips ∷ [])

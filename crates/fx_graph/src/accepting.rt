@@ -105,8 +105,16 @@ fn accept_node<E: Catalogue + Drop>(
     ensures fresh { IfOk result (λ node. place_of (names_of (map shown before.now)) node.name ≡ None) }
     ensures kept { IfOk result (λ node. IsNode E.meaning project (map shown before.now) (shown node)) }
 {
-    check_name(alloc, places, before, raw.name.text())?;
-    accept_work(alloc, project, places, before, raw.name.text(), &raw.work)
+    check_name(alloc, places, before, raw.path.text(), raw.name.text())?;
+    accept_work(
+        alloc,
+        project,
+        places,
+        before,
+        raw.path.text(),
+        raw.name.text(),
+        &raw.work,
+    )
 }
 
 // No earlier node has the name.
@@ -114,15 +122,16 @@ fn check_name<E: Catalogue + Drop>(
     alloc: Global,
     places: &BTreeMap<String, u32>,
     before: &[Node<E>],
+    path: &str,
     name: &str,
 ) -> Result<(), GraphFault>
     requires index { IsIndex places.now (names_of (map shown before.now)) }
     ensures fresh { OnOk result (place_of (names_of (map shown before.now)) name.now ≡ None) }
-    ensures err { IfErr result (λ e. Tells (repeated (map shown before.now) name.now) e) }
+    ensures err { IfErr result (λ e. Tells (repeated (map shown before.now) path.now name.now) e) }
 {
     match place(places, name) {
         None => Ok(()),
-        Some(_) => Err(refuse(alloc, GraphCode::NameRepeated, before.len(), "name")),
+        Some(_) => Err(refuse(alloc, GraphCode::NameRepeated, path, "name")),
     }
 }
 
@@ -131,15 +140,16 @@ fn accept_work<E: Catalogue + Drop>(
     project: (Depth, Components),
     places: &BTreeMap<String, u32>,
     before: &[Node<E>],
+    path: &str,
     name: &str,
     work: &RawWork,
 ) -> Result<Node<E>, GraphFault>
     requires index { IsIndex places.now (names_of (map shown before.now)) }
     requires range { IsInRange work.now }
     ensures ok { let nodes = map shown before.now in
-        IfOk result (λ node. work_of E.find E.meaning project nodes name.now work.now ≡ Ok (shown node)) }
+        IfOk result (λ node. work_of E.find E.meaning project nodes path.now name.now work.now ≡ Ok (shown node)) }
     ensures err { let nodes = map shown before.now in
-        IfErr result (λ e. TellsErr (work_of E.find E.meaning project nodes name.now work.now) e) }
+        IfErr result (λ e. TellsErr (work_of E.find E.meaning project nodes path.now name.now work.now) e) }
     ensures name { IfOk result (λ node. node.name ≡ name.now) }
     ensures kept { IfOk result (λ node. IsNode E.meaning project (map shown before.now) (shown node)) }
 {
@@ -152,7 +162,7 @@ fn accept_work<E: Catalogue + Drop>(
             depth,
             components,
         } => {
-            let pattern = source_pattern(alloc, before.len(), pattern, *first, *last)?;
+            let pattern = source_pattern(alloc, path, pattern, *first, *last)?;
             Ok(Node {
                 name: Name::of(String::from_str(alloc, name)?),
                 depth: *depth,
@@ -175,35 +185,37 @@ fn accept_work<E: Catalogue + Drop>(
             project,
             places,
             before,
+            path,
             name,
             effect,
             *context,
             clips.items(),
             params.items(),
         ),
+        RawWork::GroupUse { .. } => Err(refuse(alloc, GraphCode::UnknownGroup, path, "group")),
     }
 }
 
 fn source_pattern(
     alloc: Global,
-    node: usize,
+    path: &str,
     text: &Name,
     first: u32,
     last: u32,
 ) -> Result<Pattern, GraphFault>
     ensures pattern { IfOk result (λ pattern. pattern ≡ text.now) }
     ensures ok { OnOk result (is_source text.now first last ≡ true) }
-    ensures err { IfErr result (λ e. Tells (wrong_source node text.now first last) e) }
+    ensures err { IfErr result (λ e. Tells (wrong_source path.now text.now first last) e) }
 {
     match Pattern::of(alloc, text.text())? {
         Some(pattern) => {
             if names_frames(&pattern, first, last) {
                 Ok(pattern)
             } else {
-                Err(refuse(alloc, GraphCode::PatternWrong, node, "source"))
+                Err(refuse(alloc, GraphCode::PatternWrong, path, "source"))
             }
         }
-        None => Err(refuse(alloc, GraphCode::PatternWrong, node, "source")),
+        None => Err(refuse(alloc, GraphCode::PatternWrong, path, "source")),
     }
 }
 

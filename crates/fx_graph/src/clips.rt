@@ -34,61 +34,61 @@ impl Model for Input {
 /// that is missing, then the first one that names no earlier node.
 pub(crate) fn check_clips(
     alloc: Global,
-    node: usize,
+    path: &str,
     places: &BTreeMap<String, u32>,
     inputs: &[Input],
     clips: &[RawClip],
 ) -> Result<(), GraphFault>
-    ensures ok { OnOk result (clip_fault node (get_by_text places.now) inputs.now clips.now ≡ None) }
-    ensures err { IfErr result (λ e. Tells (clip_fault node (get_by_text places.now) inputs.now clips.now) e) }
+    ensures ok { OnOk result (clip_fault path.now (get_by_text places.now) inputs.now clips.now ≡ None) }
+    ensures err { IfErr result (λ e. Tells (clip_fault path.now (get_by_text places.now) inputs.now clips.now) e) }
 {
-    check_known(alloc, node, inputs, clips)?;
-    check_required(alloc, node, inputs, clips)?;
-    check_earlier(alloc, node, places, clips)
+    check_known(alloc, path, inputs, clips)?;
+    check_required(alloc, path, inputs, clips)?;
+    check_earlier(alloc, path, places, clips)
 }
 
 fn check_known(
     alloc: Global,
-    node: usize,
+    path: &str,
     inputs: &[Input],
     clips: &[RawClip],
 ) -> Result<(), GraphFault>
-    ensures ok { OnOk result (unknown_clip node inputs.now clips.now ≡ None) }
-    ensures err { IfErr result (λ e. Tells (unknown_clip node inputs.now clips.now) e) }
+    ensures ok { OnOk result (unknown_clip path.now inputs.now clips.now ≡ None) }
+    ensures err { IfErr result (λ e. Tells (unknown_clip path.now inputs.now clips.now) e) }
 {
     match first_unknown(inputs, clips) {
         None => Ok(()),
-        Some(clip) => Err(refuse_clip(alloc, GraphCode::UnknownClip, node, clip.name.text())),
+        Some(clip) => Err(refuse_clip(alloc, GraphCode::UnknownClip, path, clip.name.text())),
     }
 }
 
 fn check_required(
     alloc: Global,
-    node: usize,
+    path: &str,
     inputs: &[Input],
     clips: &[RawClip],
 ) -> Result<(), GraphFault>
-    ensures ok { OnOk result (missing_clip node inputs.now clips.now ≡ None) }
-    ensures err { IfErr result (λ e. Tells (missing_clip node inputs.now clips.now) e) }
+    ensures ok { OnOk result (missing_clip path.now inputs.now clips.now ≡ None) }
+    ensures err { IfErr result (λ e. Tells (missing_clip path.now inputs.now clips.now) e) }
 {
     match first_missing(inputs, clips) {
         None => Ok(()),
-        Some(input) => Err(refuse_clip(alloc, GraphCode::ClipMissing, node, input.name.text())),
+        Some(input) => Err(refuse_clip(alloc, GraphCode::ClipMissing, path, input.name.text())),
     }
 }
 
 fn check_earlier(
     alloc: Global,
-    node: usize,
+    path: &str,
     places: &BTreeMap<String, u32>,
     clips: &[RawClip],
 ) -> Result<(), GraphFault>
-    ensures ok { OnOk result (lost_clip node (get_by_text places.now) clips.now ≡ None) }
-    ensures err { IfErr result (λ e. Tells (lost_clip node (get_by_text places.now) clips.now) e) }
+    ensures ok { OnOk result (lost_clip path.now (get_by_text places.now) clips.now ≡ None) }
+    ensures err { IfErr result (λ e. Tells (lost_clip path.now (get_by_text places.now) clips.now) e) }
 {
     match first_lost(places, clips) {
         None => Ok(()),
-        Some(clip) => Err(refuse_clip(alloc, GraphCode::NoEarlierNode, node, clip.name.text())),
+        Some(clip) => Err(refuse_clip(alloc, GraphCode::NoEarlierNode, path, clip.name.text())),
     }
 }
 

@@ -2,14 +2,16 @@
 ghost use Rattle.std.specs.Prelude.{◌≡◌, ℕ, ℤ, map, length, IsTrue, Some, slice_get};
 ghost use Rattle.fx_effect.specs.Shape.{IsProject};
 ghost use Rattle.fx_graph.specs.declared.node.Node.{Node as AnyNode};
+ghost use Rattle.fx_graph.specs.Edits.{HasParam, edited};
 ghost use Rattle.fx_graph.specs.Shown.{shown, does_of};
 ghost use Rattle.fx_graph.specs.Graphs.{is_output};
 ghost use Rattle.fx_graph.specs.Kept.{AreNodes, HasOutput, IsRange, HasLawfulValues, RendersForm};
 ghost use Rattle.fx_graph.specs.KeptLaws.{nodes_prop};
 
-use crate::node::Node;
+use crate::node::{Node, Work};
 use fx_base::{Pattern, Rect};
 use fx_effect::Catalogue;
+use fx_params::Param;
 use fx_pixel::{Components, Depth, Format};
 
 /// A graph: the project's extent, whose sides are from 1 to 8,192 pixels, and the depth and components of
@@ -33,6 +35,33 @@ pub struct Graph<E: Catalogue> {
     ghost range: { IsRange first last },
     ghost rendered: { HasOutput (length nodes.items) output },
     pub ghost kept: { AreNodes E.meaning (depth, components) (map shown nodes.items) } by { nodes_prop E.meaning (depth, components) (map shown nodes.items) },
+}
+
+impl<E: Catalogue> Graph<E> {
+    ghost use Rattle.fx_graph.specs.Edits.{IsEditOf, with_edit};
+    ghost use Rattle.fx_graph.specs.Beside.{SameBesideNodes};
+
+    /// Puts a parameter in the place of one of a node's that has the same definition.
+    pub fn set_param(&mut self, node: u32, param: u32, value: Param)
+        requires { IsEditOf (map shown self.old.nodes.items) node param value }
+        ensures nodes { map shown self.new.nodes.items ≡ with_edit node param value (map shown self.old.nodes.items) }
+        ensures others { SameBesideNodes self.old self.new }
+    {
+        // Asking it tells the proof that the parameter is sound.
+        let _def = value.def();
+        put_param(&mut self.nodes[node as usize], param, value);
+    }
+}
+
+// Puts a parameter in the place of one of a node's.
+fn put_param<E>(node: &mut Node<E>, param: u32, value: Param)
+    requires { HasParam (does_of node.old.work) param value.def }
+    ensures { shown node.new ≡ edited param value (shown node.old) }
+{
+    match &mut node.work {
+        Work::Source { .. } => unreachable!(),
+        Work::Effect { params, .. } => params[param as usize] = value,
+    }
 }
 
 /// At every frame the values of an effect are lawful in its context.

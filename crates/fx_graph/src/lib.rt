@@ -9,11 +9,14 @@ mod clips;
 mod described;
 mod effect;
 mod graph;
+mod named;
 mod node;
 mod params;
-mod places;
-mod refuse;
+pub mod places;
+pub mod refuse;
 
 pub use accepting::accept;
 pub use graph::{Graph, lawful_values, rendered_forms};
+pub use named::{effect_named, param_named};
 pub use node::{Node, Work};
+pub use params::{param_given, value_fault};

@@ -9,15 +9,15 @@ ghost use Rattle.fx_base.specs.Fix.{raw_of_text};
 ghost use Rattle.fx_params.specs.Value.{refusal as refused_by};
 ghost use Rattle.fx_params.specs.declared.def.ParamValue.TheVariants as value;
 ghost use Rattle.fx_graph.specs.Params.{choice, whole, meant, value_in, is_refused, is_after, rises_after, is_rising};
-ghost use Rattle.fx_graph.specs.Params.{param_fault, def_of, params_fault};
+ghost use Rattle.fx_graph.specs.Params.{value_fault, param_fault, def_of, params_fault};
 ghost use Rattle.fx_graph.specs.Params.{key_put, keys_put, plain_put, valued, given_put, param_of};
 ghost use Rattle.fx_params.specs.Value.{number_of};
 ghost use Rattle.fx_params.specs.Keys.{with_key};
-ghost use Rattle.fx_params.specs.Parameter.{IsSound};
+ghost use Rattle.fx_params.specs.Parameter.{IsSound, made};
 ghost use Rattle.fx_effect.specs.Shape.{IsParam};
 
 use crate::refuse::refuse_param;
-use fx_base::{Fix, Memory, Names};
+use fx_base::{Fix, Memory, Name, Names};
 use fx_params::{Param, ParamDef, ParamFault, ParamKind, ParamValue};
 use fx_text::{GraphCode, GraphFault, RawKey, RawParam, RawScalar, RawValue};
 use std::alloc::Global;
@@ -25,50 +25,97 @@ use std::alloc::Global;
 /// Refuses the first parameter that the effect hasn't, whose value isn't taken, or whose keys don't rise.
 pub(crate) fn check_params(
     alloc: Global,
-    node: usize,
+    path: &str,
     defs: &[ParamDef],
     params: &[RawParam],
 ) -> Result<(), GraphFault>
-    ensures ok { OnOk result (params_fault node defs.now params.now ≡ None) }
-    ensures err { IfErr result (λ e. Tells (params_fault node defs.now params.now) e) }
+    ensures ok { OnOk result (params_fault path.now defs.now params.now ≡ None) }
+    ensures err { IfErr result (λ e. Tells (params_fault path.now defs.now params.now) e) }
 {
     for param in params {
-        check_param(alloc, node, defs, param)?;
+        check_param(alloc, path, defs, param)?;
     }
     Ok(())
 }
 
 fn check_param(
     alloc: Global,
-    node: usize,
+    path: &str,
     defs: &[ParamDef],
     param: &RawParam,
 ) -> Result<(), GraphFault>
-    ensures ok { OnOk result (param_fault node param.now (def_of defs.now param.now.name) ≡ None) }
-    ensures err { IfErr result (λ e. Tells (param_fault node param.now (def_of defs.now param.now.name)) e) }
+    ensures ok { OnOk result (param_fault path.now param.now (def_of defs.now param.now.name) ≡ None) }
+    ensures err { IfErr result (λ e. Tells (param_fault path.now param.now (def_of defs.now param.now.name)) e) }
 {
     match def_of(defs, param.name.text()) {
-        None => Err(refuse_param(alloc, GraphCode::UnknownParam, node, param.name.text())),
-        Some(def) => check_value(alloc, node, def, param),
+        None => Err(refuse_param(alloc, GraphCode::UnknownParam, path, param.name.text())),
+        Some(def) => check_value(alloc, path, def, param),
     }
 }
 
 fn check_value(
     alloc: Global,
-    node: usize,
+    path: &str,
     def: &ParamDef,
     param: &RawParam,
 ) -> Result<(), GraphFault>
-    ensures ok { OnOk result (param_fault node param.now (Some def.now) ≡ None) }
-    ensures err { IfErr result (λ e. Tells (param_fault node param.now (Some def.now)) e) }
+    ensures ok { OnOk result (param_fault path.now param.now (Some def.now) ≡ None) }
+    ensures err { IfErr result (λ e. Tells (param_fault path.now param.now (Some def.now)) e) }
 {
-    if is_refused(def, &param.value) {
-        Err(refuse_param(alloc, GraphCode::ParamRefused, node, param.name.text()))
-    } else if !is_rising(&param.value) {
-        Err(refuse_param(alloc, GraphCode::KeysNotRising, node, param.name.text()))
-    } else {
-        Ok(())
+    match value_fault(def, &param.value) {
+        Some(code) => Err(refuse_param(alloc, code, path, param.name.text())),
+        None => Ok(()),
     }
+}
+
+/// Why a parameter of this definition refuses what a graph file gives it: `ParamRefused` where the value or that of a
+/// key isn't of its kind or is out of its range, and else `KeysNotRising` where a key's frame isn't greater than that of
+/// the key before.
+pub fn value_fault(def: &ParamDef, value: &RawValue) -> Option<GraphCode>
+    ensures { result ≡ value_fault def.now value.now }
+{
+    if is_refused(def, value) {
+        Some(GraphCode::ParamRefused)
+    } else if is_rising(value) {
+        None
+    } else {
+        Some(GraphCode::KeysNotRising)
+    }
+}
+
+/// A parameter of this definition with what a graph file gives it, where `value_fault` finds nothing.
+pub fn param_given(alloc: Global, def: &ParamDef, value: &RawValue) -> Result<Param, Memory>
+    requires { IsParam def.now }
+    ensures { IfOk result (λ param. param ≡ valued (made def.now) value.now) }
+{
+    let mut param = Param::new(alloc, def_copied(alloc, def)?)?;
+    set(alloc, &mut param, value)?;
+    Ok(param)
+}
+
+fn def_copied(alloc: Global, def: &ParamDef) -> Result<ParamDef, Memory>
+    ensures { IfOk result (λ copy. copy ≡ def.now) }
+{
+    let name = def.name.copied(alloc)?;
+    let choices = names_copied(alloc, def.choices.items())?;
+    Ok(ParamDef {
+        name,
+        kind: def.kind,
+        least: def.least,
+        greatest: def.greatest,
+        choices: Names::of(choices),
+        start: def.start,
+    })
+}
+
+fn names_copied(alloc: Global, names: &[Name]) -> Result<Vec<Name>, Memory>
+    ensures { IfOk result (λ copies. copies.items ≡ names.now) }
+{
+    let mut copies = Vec::new(alloc);
+    for name in names {
+        copies.push(name.copied(alloc)?)?;
+    }
+    Ok(copies)
 }
 
 fn def_of<'a>(defs: &'a [ParamDef], name: &str) -> Option<&'a ParamDef>

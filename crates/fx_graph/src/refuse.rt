@@ -6,59 +6,59 @@ use fx_base::Memory;
 use fx_text::{GraphCode, GraphFault, GraphPath};
 use std::alloc::Global;
 
-/// The refusal of a member of the node at a place.
-pub(crate) fn refuse(alloc: Global, code: GraphCode, node: usize, member: &str) -> GraphFault
-    ensures { Tells (Some (refusal code (node_path node member.now))) result }
+/// The refusal of a member of the node at a path.
+pub fn refuse(alloc: Global, code: GraphCode, path: &str, member: &str) -> GraphFault
+    ensures { Tells (Some (refusal code (node_path path.now member.now))) result }
 {
-    match node_path(alloc, node, member) {
+    match node_path(alloc, path, member) {
         Ok(path) => GraphFault::Refused(code, path),
         Err(_) => GraphFault::Memory,
     }
 }
 
-fn node_path(alloc: Global, node: usize, member: &str) -> Result<GraphPath, Memory>
-    ensures { IfOk result (λ path. path ≡ node_path node member.now) }
+fn node_path(alloc: Global, path: &str, member: &str) -> Result<GraphPath, Memory>
+    ensures { IfOk result (λ made. made ≡ node_path path.now member.now) }
 {
-    let text = format!(in alloc; "nodes[{node}].{member}")?;
+    let text = format!(in alloc; "{path}.{member}")?;
     Ok(GraphPath::of(text))
 }
 
-/// The refusal of a clip of the node at a place.
-pub(crate) fn refuse_clip(alloc: Global, code: GraphCode, node: usize, clip: &str) -> GraphFault
-    ensures { Tells (Some (refusal code (clip_path node clip.now))) result }
+/// The refusal of a clip of the node at a path.
+pub fn refuse_clip(alloc: Global, code: GraphCode, path: &str, clip: &str) -> GraphFault
+    ensures { Tells (Some (refusal code (clip_path path.now clip.now))) result }
 {
-    match clip_path(alloc, node, clip) {
+    match clip_path(alloc, path, clip) {
         Ok(path) => GraphFault::Refused(code, path),
         Err(_) => GraphFault::Memory,
     }
 }
 
-fn clip_path(alloc: Global, node: usize, clip: &str) -> Result<GraphPath, Memory>
-    ensures { IfOk result (λ path. path ≡ clip_path node clip.now) }
+fn clip_path(alloc: Global, path: &str, clip: &str) -> Result<GraphPath, Memory>
+    ensures { IfOk result (λ made. made ≡ clip_path path.now clip.now) }
 {
-    let text = format!(in alloc; "nodes[{node}].clips.{clip}")?;
+    let text = format!(in alloc; "{path}.clips.{clip}")?;
     Ok(GraphPath::of(text))
 }
 
-/// The refusal of a parameter of the node at a place.
-pub(crate) fn refuse_param(alloc: Global, code: GraphCode, node: usize, param: &str) -> GraphFault
-    ensures { Tells (Some (refusal code (param_path node param.now))) result }
+/// The refusal of a parameter of the node at a path.
+pub fn refuse_param(alloc: Global, code: GraphCode, path: &str, param: &str) -> GraphFault
+    ensures { Tells (Some (refusal code (param_path path.now param.now))) result }
 {
-    match param_path(alloc, node, param) {
+    match param_path(alloc, path, param) {
         Ok(path) => GraphFault::Refused(code, path),
         Err(_) => GraphFault::Memory,
     }
 }
 
-fn param_path(alloc: Global, node: usize, param: &str) -> Result<GraphPath, Memory>
-    ensures { IfOk result (λ path. path ≡ param_path node param.now) }
+fn param_path(alloc: Global, path: &str, param: &str) -> Result<GraphPath, Memory>
+    ensures { IfOk result (λ made. made ≡ param_path path.now param.now) }
 {
-    let text = format!(in alloc; "nodes[{node}].params.{param}")?;
+    let text = format!(in alloc; "{path}.params.{param}")?;
     Ok(GraphPath::of(text))
 }
 
 /// The refusal at a path.
-pub(crate) fn refuse_at(alloc: Global, code: GraphCode, path: &str) -> GraphFault
+pub fn refuse_at(alloc: Global, code: GraphCode, path: &str) -> GraphFault
     ensures { Tells (Some (refusal code path.now)) result }
 {
     match String::from_str(alloc, path) {

@@ -4,3 +4,4 @@ pub mod Counts
 pub mod Pairs
 pub mod PrintedLaws
 pub mod Rising
+pub mod MigratedLaws

@@ -108,6 +108,10 @@ format_at path key d = after (text_at path key d) (λ text. word_at path key (fo
 abbrev pub short : List ℕ → Option (List ℕ)
 short text = if nat_le 1 (length text) && nat_le (length text) 64 then Some text else None
 
+-- a value that is a text of 1 to 64 bytes
+abbrev pub short_of : List ℕ → Data → Result (List ℕ) Fault
+short_of path d = after (word_at [] path (as_str d)) (λ text. or_range [] path (short text))
+
 abbrev pub short_at : List ℕ → List ℕ → Data → Result (List ℕ) Fault
 short_at path key d = after (text_at path key d) (λ text. or_range path key (short text))
 
@@ -145,6 +149,10 @@ abbrev pub list_at : List ℕ → List ℕ → ℕ → ℕ → Data → Result I
 list_at path key least most d =
     after (word_at path key (option_and_then as_array (get key d))) (λ items.
     or_range path key (few least most items))
+
+-- the same, of which there are none where the member is absent
+abbrev pub list_or : List ℕ → List ℕ → ℕ → ℕ → Data → Result Items Fault
+list_or path key least most d = if has key d then list_at path key least most d else Ok no_items
 
 abbrev pub member_at : List ℕ → List ℕ → Data → Result Data Fault
 member_at path key d = word_at path key (get key d)

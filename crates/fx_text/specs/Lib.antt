@@ -4,8 +4,10 @@ pub mod Json
 pub mod Objects
 pub mod Raw
 pub mod Nodes
+pub mod Takes
 pub mod Key
 pub mod Values
 pub mod Answers
 pub mod Fault
 pub mod Printed
+pub mod Migrated

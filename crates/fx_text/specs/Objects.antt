@@ -1,5 +1,5 @@
 -- What a graph's objects say, or the first fault.
-use Rattle.std.specs.Prelude.{◌-◌, ℕ, ◌+◌, min, if◌then◌else◌, Option, Some, None, List, [], ◌∷◌, codes, Result, Ok, Err}
+use Rattle.std.specs.Prelude.{◌-◌, ℕ, ◌+◌, nat_eq, min, ℤ, pos, Bool, true, false, ◌&&◌, if◌then◌else◌, Option, Some, None, List, [], ◌∷◌, codes, Result, Ok, Err}
 use Rattle.fx_base.specs.declared.limits.TheConstants.{LAST_FRAME, MOST_FRAMES}
 use Rattle.serde_json.specs.Data.{Data, Items}
 use Rattle.serde_json.specs.Find.{get}
@@ -14,8 +14,11 @@ use Rattle.fx_text.specs.declared.value.RawClip.{RawClip}
 use Rattle.fx_text.specs.declared.value.RawParam.{RawParam}
 use Rattle.fx_text.specs.Fault.{Fault}
 use Rattle.fx_text.specs.Json.{after, word_at, has, value_of, check_object, whole_at, text_at, depth_at, components_at}
-use Rattle.fx_text.specs.Json.{format_at, short_at, hold_at, depth_or, components_or, list_at, member_at, read_items}
-use Rattle.fx_text.specs.Nodes.{Node, Graph}
+use Rattle.fx_text.specs.Json.{format_at, short_at, hold_at, depth_or, components_or, list_at, list_or, member_at, read_items}
+use Rattle.fx_text.specs.Json.{integer_at, short_of}
+use Rattle.fx_text.specs.Nodes.{Node, Group, Graph}
+use Rattle.fx_text.specs.Takes.{takes_at}
+use Rattle.fx_text.specs.declared.raw.TheConstants.{MOST_GROUPS, MOST_GROUP_NODES, MOST_INPUTS}
 use Rattle.fx_text.specs.Paths.{inside, joined}
 use Rattle.fx_text.specs.Raw.{Project}
 use Rattle.fx_text.specs.Values.{clips_in, params_in}
@@ -73,7 +76,7 @@ source_of path project d =
     after (hold_at path (codes "outside") d) (λ hold.
     after (depth_or path (codes "depth") project.depth d) (λ depth.
     after (components_or path (codes "components") project.components d) (λ components.
-    Ok (record { name = name; work = work.Source pattern first last hold depth components })))))))))
+    Ok (record { name = name; path = path; work = work.Source pattern first last hold depth components })))))))))
 
 abbrev pub context_of : List ℕ → Option RawContext
 context_of text =
@@ -108,36 +111,97 @@ effect_of path d =
     after (context_at path (codes "context") d) (λ context.
     after (clips_at path d) (λ clips.
     after (params_at path d) (λ params.
-    Ok (record { name = name; work = work.Effect effect context clips params })))))))
+    Ok (record { name = name; path = path; work = work.Effect effect context clips params })))))))
 
--- a source where it has a member of that name, and else an effect
-abbrev pub node_of : List ℕ → Project → Data → Result Node Fault
-node_of path project d = if has (codes "source") d then source_of path project d else effect_of path d
+abbrev pub use_keys : List (List ℕ)
+use_keys = codes "name" ∷ codes "group" ∷ codes "clips" ∷ []
+
+-- a use of a group: its name, the group's name, and clips
+abbrev pub use_of : List ℕ → Data → Result Node Fault
+use_of path d =
+    after (check_object path use_keys d) (λ _.
+    after (short_at path (codes "name") d) (λ name.
+    after (text_at path (codes "group") d) (λ group.
+    after (clips_at path d) (λ clips.
+    Ok (record { name = name; path = path; work = work.GroupUse group clips })))))
+
+-- where there may be groups, a use where it has a member `group`; else a source where it has a member `source`, and
+-- else an effect
+abbrev pub node_of : List ℕ → Bool → Project → Data → Result Node Fault
+node_of path grouped project d =
+    if grouped && has (codes "group") d then use_of path d else
+    if has (codes "source") d then source_of path project d else effect_of path d
 
 -- the nodes of a list
-abbrev pub nodes_of : List ℕ → Project → Items → Result (List Node) Fault
-nodes_of path project = read_items (λ k d. node_of (inside path k) project d) 0
+abbrev pub nodes_of : List ℕ → Bool → Project → Items → Result (List Node) Fault
+nodes_of path grouped project = read_items (λ k d. node_of (inside path k) grouped project d) 0
 
-abbrev pub top_keys : List (List ℕ)
-top_keys = codes "ofxr" ∷ codes "project" ∷ codes "output" ∷ codes "range" ∷ codes "nodes" ∷ []
+-- ---- groups
 
--- the graph: ofxr, project, output, range and nodes
+abbrev pub inputs_of : List ℕ → Items → Result (List (List ℕ)) Fault
+inputs_of path = read_items (λ k d. short_of (inside path k) d) 0
+
+abbrev pub group_keys : List (List ℕ)
+group_keys = codes "name" ∷ codes "inputs" ∷ codes "nodes" ∷ codes "output" ∷ []
+
+-- a group: name, inputs, nodes and output
+abbrev pub group_of : List ℕ → Project → Data → Result Group Fault
+group_of path project d =
+    let nodes_path = joined path (codes "nodes") in
+    after (check_object path group_keys d) (λ _.
+    after (short_at path (codes "name") d) (λ name.
+    after (after (list_at path (codes "inputs") 0 MOST_INPUTS d) (inputs_of (joined path (codes "inputs")))) (λ inputs.
+    after (after (list_at path (codes "nodes") 1 MOST_GROUP_NODES d) (nodes_of nodes_path true project)) (λ nodes.
+    after (text_at path (codes "output") d) (λ output.
+    Ok (record { name = name; inputs = inputs; nodes = nodes; output = output }))))))
+
+-- the groups of a graph, of which there are none where the member is absent
+abbrev pub groups_of : Project → Items → Result (List Group) Fault
+groups_of project = read_items (λ k d. group_of (inside (codes "groups") k) project d) 0
+
+abbrev pub groups_at : Project → Data → Result (List Group) Fault
+groups_at project d = after (list_or [] (codes "groups") 0 MOST_GROUPS d) (groups_of project)
+
+-- ---- the graph
+
+-- there may be groups where `ofxr` is the whole number 2
+abbrev pub is_two : Option ℤ → Bool
+is_two (Some (pos n)) = nat_eq n 2
+is_two _ = false
+
+abbrev pub is_grouped : Data → Bool
+is_grouped d = is_two (integer_at (codes "ofxr") d)
+
+abbrev pub plain_keys : List (List ℕ)
+plain_keys =
+    codes "ofxr" ∷ codes "project" ∷ codes "output" ∷ codes "range" ∷ codes "nodes" ∷ codes "takes" ∷ []
+
+abbrev pub top_keys : Bool → List (List ℕ)
+top_keys false = plain_keys
+top_keys true = codes "groups" ∷ plain_keys
+
+-- the graph: ofxr, project, output, range, groups, nodes and takes
 abbrev pub graph_of : ℕ → ℕ → Data → Result Graph Fault
 graph_of most side d =
-    after (check_object [] top_keys d) (λ _.
-    after (whole_at [] (codes "ofxr") 1 1 d) (λ format.
+    let grouped = is_grouped d in
+    after (check_object [] (top_keys grouped) d) (λ _.
+    after (whole_at [] (codes "ofxr") 1 2 d) (λ format.
     after (after (member_at [] (codes "project") d) (project_of (codes "project") side)) (λ project.
     after (after (member_at [] (codes "output") d) (output_of (codes "output"))) (λ output.
     after (after (member_at [] (codes "range") d) (range_of (codes "range"))) (λ range.
-    after (after (list_at [] (codes "nodes") 1 most d) (nodes_of (codes "nodes") project)) (λ nodes.
+    after (groups_at project d) (λ groups.
+    after (after (list_at [] (codes "nodes") 1 most d) (nodes_of (codes "nodes") grouped project)) (λ nodes.
+    after (takes_at d) (λ takes.
     Ok (record {
       format = format;
       project = project;
       output = output;
       first = range.first;
       last = range.last;
+      groups = groups;
       nodes = nodes;
-    })))))))
+      takes = takes;
+    })))))))))
 
 abbrev pub graph_in : ℕ → ℕ → Option Data → Result Graph Fault
 graph_in most side (Some d) = graph_of most side d

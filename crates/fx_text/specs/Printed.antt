@@ -1,6 +1,6 @@
 -- The JSON value of a raw graph: what a printer of graphs writes. Each member is given, in the byte order of
 -- keys, but for a context that the graph leaves open.
-use Rattle.std.specs.Prelude.{◌≡◌, ℕ, ◌≤◌, ◌<◌, ◌^◌, ℤ, pos, negsuc, Bool, true, false, List, [], ◌∷◌, length, codes}
+use Rattle.std.specs.Prelude.{◌≡◌, ℕ, ◌+◌, ◌≤◌, ◌<◌, ◌^◌, nat_eq, IsTrue, ℤ, pos, negsuc, Bool, true, false, List, [], ◌∷◌, length, codes}
 use Rattle.fx_base.specs.declared.limits.TheConstants.{MOST_NODES, MOST_SIDE}
 use Rattle.std.specs.Prelude.{Option, Some, None, Ok, All}
 use Rattle.serde_json.specs.Data.{Data, unsigned, boolean, number, string, array, object}
@@ -25,7 +25,10 @@ use Rattle.fx_text.specs.declared.value.RawValue.{RawValue}
 use Rattle.fx_text.specs.declared.value.RawValue.TheVariants as value
 use Rattle.fx_text.specs.Json.{value_of}
 use Rattle.fx_text.specs.Key.{Key, IsFrame, AreFewKeys}
-use Rattle.fx_text.specs.Nodes.{Node, Graph, AreFrames, AreFew}
+use Rattle.fx_text.specs.Nodes.{Node, Group, Graph, AreFrames, AreFew, IsGroupSize, AreFewGroups}
+use Rattle.fx_text.specs.Takes.{Take, AreFewEdits, AreFewTakes}
+use Rattle.fx_text.specs.declared.raw.RawEdit.{RawEdit}
+use Rattle.fx_text.specs.Paths.{inside, joined}
 use Rattle.fx_text.specs.Objects.{read_graph}
 use Rattle.fx_text.specs.Raw.{Project, AreSides, IsHead}
 
@@ -97,6 +100,10 @@ work_printed name (work.Source pattern first last hold depth components) = objec
     member (codes "name") (string name) (
     member (codes "outside") (string (outside_text hold)) (
     member (codes "source") (string pattern) no_members)))))))
+work_printed name (work.GroupUse group clips) = object (
+    member (codes "clips") (object (clips_printed clips)) (
+    member (codes "group") (string group) (
+    member (codes "name") (string name) no_members)))
 work_printed name (work.Effect effect context clips params) = object (
     member (codes "clips") (object (clips_printed clips)) (
     context_printed context (
@@ -124,13 +131,57 @@ output_printed o = object (
 abbrev pub range_printed : ℕ → ℕ → Data
 range_printed first last = object (member (codes "first") (whole first) (member (codes "last") (whole last) no_members))
 
+abbrev pub names_printed : List (List ℕ) → Items
+names_printed [] = no_items
+names_printed (name ∷ names) = item (string name) (names_printed names)
+
+abbrev pub group_printed : Group → Data
+group_printed g = object (
+    member (codes "inputs") (array (names_printed g.inputs)) (
+    member (codes "name") (string g.name) (
+    member (codes "nodes") (array (nodes_printed g.nodes)) (
+    member (codes "output") (string g.output) no_members))))
+
+abbrev pub groups_printed : List Group → Items
+groups_printed [] = no_items
+groups_printed (g ∷ gs) = item (group_printed g) (groups_printed gs)
+
+abbrev pub edit_printed : RawEdit → Data
+edit_printed e = object (
+    member (codes "node") (string e.node) (
+    member (codes "param") (string e.param) (
+    member (codes "value") (value_printed e.value) no_members)))
+
+abbrev pub edits_printed : List RawEdit → Items
+edits_printed [] = no_items
+edits_printed (e ∷ es) = item (edit_printed e) (edits_printed es)
+
+abbrev pub take_printed : Take → Data
+take_printed t = object (
+    member (codes "edits") (array (edits_printed t.edits)) (
+    member (codes "file") (string t.file) no_members))
+
+abbrev pub takes_printed : List Take → Items
+takes_printed [] = no_items
+takes_printed (t ∷ ts) = item (take_printed t) (takes_printed ts)
+
+-- groups are given where there are some, and so are takes
+abbrev pub with_groups : List Group → Members → Members
+with_groups [] ms = ms
+with_groups (g ∷ gs) ms = member (codes "groups") (array (groups_printed (g ∷ gs))) ms
+
+abbrev pub with_takes : List Take → Members
+with_takes [] = no_members
+with_takes (t ∷ ts) = member (codes "takes") (array (takes_printed (t ∷ ts))) no_members
+
 abbrev pub graph_printed : Graph → Data
 graph_printed g = object (
+    with_groups g.groups (
     member (codes "nodes") (array (nodes_printed g.nodes)) (
     member (codes "ofxr") (whole g.format) (
     member (codes "output") (output_printed g.output) (
     member (codes "project") (project_printed g.project) (
-    member (codes "range") (range_printed g.first g.last) no_members)))))
+    member (codes "range") (range_printed g.first g.last) (with_takes g.takes)))))))
 
 -- ---- what a raw graph keeps, and a length of names that the format takes
 
@@ -159,16 +210,54 @@ IsValue (value.Keyed keys step) = AreFewKeys (length keys) × All IsKey keys
 abbrev pub IsWork : RawWork → Type 0
 IsWork (work.Source pattern first last hold depth components) = AreFrames first last
 IsWork (work.Effect effect context clips params) = All (λ p. IsValue p.value) params
+IsWork (work.GroupUse group clips) = Unit {0}
 
-pub record IsNode (n : Node) : Type 0 where
+-- a use stands only where there may be groups
+abbrev pub MayStand : Bool → RawWork → Type 0
+MayStand grouped (work.GroupUse group clips) = IsTrue grouped
+MayStand grouped w = Unit {0}
+
+pub record IsNode (grouped : Bool) (path : List ℕ) (n : Node) : Type 0 where
   pub name : IsShort n.name
+  pub path_is : n.path ≡ path
   pub work : IsWork n.work
+  pub stands : MayStand grouped n.work
+
+-- the nodes of the list at a path, from k on
+abbrev pub AreNodes : Bool → List ℕ → ℕ → List Node → Type 0
+AreNodes grouped path k [] = Unit {0}
+AreNodes grouped path k (n ∷ ns) = IsNode grouped (inside path k) n × AreNodes grouped path (k + 1) ns
+
+pub record IsGroup (path : List ℕ) (g : Group) : Type 0 where
+  pub name : IsShort g.name
+  pub few : IsGroupSize g.inputs g.nodes
+  pub some : 1 ≤ length g.nodes
+  pub inputs : All IsShort g.inputs
+  pub nodes : AreNodes true (joined path (codes "nodes")) 0 g.nodes
+
+abbrev pub AreGroups : ℕ → List Group → Type 0
+AreGroups k [] = Unit {0}
+AreGroups k (g ∷ gs) = IsGroup (inside (codes "groups") k) g × AreGroups (k + 1) gs
+
+pub record IsTake (t : Take) : Type 0 where
+  pub few : AreFewEdits t.edits
+  pub values : All (λ e. IsValue e.value) t.edits
+
+-- groups stand only in format 2
+abbrev pub HaveFormat : ℕ → List Group → Type 0
+HaveFormat format [] = Unit {0}
+HaveFormat format (g ∷ gs) = IsTrue (nat_eq format 2)
 
 pub record IsGraph (g : Graph) : Type 0 where
   pub head : IsHead g.format g.first g.last
   pub sides : AreSides g.project.width g.project.height
+  pub may_have : HaveFormat g.format g.groups
+  pub few_groups : AreFewGroups g.groups
+  pub groups : AreGroups 0 g.groups
   pub few : AreFew g.nodes
-  pub nodes : All IsNode g.nodes
+  pub nodes : AreNodes (nat_eq g.format 2) (codes "nodes") 0 g.nodes
+  pub few_takes : AreFewTakes g.takes
+  pub takes : All IsTake g.takes
 
 -- bytes that say the JSON value of a raw graph, however they are laid out, read as that graph
 abbrev pub PrintedReadsBack : Type 0

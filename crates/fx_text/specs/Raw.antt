@@ -17,10 +17,10 @@ pub record AreSides (width height : ℕ) : Type 0 where
   pub some_height : 1 ≤ height
   pub few_rows : height ≤ MOST_SIDE
 
--- format 1, and frames from 0 to 999,999, at most 100,000 of them
+-- format 1 or 2, and frames from 0 to 999,999, at most 100,000 of them
 pub record IsHead (format first last : ℕ) : Type 0 where
   pub low : 1 ≤ format
-  pub high : format ≤ 1
+  pub high : format ≤ 2
   pub order : first ≤ last
   pub few : last ≤ first + (MOST_FRAMES - 1)
   pub end : last ≤ LAST_FRAME

@@ -6,8 +6,8 @@ use crate::path::GraphPath;
 use fx_base::Memory;
 use std::alloc::{AllocError, AllocFailed};
 
-/// What is wrong with a graph, in the order of the codes G1 to G14. This crate gives the first three; the
-/// others come where a raw graph is accepted.
+/// What is wrong with a graph, in the order of the codes G1 to G18. This crate gives the first three; the
+/// others come where groups are expanded, and where a raw graph and its takes are accepted.
 #[derive(Clone, Copy, Debug, PartialEq, Eq)]
 pub enum GraphCode {
     /// The bytes are no JSON text.
@@ -38,6 +38,14 @@ pub enum GraphCode {
     UnknownOutput,
     /// A text is no pattern of file names, or hasn't the run of `#` that it needs.
     PatternWrong,
+    /// No effect has the name that an edit asks for.
+    EditOfNoEffect,
+    /// No group before this one, or none at all, has the name that a use asks for.
+    UnknownGroup,
+    /// The expanded list has too many nodes.
+    TooManyNodes,
+    /// A name, or the text of a clip, has a slash.
+    SlashInName,
 }
 
 /// Why there is no graph.

@@ -5,12 +5,14 @@ ghost use Rattle.std.specs.Prelude.{option_map, option_and_then};
 ghost use Rattle.std.specs.List.{list_any};
 ghost use Rattle.std.specs.Str.{bytes_eq};
 ghost use Rattle.serde_json.specs.View.{view, items_view, members_view};
+ghost use Rattle.serde_json.specs.Data.{depth};
+ghost use Rattle.serde_json.specs.Read.{max_depth};
 ghost use Rattle.serde_json.specs.Find.{get, as_array};
 ghost use Rattle.fx_text.specs.declared.fault.GraphFault.TheVariants.{Memory as OutOfMemory};
 ghost use Rattle.fx_text.specs.Answers.{Answers, Refuses};
 ghost use Rattle.fx_text.specs.Fault.{told};
 ghost use Rattle.fx_text.specs.Json.{unknown, check_object, integer_at, whole_within, whole_at, text_at, word_at};
-ghost use Rattle.fx_text.specs.Json.{wrong_at, range_at, short, short_at, has, member_at, few, list_at, value_of};
+ghost use Rattle.fx_text.specs.Json.{wrong_at, range_at, short, short_of, short_at, has, member_at, few, list_at, list_or, value_of};
 
 use crate::fault::{GraphCode, GraphFault};
 use crate::path::{GraphPath, joined};
@@ -28,6 +30,7 @@ pub(crate) enum JsonFault {
 /// The value of a text.
 pub(crate) fn value_of(alloc: Global, bytes: &[u8]) -> Result<Value, JsonFault>
     ensures ok { IfOk result (λ value. value_of bytes.now ≡ Some (view value)) }
+    ensures nests { IfOk result (λ value. depth (view value) ≤ max_depth) }
     ensures refused { IsErrOf result JsonFault.NotJson → value_of bytes.now ≡ None }
 {
     match Value::from_slice(alloc, bytes) {
@@ -108,7 +111,7 @@ pub(crate) fn check_object(
 }
 
 // The whole number at a key, of any size.
-fn integer_at(key: &str, value: &Value) -> Option<i128>
+pub(crate) fn integer_at(key: &str, value: &Value) -> Option<i128>
     ensures { result ≡ integer_at key.now (view value.now) }
 {
     value
@@ -227,6 +230,19 @@ pub(crate) fn short_at(
     }
 }
 
+// A value that is a text of 1 to 64 bytes, kept.
+pub(crate) fn short_of(alloc: Global, path: &str, value: &Value) -> Result<Name, GraphFault>
+    ensures { Answers result (short_of path.now (view value.now)) }
+{
+    match value.as_str() {
+        Some(text) => match short(text) {
+            Some(text) => Ok(Name::of(text.to_string(alloc)?)),
+            None => Err(range_at(alloc, "", path)),
+        },
+        None => Err(wrong_at(alloc, "", path)),
+    }
+}
+
 // Whether there is a member.
 pub(crate) fn has(key: &str, value: &Value) -> bool
     ensures { result ≡ has key.now (view value.now) }
@@ -291,5 +307,26 @@ pub(crate) fn list_at<'v>(
             None => Err(range_at(alloc, path, key)),
         },
         None => Err(wrong_at(alloc, path, key)),
+    }
+}
+
+// The same, of which there are none where the member is absent.
+pub(crate) fn list_or<'v>(
+    alloc: Global,
+    path: &str,
+    key: &str,
+    least: usize,
+    most: usize,
+    value: &'v Value,
+) -> Result<&'v [Value], GraphFault>
+    ensures ok { let wanted = list_or path.now key.now least most (view value.now)
+        in IfOk result (λ items. wanted ≡ Ok (items_view items.now)) }
+    ensures range { IfOk result (λ items. length items.now ≤ most) }
+    ensures err { Refuses result (list_or path.now key.now least most (view value.now)) }
+{
+    if has(key, value) {
+        list_at(alloc, path, key, least, most, value)
+    } else {
+        Ok(&[])
     }
 }

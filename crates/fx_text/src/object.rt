@@ -1,6 +1,6 @@
 //! Reads the objects of a graph file, each as its definition says it: first that it is an object and has no
 //! unknown member, then its members in the order of the format.
-ghost use Rattle.std.specs.Prelude.{◌≡◌, ◌≤◌, ◌+◌, ◌-◌, IfOk, length};
+ghost use Rattle.std.specs.Prelude.{◌≡◌, ◌≤◌, ◌+◌, ◌-◌, [], IfOk, length};
 ghost use Rattle.fx_base.specs.declared.limits.TheConstants.{LAST_FRAME, MOST_FRAMES, MOST_NODES, MOST_SIDE};
 ghost use Rattle.serde_json.specs.View.{view, items_view};
 ghost use Rattle.fx_text.specs.Answers.{Answers, Refuses};
@@ -8,12 +8,15 @@ ghost use Rattle.fx_text.specs.Json.{depth_of, components_of, format_of, depth_a
 ghost use Rattle.fx_text.specs.Json.{outside_of, hold_at, depth_or, components_or};
 ghost use Rattle.fx_text.specs.Paths.{inside};
 ghost use Rattle.fx_text.specs.Objects.{project_of, output_of, range_of, context_of, context_at, source_of};
-ghost use Rattle.fx_text.specs.Objects.{clips_at, params_at, effect_of, node_of, nodes_of, graph_of, read_graph};
+ghost use Rattle.fx_text.specs.Objects.{clips_at, params_at, effect_of, use_of, node_of, nodes_of, is_grouped, top_keys, graph_of};
+ghost use Rattle.fx_text.specs.Objects.{read_graph};
+ghost use Rattle.fx_text.specs.Json.{check_object};
 
 use crate::fault::{GraphCode, GraphFault};
+use crate::group::groups_at;
 use crate::json::{
-    JsonFault, check_object, fault_at, has, list_at, member_at, name_at, short_at, text_at,
-    value_of, whole_at, word_at,
+    JsonFault, check_object, fault_at, has, integer_at, list_at, member_at, name_at, short_at,
+    text_at, value_of, whole_at, word_at,
 };
 use crate::params::{clips_in, params_in};
 use crate::path::{inside, joined};
@@ -21,6 +24,8 @@ use crate::raw::{
     RawClips, RawContext, RawGraph, RawNode, RawNodes, RawOutput, RawParams, RawProject, RawRange,
     RawWork,
 };
+use crate::takes::takes_at;
+use fx_base::Name;
 use fx_base::limits::{LAST_FRAME, MOST_FRAMES};
 use fx_pixel::{Components, Depth, Format};
 use serde_json::Value;
@@ -238,6 +243,7 @@ fn effect_of(alloc: Global, path: &str, value: &Value) -> Result<RawNode, GraphF
     let params = params_at(alloc, path, value)?;
     Ok(RawNode {
         name,
+        path: Name::of(path.to_string(alloc)?),
         work: RawWork::Effect {
             effect,
             context,
@@ -261,16 +267,35 @@ fn params_at(alloc: Global, path: &str, value: &Value) -> Result<RawParams, Grap
     params_in(alloc, path.as_str(), value.get("params"))
 }
 
-// A node: a source where it has a member of that name, and else an effect.
+// A use of a group.
+fn use_of(alloc: Global, path: &str, value: &Value) -> Result<RawNode, GraphFault>
+    ensures { Answers result (use_of path.now (view value.now)) }
+{
+    check_object(alloc, path, &["name", "group", "clips"], value)?;
+    let name = short_at(alloc, path, "name", value)?;
+    let group = name_at(alloc, path, "group", value)?;
+    let clips = clips_at(alloc, path, value)?;
+    Ok(RawNode {
+        name,
+        path: Name::of(path.to_string(alloc)?),
+        work: RawWork::GroupUse { group, clips },
+    })
+}
+
+// A node: where there may be groups, a use where it has a member `group`; else a source where it has a member
+// `source`, and else an effect.
 fn node_of(
     alloc: Global,
     path: &str,
+    grouped: bool,
     project: RawProject,
     value: &Value,
 ) -> Result<RawNode, GraphFault>
-    ensures { Answers result (node_of path.now project (view value.now)) }
+    ensures { Answers result (node_of path.now grouped project (view value.now)) }
 {
-    if has("source", value) {
+    if grouped && has("group", value) {
+        use_of(alloc, path, value)
+    } else if has("source", value) {
         source_of(alloc, path, project, value)
     } else {
         effect_of(alloc, path, value)
@@ -309,6 +334,7 @@ fn source_of(
     let components = components_or(alloc, path, "components", project.components, value)?;
     Ok(RawNode {
         name,
+        path: Name::of(path.to_string(alloc)?),
         work: RawWork::Source {
             pattern,
             first,
@@ -325,32 +351,68 @@ fn node_at(
     alloc: Global,
     path: &str,
     k: usize,
+    grouped: bool,
     project: RawProject,
     value: &Value,
 ) -> Result<RawNode, GraphFault>
-    ensures { Answers result (node_of (inside path.now k) project (view value.now)) }
+    ensures { Answers result (node_of (inside path.now k) grouped project (view value.now)) }
 {
     let path = inside(alloc, path, k)?;
-    node_of(alloc, path.as_str(), project, value)
+    node_of(alloc, path.as_str(), grouped, project, value)
 }
 
 // The nodes of a list.
-fn nodes_of(
+pub(crate) fn nodes_of(
     alloc: Global,
     path: &str,
+    grouped: bool,
     project: RawProject,
     values: &[Value],
 ) -> Result<Vec<RawNode>, GraphFault>
-    ensures ok { IfOk result (λ nodes. nodes_of path.now project (items_view values.now) ≡ Ok nodes.items) }
+    ensures ok { let wanted = nodes_of path.now grouped project (items_view values.now)
+        in IfOk result (λ nodes. wanted ≡ Ok nodes.items) }
     ensures count { IfOk result (λ nodes. length nodes.items ≡ length values.now) }
-    ensures err { Refuses result (nodes_of path.now project (items_view values.now)) }
+    ensures err { Refuses result (nodes_of path.now grouped project (items_view values.now)) }
 {
     let mut nodes = Vec::new(alloc);
     for (k, value) in values.iter().enumerate() {
-        let node = node_at(alloc, path, k, project, value)?;
+        let node = node_at(alloc, path, k, grouped, project, value)?;
         nodes.push(node)?;
     }
     Ok(nodes)
+}
+
+// Whether there may be groups: `ofxr` is the whole number 2.
+fn is_grouped(value: &Value) -> bool
+    ensures { result ≡ is_grouped (view value.now) }
+{
+    match integer_at("ofxr", value) {
+        Some(number) => number == 2,
+        None => false,
+    }
+}
+
+// That the whole is an object with no other members than the format's.
+fn check_top(alloc: Global, grouped: bool, value: &Value) -> Result<(), GraphFault>
+    ensures { Answers result (check_object [] (top_keys grouped) (view value.now)) }
+{
+    if grouped {
+        check_object(
+            alloc,
+            "",
+            &[
+                "groups", "ofxr", "project", "output", "range", "nodes", "takes",
+            ],
+            value,
+        )
+    } else {
+        check_object(
+            alloc,
+            "",
+            &["ofxr", "project", "output", "range", "nodes", "takes"],
+            value,
+        )
+    }
 }
 
 // The graph.
@@ -364,13 +426,9 @@ fn graph_of(
     requires side { most_side ≤ MOST_SIDE }
     ensures { Answers result (graph_of most_nodes most_side (view value.now)) }
 {
-    check_object(
-        alloc,
-        "",
-        &["ofxr", "project", "output", "range", "nodes"],
-        value,
-    )?;
-    let format = whole_at(alloc, "", "ofxr", 1, 1, value)?;
+    let grouped = is_grouped(value);
+    check_top(alloc, grouped, value)?;
+    let format = whole_at(alloc, "", "ofxr", 1, 2, value)?;
     let project = project_of(
         alloc,
         "project",
@@ -379,15 +437,19 @@ fn graph_of(
     )?;
     let output = output_of(alloc, "output", member_at(alloc, "", "output", value)?)?;
     let range = range_of(alloc, "range", member_at(alloc, "", "range", value)?)?;
+    let groups = groups_at(alloc, project, value)?;
     let values = list_at(alloc, "", "nodes", 1, most_nodes as usize, value)?;
-    let nodes = nodes_of(alloc, "nodes", project, values)?;
+    let nodes = nodes_of(alloc, "nodes", grouped, project, values)?;
+    let takes = takes_at(alloc, value)?;
     Ok(RawGraph {
         format,
         project,
         output,
         first: range.first,
         last: range.last,
+        groups,
         nodes: RawNodes::of(nodes),
+        takes,
     })
 }
 

@@ -213,7 +213,7 @@ fn keyed_of(alloc: Global, value: &Value) -> Result<RawValue, GraphFault>
     })
 }
 
-fn value_of(alloc: Global, value: &Value) -> Result<RawValue, GraphFault>
+pub(crate) fn value_of(alloc: Global, value: &Value) -> Result<RawValue, GraphFault>
     ensures { Answers result (value_of (view value.now)) }
 {
     match value {
@@ -223,7 +223,7 @@ fn value_of(alloc: Global, value: &Value) -> Result<RawValue, GraphFault>
 }
 
 // A fault of the same code at the path of a member.
-fn moved(alloc: Global, path: &str, name: &str, fault: GraphFault) -> GraphFault
+pub(crate) fn moved(alloc: Global, path: &str, name: &str, fault: GraphFault) -> GraphFault
     ensures was { result ≢ OutOfMemory → fault ≢ OutOfMemory }
     ensures moved { let there = joined path.now name.now
         in result ≢ OutOfMemory → moved {A = ℕ} there (Err (told fault)) ≡ Err (told result) }

@@ -1,8 +1,9 @@
 //! Clips, and the values of parameters, as a graph file says them.
-ghost use Rattle.std.specs.Prelude.{◌≡◌, ◌≤◌, length};
+ghost use Rattle.std.specs.Prelude.{◌≡◌, ◌≤◌, length, IfOk};
 ghost use Rattle.fx_text.specs.declared.value.TheConstants.{MOST_KEYS};
 
-use fx_base::Name;
+use fx_base::{Memory, Name};
+use std::alloc::Global;
 use std::marker::Model;
 
 /// The most keys of a parameter.
@@ -23,6 +24,19 @@ pub enum RawScalar {
     Flag(bool),
 }
 
+impl RawScalar {
+    /// Another that is the same.
+    pub fn copied(&self, alloc: Global) -> Result<RawScalar, Memory>
+        ensures { IfOk result (λ scalar. scalar ≡ self.now) }
+    {
+        match self {
+            RawScalar::Int(number) => Ok(RawScalar::Int(*number)),
+            RawScalar::Text(text) => Ok(RawScalar::Text(text.copied(alloc)?)),
+            RawScalar::Flag(flag) => Ok(RawScalar::Flag(*flag)),
+        }
+    }
+}
+
 /// A value at a frame, from -999,999 to 999,999.
 #[derive(Debug, Drop)]
 pub struct RawKey {
@@ -38,6 +52,29 @@ impl Model for RawKey {
     ghost view = { λ k. record { frame = k.frame; value = k.value } };
 
     ghost invariant = { λ k. IsFrame k.frame };
+}
+
+impl RawKey {
+    /// Another that is the same.
+    pub fn copied(&self, alloc: Global) -> Result<RawKey, Memory>
+        ensures { IfOk result (λ key. key ≡ self.now) }
+    {
+        let value = self.value.copied(alloc)?;
+        Ok(RawKey {
+            frame: self.frame,
+            value,
+        })
+    }
+}
+
+fn keys_copied(alloc: Global, keys: &[RawKey]) -> Result<Vec<RawKey>, Memory>
+    ensures { IfOk result (λ copies. copies.items ≡ keys.now) }
+{
+    let mut copies = Vec::new(alloc);
+    for key in keys {
+        copies.push(key.copied(alloc)?)?;
+    }
+    Ok(copies)
 }
 
 /// The keys of a parameter, 1 to 1,000, in the order of the file.
@@ -79,6 +116,14 @@ impl RawKeys {
     {
         self.items
     }
+
+    /// Others that are the same.
+    pub fn copied(&self, alloc: Global) -> Result<RawKeys, Memory>
+        ensures { IfOk result (λ keys. keys ≡ self.now) }
+    {
+        let items = keys_copied(alloc, self.items.as_slice())?;
+        Ok(RawKeys { items })
+    }
 }
 
 /// What a parameter is given: one value, or keys over the frames, stepped or linear.
@@ -88,9 +133,35 @@ pub enum RawValue {
     Keyed { keys: RawKeys, step: bool },
 }
 
+impl RawValue {
+    /// Another that is the same.
+    pub fn copied(&self, alloc: Global) -> Result<RawValue, Memory>
+        ensures { IfOk result (λ value. value ≡ self.now) }
+    {
+        match self {
+            RawValue::Plain(scalar) => Ok(RawValue::Plain(scalar.copied(alloc)?)),
+            RawValue::Keyed { keys, step } => Ok(RawValue::Keyed {
+                keys: keys.copied(alloc)?,
+                step: *step,
+            }),
+        }
+    }
+}
+
 /// A parameter, and what it is given.
 #[derive(Debug, Drop)]
 pub struct RawParam {
     pub name: Name,
     pub value: RawValue,
+}
+
+impl RawParam {
+    /// Another that is the same.
+    pub fn copied(&self, alloc: Global) -> Result<RawParam, Memory>
+        ensures { IfOk result (λ param. param ≡ self.now) }
+    {
+        let name = self.name.copied(alloc)?;
+        let value = self.value.copied(alloc)?;
+        Ok(RawParam { name, value })
+    }
 }

@@ -28,6 +28,10 @@ code_text code.ParamRefused = codes "G11"
 code_text code.KeysNotRising = codes "G12"
 code_text code.UnknownOutput = codes "G13"
 code_text code.PatternWrong = codes "G14"
+code_text code.EditOfNoEffect = codes "G15"
+code_text code.UnknownGroup = codes "G16"
+code_text code.TooManyNodes = codes "G17"
+code_text code.SlashInName = codes "G18"
 
 -- where a graph's fault is; the whole file has no path
 abbrev pub path_text : List ℕ → List ℕ
@@ -97,9 +101,13 @@ bench_text frames size sum =
     codes "frames " ++ (decimal frames ++ (codes "\nbytes " ++ (decimal size ++ (
     codes "\nsum " ++ (decimal sum ++ codes "\n")))))
 
+abbrev pub migrate_text : ℕ → List ℕ
+migrate_text nodes = codes "nodes " ++ (decimal nodes ++ codes "\n")
+
 -- the report of a run
 abbrev pub report_text : Report → List ℕ
 report_text (report.Render frames tiles void passed asked landed hits) =
     render_text frames tiles void passed asked landed hits
 report_text (report.Check nodes frames wanted) = check_text nodes frames wanted
 report_text (report.Bench frames size sum) = bench_text frames size sum
+report_text (report.Migrate nodes) = migrate_text nodes

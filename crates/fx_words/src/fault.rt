@@ -48,7 +48,7 @@ pub enum RunFault {
     Report,
 }
 
-/// The code of a graph's fault, G1 to G14.
+/// The code of a graph's fault, G1 to G18.
 fn code_text(code: GraphCode) -> &'static str
     ensures { result.now ≡ code_text code }
 {
@@ -67,6 +67,10 @@ fn code_text(code: GraphCode) -> &'static str
         GraphCode::KeysNotRising => "G12",
         GraphCode::UnknownOutput => "G13",
         GraphCode::PatternWrong => "G14",
+        GraphCode::EditOfNoEffect => "G15",
+        GraphCode::UnknownGroup => "G16",
+        GraphCode::TooManyNodes => "G17",
+        GraphCode::SlashInName => "G18",
     }
 }
 

@@ -17,6 +17,8 @@ pub enum Mode {
     Check,
     /// A graph that is made from a number is rendered in memory.
     Bench,
+    /// It is read and accepted, and written again in format 2.
+    Migrate,
 }
 
 /// An order: the mode, the graph's name (for bench 1 to 6 decimal digits), and the options or their defaults.

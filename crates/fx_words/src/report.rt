@@ -1,6 +1,6 @@
 //! What a run reports at its end.
 ghost use Rattle.std.specs.Prelude.{◌≡◌, ◌++◌, codes, decimal, string_bytes, IfOk, OnOk, OnErr};
-ghost use Rattle.fx_words.specs.Texts.{tiles_text, landed_text, check_text, bench_text, report_text};
+ghost use Rattle.fx_words.specs.Texts.{tiles_text, landed_text, check_text, bench_text, migrate_text, report_text};
 
 use fx_base::Memory;
 use std::alloc::{AllocError, Global};
@@ -30,6 +30,10 @@ pub enum Report {
         frames: u64,
         size: u64,
         sum: u64,
+    },
+    /// Nodes of the graph, when its groups are expanded.
+    Migrate {
+        nodes: u64,
     },
 }
 
@@ -79,6 +83,12 @@ fn bench_lines(alloc: Global, frames: u64, size: u64, sum: u64) -> Result<String
     format!(in alloc; "frames {frames}\nbytes {size}\nsum {sum}\n")
 }
 
+fn migrate_line(alloc: Global, nodes: u64) -> Result<String, AllocError>
+    ensures { IfOk result (λ text. string_bytes text ≡ migrate_text nodes) }
+{
+    format!(in alloc; "nodes {nodes}\n")
+}
+
 fn lines_of(alloc: Global, report: Report) -> Result<String, AllocError>
     ensures { IfOk result (λ text. string_bytes text ≡ report_text report) }
 {
@@ -102,6 +112,7 @@ fn lines_of(alloc: Global, report: Report) -> Result<String, AllocError>
             wanted,
         } => check_lines(alloc, nodes, frames, wanted),
         Report::Bench { frames, size, sum } => bench_lines(alloc, frames, size, sum),
+        Report::Migrate { nodes } => migrate_line(alloc, nodes),
     }
 }
 

@@ -45,6 +45,7 @@ fn mode_of(word: &str) -> Option<Mode>
         "render" => Some(Mode::Render),
         "check" => Some(Mode::Check),
         "bench" => Some(Mode::Bench),
+        "migrate" => Some(Mode::Migrate),
         _ => None,
     }
 }
@@ -65,7 +66,7 @@ fn is_graph_for(mode: Mode, word: &str) -> bool
     ensures { result ≡ is_graph_for mode word.now }
 {
     match mode {
-        Mode::Render | Mode::Check => true,
+        Mode::Render | Mode::Check | Mode::Migrate => true,
         Mode::Bench => is_bench_number(word),
     }
 }

@@ -16,7 +16,7 @@ returns-in_err-output-clause-refused g c =
     let find = g.E.Catalogue.find in
     let meaning = g.E.ImageEffect.meaning in
     let own : Project = record { width = c.project.inside.width; height = c.project.inside.height; depth = c.project.inside.depth; components = c.project.inside.components } in
-    let raw : RawGraph = record { format = c.raw.inside.format; project = own; output = c.raw.inside.output; first = c.raw.inside.first; last = c.raw.inside.last; nodes = c.raw.inside.nodes } in
+    let raw : RawGraph = record { format = c.raw.inside.format; project = own; output = c.raw.inside.output; first = c.raw.inside.first; last = c.raw.inside.last; groups = c.raw.inside.groups; nodes = c.raw.inside.nodes; takes = c.raw.inside.takes } in
     let raw_is : raw ≡ c.args.raw = ap (λ (p : Project). record raw { project = p }) c.project.view_is ∙ c.raw.view_is in
     let nodes = map shown c.in_ok-nodes.nodes.items in
     let made : nodes_of find meaning (form own) [] c.raw.inside.nodes ≡ Ok nodes = subst (λ rs. nodes_of find meaning (form own) [] rs ≡ Ok nodes) c.items.ensures.value c.in_ok-nodes.ensures.ok in
@@ -30,7 +30,7 @@ returns-in_err-file-clause-refused g c =
     let find = g.E.Catalogue.find in
     let meaning = g.E.ImageEffect.meaning in
     let own : Project = record { width = c.project.inside.width; height = c.project.inside.height; depth = c.project.inside.depth; components = c.project.inside.components } in
-    let raw : RawGraph = record { format = c.raw.inside.format; project = own; output = c.raw.inside.output; first = c.raw.inside.first; last = c.raw.inside.last; nodes = c.raw.inside.nodes } in
+    let raw : RawGraph = record { format = c.raw.inside.format; project = own; output = c.raw.inside.output; first = c.raw.inside.first; last = c.raw.inside.last; groups = c.raw.inside.groups; nodes = c.raw.inside.nodes; takes = c.raw.inside.takes } in
     let raw_is : raw ≡ c.args.raw = ap (λ (p : Project). record raw { project = p }) c.project.view_is ∙ c.raw.view_is in
     let nodes = map shown c.in_ok-nodes.nodes.items in
     let made : nodes_of find meaning (form own) [] c.raw.inside.nodes ≡ Ok nodes = subst (λ rs. nodes_of find meaning (form own) [] rs ≡ Ok nodes) c.items.ensures.value c.in_ok-nodes.ensures.ok in
@@ -55,7 +55,7 @@ returns-clause-accepted g c =
     let find = g.E.Catalogue.find in
     let meaning = g.E.ImageEffect.meaning in
     let own : Project = record { width = c.project.inside.width; height = c.project.inside.height; depth = c.project.inside.depth; components = c.project.inside.components } in
-    let raw : RawGraph = record { format = c.raw.inside.format; project = own; output = c.raw.inside.output; first = c.raw.inside.first; last = c.raw.inside.last; nodes = c.raw.inside.nodes } in
+    let raw : RawGraph = record { format = c.raw.inside.format; project = own; output = c.raw.inside.output; first = c.raw.inside.first; last = c.raw.inside.last; groups = c.raw.inside.groups; nodes = c.raw.inside.nodes; takes = c.raw.inside.takes } in
     let raw_is : raw ≡ c.args.raw = ap (λ (p : Project). record raw { project = p }) c.project.view_is ∙ c.raw.view_is in
     let nodes = map shown c.in_ok-nodes.nodes.items in
     let made : nodes_of find meaning (form own) [] c.raw.inside.nodes ≡ Ok nodes = subst (λ rs. nodes_of find meaning (form own) [] rs ≡ Ok nodes) c.items.ensures.value c.in_ok-nodes.ensures.ok in

@@ -17,18 +17,16 @@ returns-clause-made g c =
     let before = map shown c.args.before.now in
     let inputs = s.clips c.args.context in
     let clips = map (connection (get_by_text c.args.places.now) c.args.clips.now) inputs in
-    let named = c.in_ok-copied.ensures in
-    let nodes : c.in_ok-nodes.nodes.items ≡ clips = rw (c.deref.ensures.value, c.requires.inputs) at c.in_ok-nodes.ensures in
-    let masks : c.in_ok-masks.masks.items ≡ map is_mask (clip_names s c.args.context) = (rw (c.deref-2.ensures.value, c.requires.inputs) at c.in_ok-masks.ensures) ∙ masks_map inputs in
-    let names = rw (c.deref-6.ensures.value, c.requires.inputs) at c.in_ok-names_of.ensures in
-    let optional = rw (c.deref-7.ensures.value, c.requires.inputs) at c.in_ok-flags_of.ensures in
-    let ps = rw c.requires.params at c.in_ok-make_params.ensures.made in
-    let f = rw (c.deref-5.ensures.value, c.requires.byte, c.requires.short, c.requires.alpha) at c.negotiate-form.ensures in
-    let forms = rw (c.deref-3.ensures.value, c.deref-4.ensures.value) at c.in_ok-forms.ensures in
-    let form : c.negotiate-form.result ≡ form_of s c.args.project before c.in_ok-nodes.nodes.items c.of.result = rw (c.of.ensures, ← forms) f in
-    made_use e s c.args.project before c.args.name.now c.args.context clips c.args.params.now c.in_ok-copied.field-0 c.negotiate-form.result c.in_ok-nodes.nodes.items c.in_ok-names_of.field-0 c.in_ok-flags_of.field-0 c.of.result c.in_ok-make_params.field-0.items named nodes names optional (c.of.ensures ∙ masks) ps form
+    let used = c.in_ok-used.used in
+    let nodes : used.nodes.items ≡ clips = rw (c.deref.ensures.value, c.requires.inputs) at c.in_ok-used.ensures.nodes in
+    let masks : used.masks ≡ map is_mask (clip_names s c.args.context) = (rw (c.deref.ensures.value, c.requires.inputs) at c.in_ok-used.ensures.masks) ∙ masks_map inputs in
+    let names = rw (c.deref.ensures.value, c.requires.inputs) at c.in_ok-used.ensures.names in
+    let optional = rw (c.deref.ensures.value, c.requires.inputs) at c.in_ok-used.ensures.optional in
+    let ps = rw c.requires.params at c.in_ok-params.ensures.made in
+    let form : c.in_ok-form.form ≡ form_of s c.args.project before used.nodes.items used.masks = rw (c.requires.byte, c.requires.short, c.requires.alpha) at c.in_ok-form.ensures in
+    made_use e s c.args.project before c.args.name.now c.args.context clips c.args.params.now c.in_ok-copied.field-0 c.in_ok-form.form used.nodes.items used.names used.optional used.masks c.in_ok-params.params.items c.in_ok-copied.ensures nodes names optional masks ps form
 
 pub returns-clause-sound : goal.returns-clause-sound
 returns-clause-sound g c =
-    let made = rw c.requires.params at c.in_ok-make_params.ensures.made in
-    subst (All IsSound) made c.in_ok-make_params.ensures.sound
+    let made = rw c.requires.params at c.in_ok-params.ensures.made in
+    subst (All IsSound) made c.in_ok-params.ensures.sound

@@ -1,20 +1,17 @@
 use Rattle.std.proofs.Common.{◌∙◌, ap, subst, All}
-use Rattle.std.proofs.lemmas.List.{take_all}
-use Rattle.std.proofs.lemmas.List.Elements.{All-more}
-use Rattle.fx_text.specs.Nodes.{Node, Graph, NamesRise}
+use Rattle.fx_text.specs.Nodes.{Node, Group, Graph, NamesRise}
 use Rattle.fx_text.proofs.law.names_rise.Goals as goal
 
 abbrev rises : Node → Type 0
 rises node = NamesRise node.work
 
-pub loop-node-preserved : goal.loop-node-preserved
-loop-node-preserved c =
-    All-more rises c.items-node-items.result.now c.loop-node.node-index c.node-item.result c.loop-node-test.true c.loop-node.invariant
-    (subst rises c.node-item.is c.names_of_node_rise.ensures)
+abbrev group_rises : Group → Type 0
+group_rises group = All rises group.nodes
 
-pub returns : goal.returns
-returns c =
-    let items = c.items-node-items.result.now in
-    subst (All rises)
-    (take_all c.loop-node.node-index items c.loop-node-test.false ∙ c.items-node-items.ensures.value ∙ ap (λ (g : Graph). g.nodes) c.graph.view_is)
-    c.loop-node.invariant
+pub returns-clause-nodes : goal.returns-clause-nodes
+returns-clause-nodes c =
+    subst (All rises) (c.items.ensures.value ∙ ap (λ (g : Graph). g.nodes) c.graph.view_is) c.names_of_nodes_rise.ensures
+
+pub returns-clause-groups : goal.returns-clause-groups
+returns-clause-groups c =
+    subst (All group_rises) (c.items-2.ensures.value ∙ ap (λ (g : Graph). g.groups) c.graph.view_is) c.names_of_groups_rise.ensures

@@ -1,0 +1,13 @@
+pub mod Names
+pub mod Faults
+pub mod Expansion
+pub mod Instances
+pub mod Sizes
+pub mod Counted
+pub mod Theorem
+pub mod Known
+pub mod Flattened
+pub mod Graph
+pub mod Plain
+pub mod Shades
+pub mod Shown
