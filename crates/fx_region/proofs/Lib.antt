@@ -6,3 +6,4 @@ pub mod TableLemmas
 pub mod FollowLemmas
 pub mod DemandLemmas
 pub mod StandLemmas
+pub mod HeldLemmas

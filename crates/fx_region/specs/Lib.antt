@@ -5,3 +5,4 @@ pub mod Counts
 pub mod Tables
 pub mod Follow
 pub mod Stands
+pub mod Held

@@ -5,6 +5,7 @@
 mod demanding;
 mod ends;
 mod following;
+pub mod held_laws;
 pub mod laws;
 mod regions;
 mod tiles;

@@ -18,3 +18,12 @@ pub mod StoreLemmas
 pub mod SiteLemmas
 pub mod ClipLemmas
 pub mod FrameLaws
+pub mod SameOutside
+pub mod TakeLemmas
+pub mod EraLemmas
+pub mod RightLemmas
+pub mod HeldLemmas
+pub mod EditLemmas
+pub mod UseLemmas
+pub mod MadeLemmas
+pub mod NotingLemmas

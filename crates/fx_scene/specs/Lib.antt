@@ -9,3 +9,7 @@ pub mod Depends
 pub mod Scenes
 pub mod Sites
 pub mod Windows
+pub mod Takes
+pub mod Right
+pub mod Holds
+pub mod Uses

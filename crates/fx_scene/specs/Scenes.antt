@@ -16,7 +16,7 @@ use Rattle.fx_effect.specs.declared.action.Context.{Context}
 use Rattle.fx_effect.specs.declared.values.Values.{Values}
 use Rattle.fx_params.specs.Parameter.{Parameter}
 use Rattle.fx_seq.specs.declared.store.Store.{Store}
-use Rattle.fx_seq.specs.Held.{held}
+use Rattle.fx_seq.specs.Held.{fetched, held}
 use Rattle.fx_graph.specs.declared.graph.Graph.{Graph}
 use Rattle.fx_graph.specs.Shown.{Does, Shown, GraphShown, shown}
 use Rattle.fx_graph.specs.Shown as does
@@ -39,15 +39,20 @@ graph_shown g =
       nodes = map shown g.nodes.items;
     }
 
--- the image of each node's frame that was fetched
+-- an image of each node's frame, or none
 abbrev pub Images : Type 0
 Images = ℕ → ℤ → Option Image
 
 abbrev pub no_images : Images
 no_images n f = None
 
+-- the image of each node's frame that is held
 abbrev pub images_in : Store → Images
 images_in store n f = option_map image_of (held store n f)
+
+-- and of each that the store ever got
+abbrev pub fetched_in : Store → Images
+fetched_in store n f = option_map image_of (fetched store n f)
 
 -- the frame of a source that is nearest to t
 abbrev pub nearest : ℕ → ℕ → ℤ → ℤ

@@ -5,16 +5,21 @@
 
 mod key;
 pub mod laws;
+mod moments;
 mod reaching;
 mod reads;
 mod scene;
 pub mod site;
+mod take;
+pub mod take_laws;
 mod values;
 mod wanting;
 
 pub use key::Key;
+pub use moments::uses;
 pub use reaching::{NodeFrame, reach, reads_of};
 pub use reads::frames_read;
 pub use scene::Scene;
+pub use take::{Edit, Take, Takes};
 pub use values::use_values;
 pub use wanting::{shown_frame, wants};

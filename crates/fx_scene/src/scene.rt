@@ -1,5 +1,7 @@
 //! A graph, and the frames of its sources that were fetched.
-ghost use Rattle.std.specs.Prelude.{◌≡◌, ◌<◌, length, IfOk};
+ghost use Rattle.std.specs.Prelude.{◌≡◌, ◌<◌, ◌++◌, length, filter, IfErr, IfOk, OnErr, OnOk};
+ghost use Rattle.fx_seq.specs.Lists.{IsNew, is_used_frame};
+ghost use Rattle.fx_seq.specs.Held.{SameStore, fetched, got_frames, held_frames};
 ghost use Rattle.fx_scene.specs.Scenes.{graph_shown, node_values};
 
 use crate::key::Key;
@@ -8,7 +10,7 @@ use fx_base::{Memory, Rect};
 use fx_core::Permit;
 use fx_effect::{Catalogue, Values};
 use fx_graph::Graph;
-use fx_seq::Store;
+use fx_seq::{SourceFrame, Store, Use};
 use std::alloc::Global;
 use std::marker::Model;
 use std::sync::Arc;
@@ -69,6 +71,26 @@ impl<E: Catalogue> Scene<E> {
         ensures { result ≡ self.now.number }
     {
         self.number
+    }
+
+    /// Lets the frames go of which the last moment that wants them is before this one, and holds these. No frame comes
+    /// that was ever held. At `Memory` all is as before, and the frames come back.
+    pub fn advance(
+        &mut self,
+        uses: &[Use],
+        moment: u64,
+        frames: Vec<SourceFrame>,
+    ) -> Result<(), (Vec<SourceFrame>, Memory)>
+        requires new { IsNew (fetched self.old.store) frames.items }
+        ensures graph { self.new.graph ≡ self.old.graph }
+        ensures number { self.new.number ≡ self.old.number }
+        ensures frames { let still = filter (is_used_frame uses.now moment) (held_frames self.old.store) in
+            OnOk result (held_frames self.new.store ≡ still ++ frames.items) }
+        ensures got { OnOk result (got_frames self.new.store ≡ got_frames self.old.store ++ frames.items) }
+        ensures back { IfErr result (λ e. e.0.items ≡ frames.items) }
+        ensures unchanged { OnErr result (SameStore self.old.store self.new.store) }
+    {
+        self.store.admit(uses, moment, frames)
     }
 
     /// What the node is asked with at a frame: the frame, its parameters' numbers there in the order in which

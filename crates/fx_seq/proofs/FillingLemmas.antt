@@ -33,31 +33,31 @@ picture_refusal files side limit sum w image p =
     ∙ ap (refusal_read limit w (sum + image_size image)) p.reads.no_fault
 
 -- the frames of a list are not refused, and have so many bytes: what is refused of a longer list is refused of what follows them
-abbrev pub Accepts : Files → ℕ → ℕ → List Wanted → ℕ → Type 0
-Accepts files side limit ws sum = (rest : List Wanted) → first_refused files side limit 0 (ws ++ rest) ≡ first_refused files side limit sum rest
+abbrev pub Accepts : Files → ℕ → ℕ → ℕ → List Wanted → ℕ → Type 0
+Accepts files side limit start ws sum = (rest : List Wanted) → first_refused files side limit start (ws ++ rest) ≡ first_refused files side limit sum rest
 
 -- one more
-pub accepts_more : (files : Files) (side limit : ℕ) (ws : List Wanted) (sum : ℕ) (w : Wanted) (image : Stored) → Accepts files side limit ws sum → IsPicture files side w.name image → sum + image_size image ≤ limit → Accepts files side limit (ws ++ w ∷ []) (sum + image_size image)
-accepts_more files side limit ws sum w image acc p fits = λ rest.
+pub accepts_more : (files : Files) (side limit start : ℕ) (ws : List Wanted) (sum : ℕ) (w : Wanted) (image : Stored) → Accepts files side limit start ws sum → IsPicture files side w.name image → sum + image_size image ≤ limit → Accepts files side limit start (ws ++ w ∷ []) (sum + image_size image)
+accepts_more files side limit start ws sum w image acc p fits = λ rest.
     let none : refusal files side limit sum w ≡ None = picture_refusal files side limit sum w image p ∙ rw (le-ltb limit (sum + image_size image) fits) refl in
-    ap (first_refused files side limit 0) (append_assoc ws (w ∷ []) rest)
+    ap (first_refused files side limit start) (append_assoc ws (w ∷ []) rest)
     ∙ acc (w ∷ rest)
     ∙ rw (none, picture_size files side w.name image p) refl
 
-pub accepts_all : (files : Files) (side limit : ℕ) (ws : List Wanted) (sum : ℕ) → Accepts files side limit ws sum → first_refused files side limit 0 ws ≡ None
-accepts_all files side limit ws sum acc = ap (first_refused files side limit 0) (sym (append-nil ws)) ∙ acc []
+pub accepts_all : (files : Files) (side limit start : ℕ) (ws : List Wanted) (sum : ℕ) → Accepts files side limit start ws sum → first_refused files side limit start ws ≡ None
+accepts_all files side limit start ws sum acc = ap (first_refused files side limit start) (sym (append-nil ws)) ∙ acc []
 
 -- the first frame that is refused
-pub first_at : (files : Files) (side limit : ℕ) (ws before after : List Wanted) (sum : ℕ) (w : Wanted) (e : SeqFault) → Accepts files side limit before sum → ws ≡ before ++ w ∷ after → refusal files side limit sum w ≡ Some e → first_refused files side limit 0 ws ≡ Some e
-first_at files side limit ws before after sum w e acc split told =
-    ap (first_refused files side limit 0) split ∙ acc (w ∷ after) ∙ ap (λ o. option_or o (first_refused files side limit (sum + size_under files w.name) after)) told
+pub first_at : (files : Files) (side limit start : ℕ) (ws before after : List Wanted) (sum : ℕ) (w : Wanted) (e : SeqFault) → Accepts files side limit start before sum → ws ≡ before ++ w ∷ after → refusal files side limit sum w ≡ Some e → first_refused files side limit start ws ≡ Some e
+first_at files side limit start ws before after sum w e acc split told =
+    ap (first_refused files side limit start) split ∙ acc (w ∷ after) ∙ ap (λ o. option_or o (first_refused files side limit (sum + size_under files w.name) after)) told
 
 -- what is told of the frame that comes next is told of the list
-pub told_first : (files : Files) (side limit : ℕ) (ws before after : List Wanted) (sum : ℕ) (w : Wanted) (e : SeqFault) → Accepts files side limit before sum → ws ≡ before ++ w ∷ after → IsTold (refusal files side limit sum w) e → IsTold (first_refused files side limit 0 ws) e
-told_first files side limit ws before after sum w (Fetch node frame name) acc split told = tt
-told_first files side limit ws before after sum w (Frame node frame fault) acc split told = first_at files side limit ws before after sum w (Frame node frame fault) acc split told
-told_first files side limit ws before after sum w (TooLarge node frame all) acc split told = first_at files side limit ws before after sum w (TooLarge node frame all) acc split told
-told_first files side limit ws before after sum w Memory acc split told = tt
+pub told_first : (files : Files) (side limit start : ℕ) (ws before after : List Wanted) (sum : ℕ) (w : Wanted) (e : SeqFault) → Accepts files side limit start before sum → ws ≡ before ++ w ∷ after → IsTold (refusal files side limit sum w) e → IsTold (first_refused files side limit start ws) e
+told_first files side limit start ws before after sum w (Fetch node frame name) acc split told = tt
+told_first files side limit start ws before after sum w (Frame node frame fault) acc split told = first_at files side limit start ws before after sum w (Frame node frame fault) acc split told
+told_first files side limit start ws before after sum w (TooLarge node frame all) acc split told = first_at files side limit start ws before after sum w (TooLarge node frame all) acc split told
+told_first files side limit start ws before after sum w Memory acc split told = tt
 
 -- files that are the same under a frame's name refuse it alike
 pub refusal_same : (files now : Files) (side limit sum : ℕ) (w : Wanted) → now w.name ≡ files w.name → refusal now side limit sum w ≡ refusal files side limit sum w
@@ -68,12 +68,12 @@ pub too_large : (files : Files) (side limit sum : ℕ) (w : Wanted) (image : Sto
 too_large files side limit sum w image p high = picture_refusal files side limit sum w image p ∙ rw (lt-ltb limit (sum + image_size image) high) refl
 
 -- a fetch that failed is the first that did
-pub fetch_comes : (files : Files) (side limit : ℕ) (ws before after : List Wanted) (sum a b : ℕ) (last : List ℕ) (w : Wanted) (e : SeqFault) → Accepts files side limit before sum → ws ≡ before ++ w ∷ after → IsFetchOf a b last w e → IsFirstFetch files side limit ws e
-fetch_comes files side limit ws before after sum a b last w (Fetch node frame name) acc split of =
-    record { before = before; after = after; split = split ∙ ap (λ v. before ++ v ∷ after) of.2; accepted = accepts_all files side limit before sum acc }
-fetch_comes files side limit ws before after sum a b last w (Frame node frame fault) acc split of = tt
-fetch_comes files side limit ws before after sum a b last w (TooLarge node frame all) acc split of = tt
-fetch_comes files side limit ws before after sum a b last w Memory acc split of = tt
+pub fetch_comes : (files : Files) (side limit start : ℕ) (ws before after : List Wanted) (sum a b : ℕ) (last : List ℕ) (w : Wanted) (e : SeqFault) → Accepts files side limit start before sum → ws ≡ before ++ w ∷ after → IsFetchOf a b last w e → IsFirstFetch files side limit start ws e
+fetch_comes files side limit start ws before after sum a b last w (Fetch node frame name) acc split of =
+    record { before = before; after = after; split = split ∙ ap (λ v. before ++ v ∷ after) of.2; accepted = accepts_all files side limit start before sum acc }
+fetch_comes files side limit start ws before after sum a b last w (Frame node frame fault) acc split of = tt
+fetch_comes files side limit start ws before after sum a b last w (TooLarge node frame all) acc split of = tt
+fetch_comes files side limit start ws before after sum a b last w Memory acc split of = tt
 
 -- the list as the items before one, that one, and the others
 pub split_at : (ws : List Wanted) (i : ℕ) (w : Wanted) → i < length ws → w ≡ get_or ws i w → ws ≡ take i ws ++ w ∷ drop (i + 1) ws

@@ -1,3 +1,5 @@
-pub mod HeldLemmas
 pub mod FillingLemmas
 pub mod RefusalLaws
+pub mod Reading
+pub mod LookLemmas
+pub mod MomentLemmas

@@ -83,20 +83,20 @@ IsFetchIn before now last wanted (Frame node frame fault) = Unit {0}
 IsFetchIn before now last wanted (TooLarge node frame sum) = Unit {0}
 IsFetchIn before now last wanted Memory = Unit {0}
 
--- the call came as far as this wanted frame: none before it is refused
-pub record ComesTo (files : Files) (side limit : ℕ) (wanted : List Wanted) (w : Wanted) : Type 0 where
+-- the call came as far as this wanted frame: none before it is refused, where those held before have `sum` bytes
+pub record ComesTo (files : Files) (side limit sum : ℕ) (wanted : List Wanted) (w : Wanted) : Type 0 where
   pub before : List Wanted
   pub after : List Wanted
   pub split : wanted ≡ before ++ w ∷ after
-  pub accepted : first_refused files side limit 0 before ≡ None
+  pub accepted : first_refused files side limit sum before ≡ None
 
 -- at a fetch that failed, none of the wanted frames before is refused
-abbrev pub IsFirstFetch : Files → ℕ → ℕ → List Wanted → SeqFault → Type 0
-IsFirstFetch files side limit wanted (Fetch node frame name) =
-    ComesTo files side limit wanted (record { node = node; frame = frame; name = name })
-IsFirstFetch files side limit wanted (Frame node frame fault) = Unit {0}
-IsFirstFetch files side limit wanted (TooLarge node frame sum) = Unit {0}
-IsFirstFetch files side limit wanted Memory = Unit {0}
+abbrev pub IsFirstFetch : Files → ℕ → ℕ → ℕ → List Wanted → SeqFault → Type 0
+IsFirstFetch files side limit sum wanted (Fetch node frame name) =
+    ComesTo files side limit sum wanted (record { node = node; frame = frame; name = name })
+IsFirstFetch files side limit sum wanted (Frame node frame fault) = Unit {0}
+IsFirstFetch files side limit sum wanted (TooLarge node frame all) = Unit {0}
+IsFirstFetch files side limit sum wanted Memory = Unit {0}
 
 -- a wanted frame's name has bytes, and they have no fault
 abbrev pub IsReadable : Files → ℕ → Wanted → Type 0

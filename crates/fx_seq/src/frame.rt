@@ -96,6 +96,7 @@ pub fn sum_with(wanted: &Wanted, image: &Image, sum: u64, limit: u64) -> Result<
     requires frame { IsSourceFrame image.now }
     requires sum { sum ≤ 2 ^ 62 }
     ensures sum { IfOk result (λ all. all ≡ sum + image_size image.now) }
+    ensures few { IfOk result (λ all. all ≤ sum + 2 ^ 29) }
     ensures fits { IfOk result (λ all. all ≤ limit) }
     ensures fault { IfErr result (λ e. e ≡ TooLarge wanted.now.node wanted.now.frame (sum + image_size image.now)) }
     ensures too_large { IfErr result (λ e. limit < sum + image_size image.now) }

@@ -1,105 +1,115 @@
-use Rattle.std.proofs.Common.{◌≡◌, ◌+◌, ◌∷◌, [], ◌++◌, take, drop, arith, sym, subst, ◌∙◌}
+use Rattle.std.proofs.Common.{◌≡◌, ◌+◌, ◌∷◌, [], List, take, drop, append-nil, arith, sym, ap, subst, ◌∙◌}
+use mathlib.Core.Path.{fun_ext}
 use Rattle.std.proofs.lemmas.List.{take_all}
 use Rattle.std.proofs.lemmas.Result.{err_from_is_err_and}
-use Rattle.fx_seq.specs.declared.fault.SeqFault.TheVariants.{TooLarge}
-use Rattle.fx_seq.specs.Filling.{IsTold, first_refused}
-use Rattle.fx_seq.specs.Frames.{image_size, IsPicture, HoldsPictures, HoldsOnly}
-use Rattle.fx_seq.specs.Held.{held}
-use Rattle.fx_seq.proofs.HeldLemmas.{picture_same, pictures_more, only_more}
-use Rattle.fx_seq.proofs.FillingLemmas.{Accepts, accepts_more, accepts_all, told_first, refusal_same, too_large, fetch_comes, split_at, read_more, apart_before, quiet_more, quiet_at_more}
+use Rattle.fx_outside.specs.Outside.{Files}
+use Rattle.fx_seq.specs.declared.source.SourceFrame.{SourceFrame}
+use Rattle.fx_seq.specs.declared.wanted.Wanted.{Wanted}
+use Rattle.fx_seq.specs.Lists.{AreFramesOf, ArePictures, ReadsMore, frames_in}
+use Rattle.fx_seq.specs.Filling.{IsFetchIn, IsFirstFetch, IsTold, first_refused}
+use Rattle.fx_seq.specs.Frames.{HoldsOnly, HoldsPictures}
+use Rattle.fx_seq.proofs.FillingLemmas.{quiet_more, read_more, split_at}
+use Rattle.fx_seq.proofs.LookLemmas.{only_held, pictures_held}
+use Rattle.fx_seq.proofs.Reading.{fetch_all, first_all, reads_more, reads_same, told_all}
 use Rattle.fx_seq.proofs.store.Store.fill.Goals as goal
-
-pub add-requires-clause-free : goal.add-requires-clause-free
-add-requires-clause-free g c =
-    let w = c.frame-item.result in
-    c.loop-frame.invariant.only w.node w.frame (apart_before c.args.wanted.now c.loop-frame.frame-index w c.requires.apart c.loop-frame-test.true c.frame-item.is)
-
-pub loop-frame-preserved : goal.loop-frame-preserved
-loop-frame-preserved g c =
-    let library = g.L.Library in
-    let files = library.file c.args.library.now in
-    let now = library.file c.loop-frame.library in
-    let side = c.args.most_side in
-    let limit = c.args.limit in
-    let ws = c.args.wanted.now in
-    let i = c.loop-frame.frame-index in
-    let w = c.frame-item.result in
-    let image = c.in_ok-image.image in
-    let so_far = c.loop-frame.invariant in
-    let low = c.loop-frame-test.true in
-    let more = sym (read_more ws i w low c.frame-item.is) in
-    let sum = c.in_ok-sum.ensures.sum in
-    let picture : library.tells → IsPicture files side w.name image = λ tells. picture_same files now side w.name image (so_far.same tells w.name) (c.in_ok-image.ensures.picture tells) in
-    let gains = c.in_ok-add.ensures.ok in
-    record {
-      accepts = λ tells. subst (λ read. Accepts files side limit read c.in_ok-sum.sum) more
-          (subst (λ n. Accepts files side limit (take i ws ++ w ∷ []) n) (sym sum) (accepts_more files side limit (take i ws) c.loop-frame.sum w image (so_far.accepts tells) (picture tells) (omega (arith, sum, c.in_ok-sum.ensures.fits))));
-      pictures = λ tells. subst (λ read. HoldsPictures files side read (held c.add.new.self)) more
-          (pictures_more files side (take i ws) w image (held c.loop-frame.store) (held c.add.new.self) (so_far.pictures tells) gains (picture tells) (apart_before ws i w c.requires.apart low c.frame-item.is));
-      only = subst (λ read. HoldsOnly read (held c.add.new.self)) more (only_more (take i ws) w image (held c.loop-frame.store) (held c.add.new.self) so_far.only gains);
-      size = omega (arith, c.in_ok-add.ensures.size, so_far.size, sum);
-      fits = c.in_ok-sum.ensures.fits;
-      later = omega (arith, so_far.later, c.read_frame.ensures.later);
-      quiet = quiet_more so_far.quiet c.in_ok-image.ensures.quiet;
-      same = λ tells name. c.read_frame.ensures.same tells name ∙ so_far.same tells name;
-    }
-
-pub returns-in_err-image-clause-refused : goal.returns-in_err-image-clause-refused
-returns-in_err-image-clause-refused g c = λ tells.
-    let library = g.L.Library in
-    let files = library.file c.args.library.now in
-    let now = library.file c.loop-frame.library in
-    let ws = c.args.wanted.now in
-    let i = c.loop-frame.frame-index in
-    let w = c.frame-item.result in
-    let e = c.in_err-image.field-0.0 in
-    let so_far = c.loop-frame.invariant in
-    let told : IsTold _ e = subst (λ o. IsTold o e) (refusal_same files now c.args.most_side c.args.limit c.loop-frame.sum w (so_far.same tells w.name)) (c.in_err-image.ensures.refused tells c.args.limit c.loop-frame.sum) in
-    let p = err_from_is_err_and c.from_residual.result c.from_residual.ensures.1 in
-    rw (p.1, p.2) (told_first files c.args.most_side c.args.limit ws (take i ws) (drop (i + 1) ws) c.loop-frame.sum w e (so_far.accepts tells) (split_at ws i w c.loop-frame-test.true c.frame-item.is) told)
-
-pub returns-in_err-image-clause-quiet_refusal : goal.returns-in_err-image-clause-quiet_refusal
-returns-in_err-image-clause-quiet_refusal g c =
-    let p = err_from_is_err_and c.from_residual.result c.from_residual.ensures.1 in
-    rw (p.1, p.2) (quiet_at_more _ _ _ _ _ _ c.in_err-image.field-0.0 c.loop-frame.invariant.quiet c.in_err-image.ensures.quiet_refusal)
-
-pub returns-in_err-sum-clause-quiet_refusal : goal.returns-in_err-sum-clause-quiet_refusal
-returns-in_err-sum-clause-quiet_refusal g c =
-    let p = err_from_is_err_and c.from_residual-in_err-sum.result c.from_residual-in_err-sum.ensures.1 in
-    rw (p.1, p.2, c.in_err-sum.ensures.fault) (quiet_more c.loop-frame.invariant.quiet c.in_ok-image.ensures.quiet)
-
-pub returns-in_err-image-clause-fetch_first : goal.returns-in_err-image-clause-fetch_first
-returns-in_err-image-clause-fetch_first g c = λ tells.
-    let files = g.L.Library.file c.args.library.now in
-    let ws = c.args.wanted.now in
-    let i = c.loop-frame.frame-index in
-    let w = c.frame-item.result in
-    let p = err_from_is_err_and c.from_residual.result c.from_residual.ensures.1 in
-    rw (p.1, p.2) (fetch_comes files c.args.most_side c.args.limit ws (take i ws) (drop (i + 1) ws) c.loop-frame.sum _ _ _ w c.in_err-image.field-0.0 (c.loop-frame.invariant.accepts tells) (split_at ws i w c.loop-frame-test.true c.frame-item.is) c.in_err-image.ensures.fetch)
 
 pub returns-in_err-sum-clause-refused : goal.returns-in_err-sum-clause-refused
 returns-in_err-sum-clause-refused g c = λ tells.
     let library = g.L.Library in
     let files = library.file c.args.library.now in
     let now = library.file c.loop-frame.library in
+    let so_far = c.loop-frame.invariant in
+    let same : now ≡ files = fun_ext (so_far.same tells) in
     let ws = c.args.wanted.now in
     let i = c.loop-frame.frame-index in
     let w = c.frame-item.result in
-    let image = c.in_ok-image.image in
+    let e = c.in_err-sum.field-0.0 in
+    let told = subst (λ (f : Files). IsTold (first_refused f c.args.most_side c.args.limit c.loop-frame.sum (w ∷ [])) e) same (c.in_err-sum.ensures.refused tells) in
+    let p = err_from_is_err_and c.from_residual.result c.from_residual.ensures.1 in
+    rw (p.1, p.2)
+    (subst (λ (due : List Wanted). IsTold (first_refused files c.args.most_side c.args.limit 0 due) e) (sym (split_at ws i w c.loop-frame-test.true c.frame-item.is))
+    (told_all files c.args.most_side c.args.limit 0 c.loop-frame.sum (take i ws) (w ∷ []) (drop (i + 1) ws) (so_far.reads.accepted tells) e told))
+
+pub returns-in_err-sum-clause-fetch : goal.returns-in_err-sum-clause-fetch
+returns-in_err-sum-clause-fetch g c =
+    let library = g.L.Library in
     let so_far = c.loop-frame.invariant in
-    let picture : IsPicture files c.args.most_side w.name image = picture_same files now c.args.most_side w.name image (so_far.same tells w.name) (c.in_ok-image.ensures.picture tells) in
-    let told = too_large files c.args.most_side c.args.limit c.loop-frame.sum w image picture c.in_err-sum.ensures.too_large in
-    let p = err_from_is_err_and c.from_residual-in_err-sum.result c.from_residual-in_err-sum.ensures.1 in
-    rw (p.1, p.2, c.in_err-sum.ensures.fault) (told_first files c.args.most_side c.args.limit ws (take i ws) (drop (i + 1) ws) c.loop-frame.sum w (TooLarge w.node w.frame (c.loop-frame.sum + image_size image)) (so_far.accepts tells) (split_at ws i w c.loop-frame-test.true c.frame-item.is) told)
+    let ws = c.args.wanted.now in
+    let i = c.loop-frame.frame-index in
+    let w = c.frame-item.result in
+    let e = c.in_err-sum.field-0.0 in
+    let p = err_from_is_err_and c.from_residual.result c.from_residual.ensures.1 in
+    rw (p.1, p.2)
+    (subst (λ (due : List Wanted). IsFetchIn (library.faults c.args.library.now) (library.faults c.read_into.new.library) (library.last c.read_into.new.library) due e) (sym (split_at ws i w c.loop-frame-test.true c.frame-item.is))
+    (fetch_all (library.faults c.args.library.now) (library.faults c.loop-frame.library) (library.faults c.read_into.new.library) (library.last c.read_into.new.library) (take i ws) (w ∷ []) (drop (i + 1) ws) e so_far.quiet.count c.in_err-sum.ensures.fetch))
+
+pub returns-in_err-sum-clause-fetch_first : goal.returns-in_err-sum-clause-fetch_first
+returns-in_err-sum-clause-fetch_first g c = λ tells.
+    let library = g.L.Library in
+    let files = library.file c.args.library.now in
+    let now = library.file c.loop-frame.library in
+    let so_far = c.loop-frame.invariant in
+    let same : now ≡ files = fun_ext (so_far.same tells) in
+    let ws = c.args.wanted.now in
+    let i = c.loop-frame.frame-index in
+    let w = c.frame-item.result in
+    let e = c.in_err-sum.field-0.0 in
+    let first = subst (λ (f : Files). IsFirstFetch f c.args.most_side c.args.limit c.loop-frame.sum (w ∷ []) e) same (c.in_err-sum.ensures.fetch_first tells) in
+    let p = err_from_is_err_and c.from_residual.result c.from_residual.ensures.1 in
+    rw (p.1, p.2)
+    (subst (λ (due : List Wanted). IsFirstFetch files c.args.most_side c.args.limit 0 due e) (sym (split_at ws i w c.loop-frame-test.true c.frame-item.is))
+    (first_all files c.args.most_side c.args.limit 0 c.loop-frame.sum (take i ws) (w ∷ []) (drop (i + 1) ws) (so_far.reads.accepted tells) e first))
+
+pub loop-frame-preserved : goal.loop-frame-preserved
+loop-frame-preserved g c =
+    let library = g.L.Library in
+    let files = library.file c.args.library.now in
+    let now = library.file c.loop-frame.library in
+    let so_far = c.loop-frame.invariant in
+    let ws = c.args.wanted.now in
+    let i = c.loop-frame.frame-index in
+    let w = c.frame-item.result in
+    let later = c.read_into.ensures.later in
+    let was = so_far.later in
+    let more =
+    reads_more library.tells files c.args.most_side c.args.limit 0 c.loop-frame.sum c.in_ok-sum.sum (take i ws) (w ∷ []) [] c.loop-frame.frames.items c.read_into.new.frames.items so_far.reads
+    (reads_same library.tells files now c.args.most_side c.args.limit c.loop-frame.sum (w ∷ []) c.loop-frame.frames.items c.read_into.new.frames.items c.in_ok-sum.sum (λ tells. fun_ext (so_far.same tells)) c.in_ok-sum.ensures.reads) in
+    record {
+      reads = subst (λ (due : List Wanted). ReadsMore library.tells files c.args.most_side c.args.limit 0 due [] c.read_into.new.frames.items c.in_ok-sum.sum) (sym (read_more ws i w c.loop-frame-test.true c.frame-item.is)) more;
+      few = more.few (omega arith) c.requires.limit;
+      later = omega (arith, was, later);
+      quiet = quiet_more so_far.quiet c.in_ok-sum.ensures.quiet;
+      same = λ tells name. c.read_into.ensures.same tells name ∙ so_far.same tells name;
+    }
 
 pub returns-clause-accepted : goal.returns-clause-accepted
 returns-clause-accepted g c = λ tells.
+    let files = g.L.Library.file c.args.library.now in
     let ws = c.args.wanted.now in
-    let all = take_all c.loop-frame.frame-index ws (omega (arith, c.loop-frame-test.false)) in
-    subst (λ read. first_refused (g.L.Library.file c.args.library.now) c.args.most_side c.args.limit 0 read ≡ _) all (accepts_all (g.L.Library.file c.args.library.now) c.args.most_side c.args.limit (take c.loop-frame.frame-index ws) c.loop-frame.sum (c.loop-frame.invariant.accepts tells))
+    let i = c.loop-frame.frame-index in
+    let all = take_all i ws (omega (arith, c.loop-frame-test.false)) in
+    ap (first_refused files c.args.most_side c.args.limit 0) (sym all ∙ sym (append-nil (take i ws)))
+    ∙ c.loop-frame.invariant.reads.accepted tells []
+
+pub returns-clause-pictures : goal.returns-clause-pictures
+returns-clause-pictures g c = λ tells.
+    let files = g.L.Library.file c.args.library.now in
+    let ws = c.args.wanted.now in
+    let i = c.loop-frame.frame-index in
+    let reads = c.loop-frame.invariant.reads in
+    let all = take_all i ws (omega (arith, c.loop-frame-test.false)) in
+    let items : c.in_ok-of.field-0.frames.items ≡ reads.added = c.in_ok-of.ensures.frames ∙ reads.items in
+    subst (λ (fs : List SourceFrame). HoldsPictures files c.args.most_side ws (frames_in fs)) (sym items)
+    (pictures_held files c.args.most_side ws reads.added c.requires.apart
+    (subst (λ (vs : List Wanted). AreFramesOf vs reads.added) all reads.are)
+    (subst (λ (vs : List Wanted). ArePictures files c.args.most_side vs reads.added) all (reads.pictures tells)))
 
 pub returns-clause-only : goal.returns-clause-only
 returns-clause-only g c =
     let ws = c.args.wanted.now in
-    let all = take_all c.loop-frame.frame-index ws (omega (arith, c.loop-frame-test.false)) in
-    subst (λ read. HoldsOnly read (held c.loop-frame.store)) all c.loop-frame.invariant.only
+    let i = c.loop-frame.frame-index in
+    let reads = c.loop-frame.invariant.reads in
+    let all = take_all i ws (omega (arith, c.loop-frame-test.false)) in
+    let items : c.in_ok-of.field-0.frames.items ≡ reads.added = c.in_ok-of.ensures.frames ∙ reads.items in
+    subst (λ (fs : List SourceFrame). HoldsOnly ws (frames_in fs)) (sym items)
+    (only_held ws reads.added (subst (λ (vs : List Wanted). AreFramesOf vs reads.added) all reads.are))

@@ -1,0 +1,5 @@
+pub mod Moments
+pub mod Reads
+pub mod Blocks
+pub mod Ends
+pub mod Refusals

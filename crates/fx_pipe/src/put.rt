@@ -1,0 +1,37 @@
+//! The part that puts files.
+ghost use Rattle.fx_pipe.specs.Blocks.{Puts};
+
+use crate::Made;
+use fx_base::Name;
+use fx_outside::{Depot, PutFault};
+use std::alloc::Global;
+use std::collections::VecDeque;
+
+/// Why not every file of a block was put.
+#[derive(Debug, Drop)]
+pub enum PutStop {
+    /// The file of this name could not be written.
+    Failed(Name),
+    /// Memory was wanting.
+    Memory,
+}
+
+/// Puts the files of a block, one after the other.
+pub fn put_block<D: Depot>(
+    alloc: Global,
+    depot: &mut D,
+    made: &mut VecDeque<Made>,
+) -> Result<(), PutStop>
+    ensures { Puts D.tells made.old.items (D.file depot.old) (D.file depot.new) (D.faults depot.old)
+        (D.faults depot.new) (D.last depot.old) (D.last depot.new) result }
+{
+    while let Some(one) = made.pop_front() {
+        let Made { name, bytes } = one;
+        match depot.put(alloc, name.text(), &bytes) {
+            Ok(()) => {}
+            Err(PutFault::Failed) => return Err(PutStop::Failed(name)),
+            Err(PutFault::Memory) => return Err(PutStop::Memory),
+        }
+    }
+    Ok(())
+}

@@ -1,0 +1,14 @@
+use Rattle.std.proofs.Common.{length, arith}
+use Rattle.std.proofs.lemmas.List.{length-map}
+use Rattle.fx_graph.specs.Shown.{shown}
+use Rattle.fx_scene.specs.Scenes.{graph_shown}
+use Rattle.fx_scene.proofs.UseLemmas.{pictures_stay}
+use Rattle.fx_scene.proofs.take_laws.pictures_stay.Goals as goal
+
+pub returns : goal.returns
+returns g c takes are =
+    let graph = c.args.graph.now in
+    let few = graph.rendered.few in
+    let long = length-map graph.nodes.items shown in
+    let bound = g.met.E.ImageEffect in
+    pictures_stay g.E.ImageEffect.meaning (graph_shown graph) takes bound.laws graph.extent (omega (arith, few, long)) are

@@ -1,0 +1,8 @@
+-- A kept value owns nothing, so threads may share it.
+use denote.RattleType.{RattleType}
+use denote.Param.Send.{IsSync, part_keyless}
+use Rattle.fx_seq.specs.contracts.kept.Kept.{the_row}
+use Rattle.fx_seq.proofs.kept.Kept.TheSendSync.Send.{send}
+
+pub sync : (T : RattleType) → IsSync (the_row T)
+sync T = record { shared = λ d b o κ q. part_keyless (the_row T) (send T) q d b o }
