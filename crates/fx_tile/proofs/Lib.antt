@@ -9,7 +9,10 @@ pub mod FlightLemmas
 pub mod WindowLemmas
 pub mod GatherLemmas
 pub mod GridLemmas
-pub mod PaintLemmas
-pub mod SumLemmas
-pub mod PictureLemmas
-pub mod MomentLemmas
+pub mod ListLemmas
+pub mod BandLemmas
+pub mod WholeLemmas
+pub mod WriteLemmas
+pub mod CountLemmas
+pub mod FoundTileLemmas
+pub mod SeatLemmas

@@ -1,15 +1,17 @@
 -- Nodes of a setup in their places.
-use Rattle.std.proofs.Common.{◌≡◌, ℕ, ◌<◌, ℤ, length, sym, ap, ◌∙◌, subst}
+use Rattle.std.proofs.Common.{◌≡◌, ℕ, ◌<◌, ℤ, length, sym, ap, ◌∙◌, subst, arith}
+use Rattle.std.proofs.lemmas.Int.{ints}
 use Rattle.std.proofs.lemmas.List.{length-map}
 use Rattle.fx_effect.specs.Meaning.{Meaning}
 use Rattle.fx_graph.specs.Shown.{GraphShown, shown}
-use Rattle.fx_scene.specs.Nodes.{Effect, EffectNode as Effects, Source, SourceFrames}
+use Rattle.fx_scene.specs.Nodes.{Effect, EffectNode as Effects, Nodes, Source, SourceFrames}
 use Rattle.fx_scene.specs.Reach.{IsPlace}
 use Rattle.fx_scene.specs.Scenes.{graph_nodes, graph_shown, images_in}
 use Rattle.fx_scene.specs.declared.site.EffectNode.{EffectNode}
 use Rattle.fx_scene.specs.declared.site.SourceNode.{SourceNode}
 use Rattle.fx_scene.specs.Sites.{IsSourceAt, StandsIn, effect_at, scene_nodes}
-use Rattle.fx_region.specs.Tables.{Has}
+use Rattle.fx_region.specs.Tables.{AreRegions, Has}
+use Rattle.fx_region.specs.declared.regions.Regions.{Regions}
 use Rattle.fx_scene.proofs.SiteLemmas.{effect_is, source_is}
 use Rattle.fx_tile.specs.declared.setup.Setup.{Setup}
 use Rattle.fx_tile.specs.Setups.{IsSetup}
@@ -42,3 +44,7 @@ module _ {E : Type 0} {c e : _} (meaning : E → Meaning) (number : E → ℕ) (
       no_source _ o
       (sym (ap (λ (g : GraphShown E). graph_nodes meaning g (images_in setup.scene.now.store) place) is.graph
       ∙ source_is meaning (graph_shown setup.graph.now) (images_in setup.scene.now.store) place s at) ∙ there)
+
+-- the output is reached at the frame that the regions are of
+pub has_output : (nodes : Nodes) (count output : ℕ) (regions : Regions) (t : ℤ) → AreRegions nodes count output t regions → Has regions output t
+has_output nodes count output regions t are = are.all output t (λ s closed. closed.start t (omega (arith, ints)) (omega (arith, ints)))

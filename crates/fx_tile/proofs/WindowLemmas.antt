@@ -102,12 +102,12 @@ picture_by nodes n t tile e d k shows x y inside false h =
     ∙ ap (convert (depth_at nodes n) d k) (sym (shows.zero x y inside h))
 
 pub shows_picture : {E : Type 0} (meaning : E → Meaning) (g : GraphShown E) (images : Images) (t : ℤ) (tile : Bounds) (e : EndShown)
-    (d : Depth) (k : Components) → d ≡ g.depth → k ≡ components_for g.format → IsWithin tile g.project
-    → ShowsEnd (graph_nodes meaning g images) g.output t tile e → (x y : ℤ) → Holds tile x y
+    (d : Depth) (k : Components) → d ≡ g.depth → k ≡ components_for g.format
+    → ShowsEnd (graph_nodes meaning g images) g.output t tile e → (x y : ℤ) → Holds tile x y → Holds g.project x y
     → end_pixel (graph_nodes meaning g images) e d k x y ≡ pixel_at (picture meaning g images t) x y
-shows_picture meaning g images t tile e d k deep samples inside shows x y here =
+shows_picture meaning g images t tile e d k deep samples shows x y here inside =
     let nodes = graph_nodes meaning g images in
-    let there : within g.project x y ≡ true = inside x y here in
+    let there : within g.project x y ≡ true = inside in
     let one : convert (depth_at nodes g.output) g.depth (components_for g.format) (value nodes g.output t x y) ≡ pixel_at (picture meaning g images t) x y = rw there refl in
     picture_by nodes g.output t tile e d k shows x y here (end_holds e x y) refl
     ∙ ap (λ (z : Depth). convert (depth_at nodes g.output) z k (value nodes g.output t x y)) deep

@@ -74,6 +74,9 @@ pub record CountsRises (r : ℕ) (m n : Made) (c : TileCount) : Type 0 where
 
 -- ---- sums of counts
 
+abbrev pub no_count : TileCount
+no_count = record { void_tiles = 0; passed = 0; asked = 0; landed = 0; hits = 0 }
+
 -- both counts together
 abbrev pub both_counts : TileCount → TileCount → TileCount
 both_counts a b =

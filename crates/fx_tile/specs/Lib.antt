@@ -5,3 +5,4 @@ pub mod Counts
 pub mod Setups
 pub mod Inputs
 pub mod Moments
+pub mod Seats

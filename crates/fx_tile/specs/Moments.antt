@@ -1,40 +1,54 @@
--- The picture of a frame, whose tiles are drawn one by one.
-use Rattle.std.specs.Prelude.{◌≡◌, ◌<◌, ◌≤◌, ◌^◌, ◌+◌, ℕ, ℤ, List, [], None, All, length, count_by, slice_index_or, sum_by, vec_len}
+-- The picture of a frame: its tiles are found one by one, and then its bands are written one by one.
+use Rattle.std.specs.Prelude.{◌≡◌, ◌<◌, ◌≤◌, ◌*◌, ◌^◌, ◌+◌, ℕ, ℤ, List, [], None, All, drop, length, map, take, count_by, slice_index_or, sum_by, vec_len}
 use Rattle.std.specs.List.{Contains}
 use Rattle.fx_base.specs.Bounds.{Bounds, none}
-use Rattle.fx_base.specs.Rect.{Holds, IsWithin}
+use Rattle.fx_base.specs.Rect.{Holds, IsWithin, columns}
+use Rattle.fx_pixel.specs.declared.Depth.{Depth}
+use Rattle.fx_pixel.specs.declared.Format.{Format}
+use Rattle.fx_image.specs.Bands.{AreBands, AreWhole, IsLayout}
 use Rattle.fx_image.specs.Image.{Image, pixel_at}
-use Rattle.fx_image.specs.Stored.{SameFrame, Stored, shown}
+use Rattle.fx_image.specs.Stored.{SameFrame, Stored, pixel_size, shown}
+use Rattle.fx_image.specs.declared.layout.Layout.{Layout}
+use Rattle.fx_directory.specs.Seats.{FindsNone}
 use Rattle.fx_effect.specs.Meaning.{Meaning}
-use Rattle.fx_life.specs.Posts.{HasLife}
 use Rattle.fx_pam.specs.Laws.{components_for}
+use Rattle.fx_scene.specs.Nodes.{Nodes}
 use Rattle.fx_scene.specs.Scenes.{Shot, images_in, picture}
 use Rattle.fx_region.specs.Counts.{is_asked, is_passed, is_void, window_tiles}
-use Rattle.fx_region.specs.Ends.{EndShown, end_of}
+use Rattle.fx_region.specs.Ends.{EndShown, end_of, end_shown}
+use Rattle.fx_region.specs.Suffice.{ShowsEnd}
 use Rattle.fx_scene.specs.Sites.{scene_nodes}
-use Rattle.fx_region.specs.Tables.{AreRegions}
+use Rattle.fx_region.specs.Tables.{AreRegions, Has}
+use Rattle.fx_tile.specs.declared.bands.BandJob.{BandJob}
 use Rattle.fx_tile.specs.declared.count.TileCount.{TileCount}
-use Rattle.fx_tile.specs.declared.job.Drawn.{Drawn}
+use Rattle.fx_tile.specs.declared.found.FoundTile.{FoundTile}
+use Rattle.fx_tile.specs.declared.ground.Ground.{Ground}
 use Rattle.fx_tile.specs.declared.job.TileJob.{TileJob}
-use Rattle.fx_tile.specs.declared.moment.Ground.{Ground}
+use Rattle.fx_tile.specs.declared.setup.Setup.{Setup}
 use Rattle.fx_tile.specs.declared.share.Shared.{Shared}
 use Rattle.fx_tile.specs.declared.share.TileSeat.{TileSeat}
 use Rattle.fx_tile.specs.Counts.{CountsEnd, CountsWay}
-use Rattle.fx_tile.specs.Setups.{end_renders}
+use Rattle.fx_tile.specs.Setups.{IsReady, IsSetup, IsTileOf, end_renders, made_of}
 use Rattle.fx_tile.specs.Tiles.{IsRegion}
 
--- the seat has one part of the directory and of the gates, no flight and no gate
-pub record IsFree {E : Type 0} (shared : Shared E) (seat : TileSeat E) : Type 0 where
+-- the seat has so many parts of the directory and of the gates, no flight and no gate; where nothing may be kept, nothing
+-- was found kept through it
+pub record IsIdle {E : Type 0} (shared : Shared E) (parts : ℕ) (seat : TileSeat E) : Type 0 where
   pub row : seat.directory.row ≡ shared.directory
-  pub part : seat.directory.parts ≡ 1
+  pub parts_are : seat.directory.parts ≡ parts
   pub aloft : seat.directory.aloft ≡ []
+  pub finds_none : FindsNone seat.directory
   pub gates : seat.gates.row ≡ shared.gates
-  pub gate_part : seat.gates.parts ≡ 1
+  pub gate_parts : seat.gates.parts ≡ parts
   pub no_turn : seat.gates.turn ≡ None
+
+-- a seat of a worker, which has one part
+abbrev pub IsFree : {E : Type 0} → Shared E → TileSeat E → Type 0
+IsFree shared seat = IsIdle shared 1 seat
 
 -- what landed and what was found kept through a seat, and by a count
 abbrev pub seat_weight : {E : Type 0} → TileSeat E → ℕ × ℕ
-seat_weight seat = (seat.directory.made.landed, seat.directory.made.hits)
+seat_weight seat = ((made_of seat).landed, (made_of seat).hits)
 
 abbrev pub count_weight : TileCount → ℕ × ℕ
 count_weight count = (count.landed, count.hits)
@@ -46,102 +60,149 @@ pub record IsWindowTile (project tile : Bounds) : Type 0 where
   pub region : IsRegion tile
   pub within : IsWithin tile project
 
--- each place of the project is in a tile
+-- each place of the rectangle is in a tile
 abbrev pub Cover : List Bounds → Bounds → Type 0
-Cover tiles project = (x y : ℤ) → Holds project x y → (tile : Bounds) × Contains tiles tile × Holds tile x y
+Cover tiles rect = (x y : ℤ) → Holds rect x y → (tile : Bounds) × Contains tiles tile × Holds tile x y
 
--- What is there before a frame is drawn: the regions of its nodes, its window tiles, and an image like its picture
-pub record IsGround {E : Type 0} (meaning : E → Meaning) (scene : Shot E) (side : ℕ) (frame : ℤ)
-    (ground : Ground) : Type 0 where
+-- ---- before a frame is drawn
+
+-- how a picture is laid out in bands as high as a row of the grid
+abbrev pub layout_over : Bounds → Depth → Format → ℕ → Layout
+layout_over rect depth format side =
+    record {
+      rect = rect;
+      depth = depth;
+      components = components_for format;
+      row_bytes = columns rect * pixel_size depth (components_for format);
+      band_rows = side;
+    }
+
+-- the tiles of band k, where each band has so many
+abbrev pub tiles_of_band : {T : Type 0} → ℕ → List T → ℕ → List T
+tiles_of_band columns tiles k = take columns (drop (k * columns) tiles)
+
+-- the window tiles go band by band, so many to each
+pub record AreInBands (layout : Layout) (columns : ℕ) (tiles : List Bounds) (bands : List Stored) : Type 0 where
+  pub are : AreBands layout bands
+  pub whole : AreWhole layout bands
+  pub many : length bands * columns ≡ length tiles
+  pub cover :
+      (k : ℕ) (d : Stored) → k < length bands
+      → Cover (tiles_of_band columns tiles k) (slice_index_or bands k d).rect
+
+-- What is there before a frame is drawn: the regions of its nodes, its window tiles, and the bands of an image like its
+-- picture
+pub record IsGround {E : Type 0} (meaning : E → Meaning) (scene : Shot E) (side : ℕ) (frame : ℤ) (ground : Ground)
+    : Type 0 where
   pub regions :
       let g = scene.graph in AreRegions (scene_nodes meaning scene) (length g.nodes) g.output frame ground.regions
   pub tiles : ground.tiles.items ≡ window_tiles side scene.graph.project
   pub few : vec_len ground.tiles ≤ 2 ^ 32
   pub each : All (IsWindowTile scene.graph.project) ground.tiles.items
-  pub cover : Cover ground.tiles.items scene.graph.project
-  pub rect : ground.picture.rect ≡ scene.graph.project
-  pub depth : ground.picture.depth ≡ scene.graph.depth
-  pub components : ground.picture.components ≡ components_for scene.graph.format
+  pub layout : let g = scene.graph in ground.layout ≡ layout_over g.project g.depth g.format side
+  pub laid : IsLayout ground.layout
+  pub in_bands : AreInBands ground.layout ground.columns ground.tiles.items ground.bands.items
+  pub few_bands : vec_len ground.bands ≤ 2 ^ 32
 
 -- ---- one tile
 
+-- where a tile of the picture is found, so that it can be shown, and what became of it
+pub record IsFoundTile {E : Type 0} {c e : _} (meaning : E → Meaning) (setup : Setup E c e) (frame : ℤ)
+    (found : FoundTile) : Type 0 where
+  pub clip : found.need.clip ≡ 0
+  pub frame_is : found.need.frame ≡ frame
+  pub ready : IsReady meaning setup (setup.graph.now.output + 1) found.need.end
+  pub image : IsTileOf (scene_nodes meaning setup.scene.now) found.need.end found.image
+  pub shows :
+      ShowsEnd (scene_nodes meaning setup.scene.now) setup.scene.now.graph.output frame found.tile
+      (end_shown found.need.end)
+  pub count :
+      CountsEnd (end_of (scene_nodes meaning setup.scene.now) setup.scene.now.graph.output frame found.tile) found.count
+  pub way :
+      let nodes = scene_nodes meaning setup.scene.now in
+      let end = end_of nodes setup.scene.now.graph.output frame found.tile in
+      CountsWay (end_renders nodes setup.shared.now.grid end) found.count
+
 -- the tile of a number
-abbrev pub job_tile : {E : Type 0} → TileJob E → ℕ → Bounds
+abbrev pub job_tile : {E : Type 0} {c e : _} → TileJob E c e → ℕ → Bounds
 job_tile job index = slice_index_or job.tiles.now index none
 
 -- the window tiles of the frame may be drawn, and this is the number of one
-pub record MayDraw {E : Type 0} (meaning : E → Meaning) (number : E → ℕ) (job : TileJob E) (index : ℕ) : Type 0 where
-  pub life : HasLife number job.scene.now.graph job.life.now
-  pub regions :
-      let g = job.scene.now.graph in
-      AreRegions (scene_nodes meaning job.scene.now) (length g.nodes) g.output job.frame job.regions.now
-  pub name : job.shared.now.directory.name.scene.value ≡ job.scene.now
-  pub gates : 64 + length job.scene.now.graph.nodes ≤ job.shared.now.gates.gates
+pub record MayDraw {E : Type 0} {c e : _} (meaning : E → Meaning) (number : E → ℕ) (job : TileJob E c e) (index : ℕ)
+    : Type 0 where
+  pub setup : IsSetup meaning number job.setup.now
+  pub reached : Has job.setup.now.regions.now job.setup.now.scene.now.graph.output job.frame
   pub below : index < length job.tiles.now
-  pub tile : IsWindowTile job.scene.now.graph.project (job_tile job index)
+  pub tile : IsWindowTile job.setup.now.scene.now.graph.project (job_tile job index)
 
--- the image shows the picture over a tile
-pub record ShowsPicture (picture : Image) (tile : Bounds) (image : Stored) : Type 0 where
-  pub rect : image.rect ≡ tile
-  pub depth : image.depth ≡ picture.depth
-  pub components : image.components ≡ picture.components
-  pub pixels : (x y : ℤ) → Holds tile x y → shown image x y ≡ pixel_at picture x y
+-- the tile of a number was found
+pub record IsDrawn {E : Type 0} {c e : _} (meaning : E → Meaning) (job : TileJob E c e) (index : ℕ) (found : FoundTile)
+    : Type 0 where
+  pub tile : found.tile ≡ job_tile job index
+  pub is : IsFoundTile meaning job.setup.now job.frame found
 
--- the image shows the picture of the frame over the tile of a number, and the count is that of the tile
-pub record IsDrawn {E : Type 0} (meaning : E → Meaning) (job : TileJob E) (index : ℕ) (out : Drawn) : Type 0 where
-  pub image :
-      let scene = job.scene.now in
-      ShowsPicture (picture meaning scene.graph (images_in scene.store) job.frame) (job_tile job index) out.image
-  pub count :
-      let end = end_of (scene_nodes meaning job.scene.now) job.scene.now.graph.output job.frame (job_tile job index) in
-      CountsEnd end out.count
-  pub way :
-      let nodes = scene_nodes meaning job.scene.now in
-      let end = end_of nodes job.scene.now.graph.output job.frame (job_tile job index) in
-      CountsWay (end_renders nodes job.shared.now.grid end) out.count
+-- ---- one band
 
--- ---- the picture
+abbrev pub rects_of : List (ℕ × FoundTile) → List Bounds
+rects_of found = map (λ f. f.1.tile) found
 
--- the tile lies in the picture, and has its depth and components
-pub record FitsInto (picture tile : Stored) : Type 0 where
-  pub within : IsWithin tile.rect picture.rect
-  pub depth : tile.depth ≡ picture.depth
-  pub components : tile.components ≡ picture.components
+-- the picture of the frame of these tiles
+abbrev pub job_picture : {E : Type 0} {c e : _} → (E → Meaning) → BandJob E c e → Image
+job_picture meaning job =
+    let scene = job.setup.now.scene.now in picture meaning scene.graph (images_in scene.store) job.frame
 
--- the picture shows the tile in its place now, and elsewhere what it did
-pub record Paints (tile old new : Stored) : Type 0 where
+-- a band of an image like the picture
+pub record IsBand {E : Type 0} {c e : _} (job : BandJob E c e) (band : Stored) : Type 0 where
+  pub within : IsWithin band.rect job.setup.now.scene.now.graph.project
+  pub depth : band.depth ≡ job.setup.now.scene.now.graph.depth
+  pub components : band.components ≡ components_for job.setup.now.scene.now.graph.format
+
+-- the tiles were found, and this is a band that the tiles of its row cover
+pub record MayWrite {E : Type 0} {c e : _} (meaning : E → Meaning) (job : BandJob E c e) (index : ℕ) (band : Stored)
+    : Type 0 where
+  pub found : All (λ f. IsFoundTile meaning job.setup.now job.frame f.1) job.found.now
+  pub row : index * job.columns + job.columns ≤ length job.found.now
+  pub cover : Cover (tiles_of_band job.columns (rects_of job.found.now) index) band.rect
+  pub is : IsBand job band
+
+-- where the tile and the band overlap the band shows the picture now, and elsewhere what it did
+pub record WritesTile (picture : Image) (tile : Bounds) (old new : Stored) : Type 0 where
+  pub inside : (x y : ℤ) → Holds tile x y → Holds old.rect x y → shown new x y ≡ pixel_at picture x y
+  pub outside : (x y : ℤ) → (Holds tile x y → ⊥) → shown new x y ≡ shown old x y
+
+-- where these tiles and the band overlap it shows the picture
+abbrev pub ShowsTiles : Image → List Bounds → Stored → Type 0
+ShowsTiles picture tiles band =
+    (tile : Bounds) → Contains tiles tile → (x y : ℤ) → Holds tile x y → Holds band.rect x y
+    → shown band x y ≡ pixel_at picture x y
+
+-- the band shows the picture at each of its places
+pub record ShowsPicture (picture : Image) (old new : Stored) : Type 0 where
   pub frame : SameFrame old new
-  pub inside : (x y : ℤ) → Holds tile.rect x y → shown new x y ≡ shown tile x y
-  pub outside : (x y : ℤ) → (Holds tile.rect x y → ⊥) → shown new x y ≡ shown old x y
-
--- the picture shows the pixel of a tile that has the place
-pub record ShowsOne (outs : List (ℕ × Drawn)) (picture : Stored) (x y : ℤ) : Type 0 where
-  pub out : ℕ × Drawn
-  pub among : Contains outs out
-  pub there : Holds out.1.image.rect x y
-  pub pixel : shown picture x y ≡ shown out.1.image x y
-
--- at each place of each tile
-abbrev pub ShowsTiles : List (ℕ × Drawn) → Stored → Type 0
-ShowsTiles outs picture =
-    (out : ℕ × Drawn) (x y : ℤ) → Contains outs out → Holds out.1.image.rect x y → ShowsOne outs picture x y
+  pub pixels : (x y : ℤ) → Holds old.rect x y → shown new x y ≡ pixel_at picture x y
 
 -- ---- the count
 
 -- the counts of all tiles together
-abbrev pub count_of_all : List (ℕ × Drawn) → TileCount
-count_of_all outs =
+abbrev pub count_of_all : List (ℕ × FoundTile) → TileCount
+count_of_all found =
     record {
-      void_tiles = sum_by (λ out. out.1.count.void_tiles) outs;
-      passed = sum_by (λ out. out.1.count.passed) outs;
-      asked = sum_by (λ out. out.1.count.asked) outs;
-      landed = sum_by (λ out. out.1.count.landed) outs;
-      hits = sum_by (λ out. out.1.count.hits) outs;
+      void_tiles = sum_by (λ f. f.1.count.void_tiles) found;
+      passed = sum_by (λ f. f.1.count.passed) found;
+      asked = sum_by (λ f. f.1.count.asked) found;
+      landed = sum_by (λ f. f.1.count.landed) found;
+      hits = sum_by (λ f. f.1.count.hits) found;
     }
 
--- so many tiles of each kind, by where they are found; and each that is asked landed, or was found kept
-pub record CountsTiles (ends : List EndShown) (count : TileCount) : Type 0 where
+-- how many renders the regions of these ends need, where they are renders
+abbrev pub renders_for : Nodes → ℕ → List EndShown → ℕ
+renders_for nodes side ends = sum_by (end_renders nodes side) ends
+
+-- So many tiles of each kind, by where they are found. Each that is asked landed, or was found kept; and where none was
+-- found kept, each that is asked landed, and so did each render that it needs.
+pub record CountsTiles (nodes : Nodes) (side : ℕ) (ends : List EndShown) (count : TileCount) : Type 0 where
   pub void_tiles : count.void_tiles ≡ count_by is_void ends
   pub passed : count.passed ≡ count_by is_passed ends
   pub asked : count.asked ≡ count_by is_asked ends
   pub enough : count.asked ≤ count.landed + count.hits
+  pub none_kept : count.hits ≡ 0 → count.asked + renders_for nodes side ends ≤ count.landed

@@ -41,6 +41,10 @@ pub record IsSetup {E : Type 0} {c e : _} (meaning : E → Meaning) (number : E 
   pub name : setup.shared.now.directory.name.scene.value ≡ setup.scene.now
   pub gates : 64 + length setup.scene.now.graph.nodes ≤ setup.shared.now.gates.gates
 
+-- what was asked, landed and dropped through a seat
+abbrev pub made_of : {E : Type 0} → TileSeat E → Made
+made_of seat = seat.directory.made
+
 -- a seat of the gates that holds none
 abbrev pub IsGateSeat : {E : Type 0} {c e : _} → Setup E c e → GateSeatState → Type 0
 IsGateSeat setup seat = (seat.row ≡ setup.shared.now.gates) × (seat.turn ≡ None)

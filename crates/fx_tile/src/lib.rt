@@ -2,7 +2,10 @@
 //! rendered once, as long as it is kept, among all who ask the directory for it.
 #![tactic(auto)]
 
+mod bands;
 mod count;
+mod found;
+mod ground;
 mod inputs;
 mod job;
 pub mod laws;

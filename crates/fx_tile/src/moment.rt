@@ -1,27 +1,33 @@
-//! The picture of a frame, whose tiles are drawn by workers.
-ghost use Rattle.std.specs.Prelude.{◌≡◌, ◌↔◌, ◌+◌, ◌^◌, ◌≤◌, ◌≤ℤ◌, pos, neg_ℤ, All, IfErr, IfOk, IfSome, IsSome, length, vec_len};
+//! The picture of a frame, by workers: they find its tiles one by one, and then write its bands one by one.
+ghost use Rattle.std.specs.Prelude.{◌≡◌, ◌↔◌, ◌+◌, ◌^◌, ◌≤◌, ◌≤ℤ◌, pos, neg_ℤ, All, IfErr, IfOk, IfSome, IsSome, length, map, vec_len};
 ghost use Rattle.fx_base.specs.declared.limits.TheConstants.{LAST_FRAME};
+ghost use Rattle.fx_image.specs.Bands.{IsLayout};
 ghost use Rattle.fx_image.specs.Image.{SameImage};
-ghost use Rattle.fx_effect.specs.Shape.{IsProject};
-ghost use Rattle.fx_image.specs.Stored.{SameFrame, image_of};
+ghost use Rattle.fx_image.specs.Stored.{image_of};
 ghost use Rattle.fx_life.specs.Posts.{HasLife};
 ghost use Rattle.fx_pool.specs.Weights.{plus, weigh};
-ghost use Rattle.fx_region.specs.Counts.{window_ends, window_tiles};
+ghost use Rattle.fx_region.specs.Counts.{window_ends};
+ghost use Rattle.fx_region.specs.Ends.{end_of};
+ghost use Rattle.fx_region.specs.Tables.{Has};
 ghost use Rattle.fx_scene.specs.Sites.{scene_nodes};
 ghost use Rattle.fx_scene.specs.Scenes.{images_in, picture};
 ghost use Rattle.fx_tile.specs.Counts.{CanCount};
-ghost use Rattle.fx_tile.specs.Moments.{CountsTiles, Cover, FitsInto, IsFree, IsGround, IsWindowTile, Paints, ShowsTiles, count_of_all, count_weight, seat_weight};
+ghost use Rattle.fx_tile.specs.Moments.{AreInBands, CountsTiles, IsFoundTile, IsFree, IsWindowTile, count_of_all, count_weight, layout_over, rects_of, seat_weight};
+ghost use Rattle.fx_tile.specs.Setups.{IsSetup};
 
+use crate::bands::BandJob;
 use crate::count::TileCount;
-use crate::job::{Drawn, TileJob, blank};
+use crate::found::FoundTile;
+use crate::ground::{Ground, ground_of};
+use crate::job::TileJob;
+use crate::setup::Setup;
 use crate::share::{Shared, TileSeat};
-use fx_base::{Grid, Memory, Rect};
+use fx_base::{Memory, Rect};
 use fx_effect::Catalogue;
-use fx_image::Image;
+use fx_image::{Image, Layout};
 use fx_life::Life;
 use fx_outside::Pace;
-use fx_pool::{Worked, work};
-use fx_region::Regions;
+use fx_pool::{Worked, WorkedItems, work, work_items};
 use fx_scene::Scene;
 use std::alloc::Global;
 use std::rt::Clock;
@@ -36,12 +42,13 @@ pub struct Rendered<E: Catalogue> {
     pub seats: Vec<TileSeat<E>>,
 }
 
-/// Renders the picture of a frame: its window tiles, which are those of the grid cut to the project's extent, are
-/// drawn by one worker for each seat, and each of them by `window_tile`. There are 1 to 64 seats, each with one part of
-/// the directory and of the gates, no flight and no gate; they come back so, as many, at `Memory` too, once all workers
-/// have ended. The life is that of the scene's graph, the directory's name is that of the scene, and there are gates for
-/// 64 plug-ins and each node. Each worker calls `pace.before_draw` with its number before each draw. `Memory` comes
-/// where memory is wanting, or where a count would pass the greatest number that it can be.
+/// Renders the picture of a frame, by one worker for each seat. First they find its window tiles, which are those of the
+/// grid cut to the project's extent: each of these, as `window_tile` does, in one draw. Then they write its bands, which
+/// are the rows of the grid cut so: each band in one draw, with the rows of its tiles. There are 1 to 64 seats, each
+/// with one part of the directory and of the gates, no flight and no gate; they come back so, as many, at `Memory` too,
+/// once all workers have ended. The life is that of the scene's graph, the directory's name is that of the scene, and
+/// there are gates for 64 plug-ins and each node. Each worker calls `pace.before_draw` with its number before each draw.
+/// `Memory` comes where memory is wanting, or where a count would pass the greatest number that it can be.
 pub fn render_moment<R: Threads + Wait + Clock + Sync, E: Catalogue + Send + Sync + Drop, P: Pace>(
     rt: &R,
     alloc: Global,
@@ -63,9 +70,11 @@ pub fn render_moment<R: Threads + Wait + Clock + Sync, E: Catalogue + Send + Syn
         IfOk result (λ r. SameImage (image_of r.picture) picture) }
     ensures count { let g = scene.now.graph in let nodes = scene_nodes E.meaning scene.now in
         let ends = window_ends nodes g.output shared.now.grid g.project frame in
-        IfOk result (λ r. CountsTiles ends r.count) }
+        IfOk result (λ r. CountsTiles nodes shared.now.grid ends r.count) }
     ensures rises { IfOk result (λ r.
         weigh seat_weight r.seats.items ≡ plus (weigh seat_weight seats.items) (count_weight r.count)) }
+    // Where nothing may be kept, nothing is found kept.
+    ensures none_kept { shared.now.directory.capacity ≡ 0 → IfOk result (λ r. r.count.hits ≡ 0) }
     ensures seats { IfOk result (λ r. (vec_len r.seats ≡ vec_len seats) × All (IsFree shared.now) r.seats.items) }
     ensures back { IfErr result (λ r. (vec_len r.0 ≡ vec_len seats) × All (IsFree shared.now) r.0.items) }
 {
@@ -73,20 +82,79 @@ pub fn render_moment<R: Threads + Wait + Clock + Sync, E: Catalogue + Send + Syn
         Ok(ground) => ground,
         Err(memory) => return Err((seats, memory)),
     };
-    let job = TileJob {
-        scene,
-        regions: &ground.regions,
-        life,
-        shared,
+    let Ground {
+        regions,
+        tiles,
+        columns,
+        layout,
+        bands,
+    } = ground;
+    let setup = Setup::of(scene, &regions, life, shared);
+    let all = find_all(rt, alloc, pace, &setup, frame, &tiles, seats)?;
+    let Found {
+        tiles: found,
+        count,
+        seats,
+    } = all;
+    let job = BandJob {
+        setup: &setup,
         frame,
-        tiles: ground.tiles.as_slice(),
+        found: found.as_slice(),
+        columns,
     };
-    let Worked { seats, outs } = work(rt, alloc, pace, ground.tiles.len() as u64, seats, &job)?;
-    let mut picture = ground.picture;
-    paint_tiles(&outs, &mut picture);
-    match count_tiles(&outs) {
-        Some(count) => Ok(Rendered {
-            picture,
+    let (picture, seats) = write_all(rt, alloc, pace, &job, &layout, bands, seats)?;
+    Ok(Rendered {
+        picture,
+        count,
+        seats,
+    })
+}
+
+// The window tiles of a frame as they were found, what became of them together, and the seats of those who found them.
+#[derive(Drop)]
+struct Found<E: Catalogue> {
+    tiles: Vec<(u64, FoundTile)>,
+    count: TileCount,
+    seats: Vec<TileSeat<E>>,
+}
+
+// Finds the window tiles of a frame.
+fn find_all<R: Threads + Wait + Clock + Sync, E: Catalogue + Send + Sync + Drop, P: Pace>(
+    rt: &R,
+    alloc: Global,
+    pace: &P,
+    setup: &Setup<'_, E>,
+    frame: i64,
+    tiles: &[Rect],
+    seats: Vec<TileSeat<E>>,
+) -> Result<Found<E>, (Vec<TileSeat<E>>, Memory)>
+    requires setup { IsSetup E.meaning E.number_of setup.now }
+    requires reached { Has setup.now.regions.now setup.now.scene.now.graph.output frame }
+    requires tiles { All (IsWindowTile setup.now.scene.now.graph.project) tiles.now }
+    requires few { length tiles.now ≤ 2 ^ 32 }
+    requires workers { (1 ≤ vec_len seats) × (vec_len seats ≤ 64) }
+    requires seats { All (IsFree setup.now.shared.now) seats.items }
+    ensures tiles { IfOk result (λ r. rects_of r.tiles.items ≡ tiles.now) }
+    ensures found { IfOk result (λ r. All (λ f. IsFoundTile E.meaning setup.now frame f.1) r.tiles.items) }
+    ensures count { let nodes = scene_nodes E.meaning setup.now.scene.now in
+        let ends = map (end_of nodes setup.now.scene.now.graph.output frame) tiles.now in
+        IfOk result (λ r. CountsTiles nodes setup.now.shared.now.grid ends r.count) }
+    ensures rises { IfOk result (λ r.
+        weigh seat_weight r.seats.items ≡ plus (weigh seat_weight seats.items) (count_weight r.count)) }
+    ensures seats { IfOk result (λ r.
+        (vec_len r.seats ≡ vec_len seats) × All (IsFree setup.now.shared.now) r.seats.items) }
+    ensures back { IfErr result (λ r.
+        (vec_len r.0 ≡ vec_len seats) × All (IsFree setup.now.shared.now) r.0.items) }
+{
+    let job = TileJob {
+        setup,
+        frame,
+        tiles,
+    };
+    let Worked { seats, outs: tiles } = work(rt, alloc, pace, tiles.len() as u64, seats, &job)?;
+    match count_all(&tiles) {
+        Some(count) => Ok(Found {
+            tiles,
             count,
             seats,
         }),
@@ -94,90 +162,53 @@ pub fn render_moment<R: Threads + Wait + Clock + Sync, E: Catalogue + Send + Syn
     }
 }
 
-// What is there before a frame is drawn: the regions of its nodes, its window tiles, and an image for its picture.
-#[derive(Drop)]
-struct Ground {
-    regions: Regions,
-    tiles: Vec<Rect>,
-    picture: Image,
-}
-
-fn ground_of<E: Catalogue>(
-    alloc: Global,
-    scene: &Scene<E>,
-    grid: Grid,
-    frame: i64,
-) -> Result<Ground, Memory>
-    requires low { neg_ℤ (pos LAST_FRAME) ≤ℤ frame }
-    requires high { frame ≤ℤ pos LAST_FRAME }
-    ensures { IfOk result (IsGround E.meaning scene.now grid frame) }
-{
-    let graph = scene.graph();
-    let regions = Regions::of(alloc, scene, frame)?;
-    let tiles = window_tiles(alloc, grid, graph.project)?;
-    let picture = blank(alloc, graph.project, graph.depth, graph.format)?;
-    Ok(Ground {
-        regions,
-        tiles,
-        picture,
-    })
-}
-
-// The tiles of a grid that hold a pixel of the project's extent, each cut to it.
-fn window_tiles(alloc: Global, grid: Grid, project: Rect) -> Result<Vec<Rect>, Memory>
-    requires { IsProject project }
-    ensures tiles { IfOk result (λ tiles. tiles.items ≡ window_tiles grid project) }
-    ensures few { IfOk result (λ tiles. vec_len tiles ≤ 2 ^ 32) }
-    ensures each { IfOk result (λ tiles. All (IsWindowTile project) tiles.items) }
-    ensures cover { IfOk result (λ tiles. Cover tiles.items project) }
-{
-    // Reading it tells the proof that it has from 1 to 1,024 pixels.
-    let _side = grid.side;
-    let mut tiles = grid.tiles_of(alloc, project)?;
-    for tile in tiles.iter_mut() {
-        *tile = project.meet(*tile);
-    }
-    Ok(tiles)
-}
-
-// Writes each tile into its place of the picture.
-fn paint_tiles(outs: &[(u64, Drawn)], picture: &mut Image)
-    requires { All (λ out. FitsInto picture.old out.1.image) outs.now }
-    ensures frame { SameFrame picture.old picture.new }
-    ensures tiles { ShowsTiles outs.now picture.new }
-{
-    for (_, drawn) in outs {
-        paint(&drawn.image, picture);
-    }
-}
-
-// Writes an image into its place of a picture, row by row.
-fn paint(tile: &Image, picture: &mut Image)
-    requires { FitsInto picture.old tile.now }
-    ensures { Paints tile.now picture.old picture.new }
-{
-    let rect = tile.rect();
-    let view = tile.view(rect);
-    let mut part = picture.part(rect);
-    for y in rect.y1..rect.y2 {
-        part.row_mut(y).copy_from_slice(view.row(y));
-    }
-}
-
 // The counts of all tiles together, where no sum is past the greatest number.
-fn count_tiles(outs: &[(u64, Drawn)]) -> Option<TileCount>
-    ensures some { IsSome result ↔ CanCount (count_of_all outs.now) }
-    ensures sum { IfSome result (λ sum. sum ≡ count_of_all outs.now) }
+fn count_all(tiles: &[(u64, FoundTile)]) -> Option<TileCount>
+    ensures some { IsSome result ↔ CanCount (count_of_all tiles.now) }
+    ensures sum { IfSome result (λ sum. sum ≡ count_of_all tiles.now) }
 {
-    let mut sum = TileCount {
-        void_tiles: 0,
-        passed: 0,
-        asked: 0,
-        landed: 0,
-        hits: 0,
-    };
-    for (_, drawn) in outs {
-        sum = sum.plus(drawn.count)?;
+    let mut sum = TileCount::none();
+    for (_, found) in tiles {
+        sum = sum.plus(found.count)?;
     }
     Some(sum)
+}
+
+// Writes the bands of the picture of a frame, and puts it together.
+fn write_all<R: Threads + Wait + Clock + Sync, E: Catalogue + Send + Sync + Drop, P: Pace>(
+    rt: &R,
+    alloc: Global,
+    pace: &P,
+    job: &BandJob<'_, E>,
+    layout: &Layout,
+    bands: Vec<Image>,
+    seats: Vec<TileSeat<E>>,
+) -> Result<(Image, Vec<TileSeat<E>>), (Vec<TileSeat<E>>, Memory)>
+    requires found { let setup = job.now.setup.now in
+        All (λ f. IsFoundTile E.meaning setup job.now.frame f.1) job.now.found.now }
+    requires layout { let g = job.now.setup.now.scene.now.graph in let side = job.now.setup.now.shared.now.grid in
+        layout.now ≡ layout_over g.project g.depth g.format side }
+    requires laid { IsLayout layout.now }
+    requires bands { AreInBands layout.now job.now.columns (rects_of job.now.found.now) bands.items }
+    requires few { vec_len bands ≤ 2 ^ 32 }
+    requires workers { (1 ≤ vec_len seats) × (vec_len seats ≤ 64) }
+    requires seats { All (IsFree job.now.setup.now.shared.now) seats.items }
+    ensures picture { let scene = job.now.setup.now.scene.now in
+        let picture = picture E.meaning scene.graph (images_in scene.store) job.now.frame in
+        IfOk result (λ r. SameImage (image_of r.0) picture) }
+    ensures rises { IfOk result (λ r. weigh seat_weight r.1.items ≡ weigh seat_weight seats.items) }
+    ensures seats { IfOk result (λ r.
+        (vec_len r.1 ≡ vec_len seats) × All (IsFree job.now.setup.now.shared.now) r.1.items) }
+    ensures back { IfErr result (λ r.
+        (vec_len r.0 ≡ vec_len seats) × All (IsFree job.now.setup.now.shared.now) r.0.items) }
+{
+    let WorkedItems {
+        seats,
+        items,
+        outs: _,
+    } = work_items(rt, alloc, pace, bands, seats, job)?;
+    match Image::of_bands(alloc, layout, items) {
+        Ok(picture) => Ok((picture, seats)),
+        Err(memory) => Err((seats, memory)),
+    }
 }

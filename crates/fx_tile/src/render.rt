@@ -130,7 +130,8 @@ fn window_of<R: Wait + Clock, E: Catalogue + Drop>(
     Ok(image)
 }
 
-fn row_bytes_of(region: Rect, depth: Depth, components: Components) -> u32
+/// How many bytes a row of pixels of a region has.
+pub(crate) fn row_bytes_of(region: Rect, depth: Depth, components: Components) -> u32
     requires near { IsNear region }
     requires wide { columns region ≤ MOST_SIDE }
     ensures value { result ≡ columns region * pixel_size depth components }

@@ -1,4 +1,9 @@
 //! What renders are made from.
+ghost use Rattle.std.specs.Prelude.{◌≡◌, ◌≤◌, ◌+◌, length};
+ghost use Rattle.fx_life.specs.Posts.{HasLife};
+ghost use Rattle.fx_region.specs.Tables.{IsMadeOf};
+ghost use Rattle.fx_tile.specs.Setups.{IsSetup};
+
 use crate::share::Shared;
 use fx_effect::Catalogue;
 use fx_graph::Graph;
@@ -17,4 +22,31 @@ pub(crate) struct Setup<'a, E: Catalogue> {
     pub regions: &'a Regions,
     pub life: &'a Life<E>,
     pub shared: &'a Shared<E>,
+}
+
+impl<'a, E: Catalogue> Setup<'a, E> {
+    pub(crate) fn of(
+        scene: &'a Scene<E>,
+        regions: &'a Regions,
+        life: &'a Life<E>,
+        shared: &'a Shared<E>,
+    ) -> Setup<'a, E>
+        requires life { HasLife E.number_of scene.now.graph life.now }
+        requires regions { IsMadeOf E.meaning scene.now regions.now }
+        requires name { shared.now.directory.name.scene.value ≡ scene.now }
+        requires gates { 64 + length scene.now.graph.nodes ≤ shared.now.gates.gates }
+        ensures setup { IsSetup E.meaning E.number_of result }
+        ensures scene { result.scene.now ≡ scene.now }
+        ensures regions { result.regions.now ≡ regions.now }
+        ensures shared { result.shared.now ≡ shared.now }
+    {
+        Setup {
+            scene,
+            graph: scene.graph(),
+            store: scene.store(),
+            regions,
+            life,
+            shared,
+        }
+    }
 }

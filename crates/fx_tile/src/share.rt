@@ -1,11 +1,21 @@
 //! What those who render tiles share, and what each has for himself.
+ghost use Rattle.std.specs.Prelude.{◌≡◌, ◌≤◌, ◌<◌, ◌+◌, ◌-◌, [], All, IfOk, OnErr, OnOk, length, vec_len};
+ghost use Rattle.fx_directory.specs.Seats.{both_made, nothing_made, totals_of};
+ghost use Rattle.fx_pool.specs.Weights.{plus, weigh};
+ghost use Rattle.fx_turn.specs.Seats.{all_parts};
+ghost use Rattle.fx_tile.specs.Moments.{IsFree, IsIdle, seat_weight};
+ghost use Rattle.fx_tile.specs.Seats.{AreAll};
+ghost use Rattle.fx_tile.specs.Setups.{made_of};
+
 use crate::name::SceneName;
-use fx_base::Grid;
+use fx_base::{Grid, Memory};
+use fx_core::{Permit, Totals};
 use fx_directory::{DirSeat, Directory};
 use fx_effect::Catalogue;
 use fx_gate::{GateSeat, Gates};
 use fx_image::Image;
-use fx_scene::Key;
+use fx_scene::{Key, Scene};
+use std::alloc::Global;
 
 /// What all who render tiles of a scene share: the directory of what was rendered, the gates of plug-ins and
 /// instances, and the grid of its tiles.
@@ -21,4 +31,127 @@ pub struct Shared<E: Catalogue> {
 pub struct TileSeat<E: Catalogue> {
     pub directory: DirSeat<SceneName<E>, Key, Image>,
     pub gates: GateSeat,
+}
+
+impl<E: Catalogue + Drop> Shared<E> {
+    /// What all who render tiles of a scene over a grid share, and the first seat, which has all parts: a directory
+    /// under the scene's permit that keeps at most so many tiles, and gates for 64 plug-ins and for each node.
+    pub fn new(
+        alloc: Global,
+        scene: &Scene<E>,
+        permit: Permit,
+        capacity: u32,
+        grid: Grid,
+    ) -> Result<(Shared<E>, TileSeat<E>), Memory>
+        ensures name { IfOk result (λ r. r.0.directory.name.scene.value ≡ scene.now) }
+        ensures capacity { IfOk result (λ r. r.0.directory.capacity ≡ capacity) }
+        ensures gates { IfOk result (λ r. r.0.gates.gates ≡ 64 + length scene.now.graph.nodes) }
+        ensures grid { IfOk result (λ r. r.0.grid ≡ grid) }
+        ensures first { IfOk result (λ r. AreAll r.0 r.1 []) }
+        ensures made { IfOk result (λ r. made_of r.1 ≡ nothing_made) }
+    {
+        let count = 64 + scene.graph().nodes.len() as u32;
+        let (gates, gate_seat) = Gates::new(alloc, count)?;
+        let name = SceneName::of(scene);
+        let Ok((directory, seat)) = Directory::new(alloc, name, permit, capacity) else {
+            return Err(Memory);
+        };
+        let shared = Shared {
+            directory,
+            gates,
+            grid,
+        };
+        let seat = TileSeat {
+            directory: seat,
+            gates: gate_seat,
+        };
+        Ok((shared, seat))
+    }
+
+    /// A seat for each of so many workers, split off from the first one, to which no other was split off. At `Memory`
+    /// the first one has all parts still.
+    pub fn split(
+        &self,
+        alloc: Global,
+        first: &mut TileSeat<E>,
+        workers: u32,
+    ) -> Result<Vec<TileSeat<E>>, Memory>
+        requires first { AreAll self.now first.old [] }
+        requires few { workers ≤ 64 }
+        ensures count { IfOk result (λ seats. vec_len seats ≡ workers) }
+        ensures seats { IfOk result (λ seats. AreAll self.now first.new seats.items) }
+        ensures nothing { IfOk result (λ seats. weigh seat_weight seats.items ≡ (0, 0)) }
+        ensures made { seat_weight first.new ≡ seat_weight first.old }
+        ensures err { OnErr result (AreAll self.now first.new []) }
+    {
+        let mut seats = Vec::with_capacity(alloc, workers as usize)?;
+        for _ in 0..workers {
+            match self.split_one(alloc, first) {
+                Ok(seat) => seats.push_reserved(seat),
+                Err(memory) => {
+                    self.join(first, seats);
+                    return Err(memory);
+                }
+            }
+        }
+        Ok(seats)
+    }
+
+    /// Joins the workers' seats into the first one, which has all parts then, and all counts.
+    pub fn join(&self, first: &mut TileSeat<E>, mut seats: Vec<TileSeat<E>>)
+        requires { AreAll self.now first.old seats.items }
+        ensures first { AreAll self.now first.new [] }
+        ensures made { seat_weight first.new ≡ plus (seat_weight first.old) (weigh seat_weight seats.items) }
+    {
+        while let Some(seat) = seats.pop() {
+            self.join_one(first, seat);
+        }
+    }
+
+    /// Ends the directory and the gates, with the counts of the directory: of all that was asked, landed and dropped
+    /// through the first seat and those that were joined into it. At `Memory` they are let go.
+    pub fn close(self, alloc: Global, first: TileSeat<E>) -> Result<Totals, Memory>
+        requires { AreAll self first [] }
+        ensures { IfOk result (λ totals. totals ≡ totals_of self.directory.capacity (made_of first)) }
+    {
+        match self.directory.close(alloc, first.directory) {
+            Ok((_, totals)) => Ok(totals),
+            Err((_, _, memory)) => Err(memory),
+        }
+    }
+
+    // A seat with one part of the first one.
+    fn split_one(&self, alloc: Global, first: &mut TileSeat<E>) -> Result<TileSeat<E>, Memory>
+        requires idle { IsIdle self.now first.old.directory.parts first.old }
+        requires two { 1 < first.old.directory.parts }
+        ensures seat { IfOk result (IsFree self.now) }
+        ensures nothing { IfOk result (λ seat. made_of seat ≡ nothing_made) }
+        ensures left { OnOk result (IsIdle self.now (first.old.directory.parts - 1) first.new) }
+        ensures made { made_of first.new ≡ made_of first.old }
+        ensures err { OnErr result (IsIdle self.now first.old.directory.parts first.new) }
+    {
+        let directory = self.directory.split(alloc, &mut first.directory)?;
+        let gates = match self.gates.split(alloc, &mut first.gates) {
+            Ok(gates) => gates,
+            Err(memory) => {
+                self.directory.join(&mut first.directory, directory);
+                return Err(memory);
+            }
+        };
+        directory.finds_none();
+        Ok(TileSeat { directory, gates })
+    }
+
+    // Joins a worker's seat into the first one.
+    fn join_one(&self, first: &mut TileSeat<E>, seat: TileSeat<E>)
+        requires idle { IsIdle self.now first.old.directory.parts first.old }
+        requires free { IsFree self.now seat }
+        ensures idle { IsIdle self.now (first.old.directory.parts + 1) first.new }
+        ensures made { made_of first.new ≡ both_made (made_of first.old) (made_of seat) }
+    {
+        let TileSeat { directory, gates } = seat;
+        self.directory.join(&mut first.directory, directory);
+        self.gates.join(&mut first.gates, gates);
+        first.directory.finds_none();
+    }
 }

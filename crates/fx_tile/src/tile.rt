@@ -1,12 +1,13 @@
 //! A render that is asked of the directory: it is kept there, or it is rendered here and landed.
 ghost use Rattle.std.specs.Prelude.{◌≡◌, ◌≤◌, All, IfOk, IfSome, IsTrue, OnOk, sum_by};
 ghost use Rattle.std.specs.Arc.{arc_value};
+ghost use Rattle.fx_base.specs.declared.limits.TheConstants.{MOST_TILE_SIDE};
 ghost use Rattle.fx_core.specs.Flight.{Stands};
 ghost use Rattle.fx_directory.specs.Seats.{LeavesAlone};
 ghost use Rattle.fx_scene.specs.Sites.{scene_nodes};
 ghost use Rattle.fx_scene.specs.Scenes.{node_values};
 ghost use Rattle.fx_tile.specs.Tiles.{IsRightTile, IsTile};
-ghost use Rattle.fx_tile.specs.Setups.{AreNeeds, AreTilesOf, IsFound, IsKeyOf, IsReady, IsRenderable, IsSeat, IsSetup, IsTileOf, KeepsSeat, MayBeTileOf, MayBeTilesOf, renders_needed, renders_of};
+ghost use Rattle.fx_tile.specs.Setups.{AreNeeds, AreTilesOf, IsFound, IsKeyOf, IsReady, IsRenderable, IsSeat, IsSetup, IsTileOf, KeepsSeat, MayBeTileOf, MayBeTilesOf, made_of, renders_needed, renders_of};
 ghost use Rattle.fx_tile.specs.Counts.{AskedOnce, Fetched, Follows, Lands, Met, Within, one_if_some};
 
 use crate::count::RenderCount;
@@ -41,15 +42,15 @@ pub(crate) fn fetch<R: Wait + Clock, E: Catalogue + Drop>(
 ) -> Result<Arc<Image>, Memory>
     requires setup { IsSetup E.meaning E.number_of setup.now }
     requires seat { IsSeat setup.now seat.old }
-    requires within { Within sum.old seat.old.directory.made }
+    requires within { Within sum.old (made_of seat.old) }
     requires renderable { IsRenderable E.meaning setup.now node frame region }
     ensures tile { let nodes = scene_nodes E.meaning setup.now.scene.now in
         IfOk result (λ image. IsTile nodes node frame region (arc_value image)) }
     ensures seat { KeepsSeat seat.old seat.new }
     ensures fetched { let r = renders_needed E.meaning setup.now node frame region in
-        OnOk result (Fetched r seat.old.directory.made seat.new.directory.made) }
+        OnOk result (Fetched r (made_of seat.old) (made_of seat.new)) }
     ensures follows { OnOk result
-        (Follows sum.old sum.new seat.old.directory.made seat.new.directory.made) }
+        (Follows sum.old sum.new (made_of seat.old) (made_of seat.new)) }
 {
     let key = setup.scene.key(alloc, node, frame, region)?;
     let mut pause = Pause::new();
@@ -81,16 +82,16 @@ fn fetch_unless_busy<R: Wait + Clock, E: Catalogue + Drop>(
 ) -> Result<Option<Arc<Image>>, Memory>
     requires setup { IsSetup E.meaning E.number_of setup.now }
     requires seat { IsSeat setup.now seat.old }
-    requires within { Within sum.old seat.old.directory.made }
+    requires within { Within sum.old (made_of seat.old) }
     requires renderable { IsRenderable E.meaning setup.now node frame region }
     requires key { IsKeyOf setup.now.scene.now node frame region (arc_value key) }
     ensures tile { let nodes = scene_nodes E.meaning setup.now.scene.now in
         IfOk result (λ found. IfSome found (λ image. IsTile nodes node frame region (arc_value image))) }
     ensures seat { KeepsSeat seat.old seat.new }
     ensures asked { let r = renders_needed E.meaning setup.now node frame region in
-        IfOk result (λ found. AskedOnce found r seat.old.directory.made seat.new.directory.made) }
+        IfOk result (λ found. AskedOnce found r (made_of seat.old) (made_of seat.new)) }
     ensures follows { OnOk result
-        (Follows sum.old sum.new seat.old.directory.made seat.new.directory.made) }
+        (Follows sum.old sum.new (made_of seat.old) (made_of seat.new)) }
 {
     match setup
         .shared
@@ -127,7 +128,7 @@ fn made<R: Wait + Clock, E: Catalogue + Drop>(
 ) -> Result<Arc<Image>, Memory>
     requires setup { IsSetup E.meaning E.number_of setup.now }
     requires seat { IsSeat setup.now seat.old }
-    requires within { Within sum.old seat.old.directory.made }
+    requires within { Within sum.old (made_of seat.old) }
     requires renderable { IsRenderable E.meaning setup.now node frame region }
     requires key { IsKeyOf setup.now.scene.now node frame region (arc_value flight.key) }
     requires own { Stands seat.old.directory.aloft flight }
@@ -138,9 +139,9 @@ fn made<R: Wait + Clock, E: Catalogue + Drop>(
     ensures gates { seat.new.gates ≡ seat.old.gates }
     ensures aloft { LeavesAlone seat.old.directory.aloft seat.new.directory.aloft flight }
     ensures fetched { let r = renders_needed E.meaning setup.now node frame region in
-        OnOk result (Fetched r seat.old.directory.made seat.new.directory.made) }
+        OnOk result (Fetched r (made_of seat.old) (made_of seat.new)) }
     ensures follows { OnOk result
-        (Follows sum.old sum.new seat.old.directory.made seat.new.directory.made) }
+        (Follows sum.old sum.new (made_of seat.old) (made_of seat.new)) }
 {
     let mut flight = flight;
     match image_of(
@@ -177,7 +178,7 @@ fn landed<R: Wait + Clock, E: Catalogue + Drop>(
     image: Arc<Image>,
 ) -> Result<Arc<Image>, Memory>
     requires seat { IsSeat setup.now seat.old }
-    requires within { Within sum.old seat.old.directory.made }
+    requires within { Within sum.old (made_of seat.old) }
     requires own { Stands seat.old.directory.aloft flight }
     requires stamped { IsTrue flight.ticket.stamped }
     requires right { let scene = setup.now.shared.now.directory.name.scene.value in
@@ -187,9 +188,9 @@ fn landed<R: Wait + Clock, E: Catalogue + Drop>(
     ensures parts { seat.new.directory.parts ≡ seat.old.directory.parts }
     ensures gates { seat.new.gates ≡ seat.old.gates }
     ensures aloft { LeavesAlone seat.old.directory.aloft seat.new.directory.aloft flight }
-    ensures landed { OnOk result (Lands seat.old.directory.made seat.new.directory.made) }
+    ensures landed { OnOk result (Lands (made_of seat.old) (made_of seat.new)) }
     ensures follows { OnOk result
-        (Follows sum.old sum.new seat.old.directory.made seat.new.directory.made) }
+        (Follows sum.old sum.new (made_of seat.old) (made_of seat.new)) }
 {
     let directory = &setup.shared.directory;
     let Ok(kept) = Arc::try_clone(&image) else {
@@ -224,15 +225,15 @@ fn image_of<R: Wait + Clock, E: Catalogue + Drop>(
 ) -> Result<Arc<Image>, Memory>
     requires setup { IsSetup E.meaning E.number_of setup.now }
     requires seat { IsSeat setup.now seat.old }
-    requires within { Within sum.old seat.old.directory.made }
+    requires within { Within sum.old (made_of seat.old) }
     requires renderable { IsRenderable E.meaning setup.now node frame region }
     ensures tile { let nodes = scene_nodes E.meaning setup.now.scene.now in
         IfOk result (λ image. IsTile nodes node frame region (arc_value image)) }
     ensures seat { KeepsSeat seat.old seat.new }
     ensures met { let r = renders_needed E.meaning setup.now node frame region in
-        OnOk result (Met r seat.old.directory.made seat.new.directory.made) }
+        OnOk result (Met r (made_of seat.old) (made_of seat.new)) }
     ensures follows { OnOk result
-        (Follows sum.old sum.new seat.old.directory.made seat.new.directory.made) }
+        (Follows sum.old sum.new (made_of seat.old) (made_of seat.new)) }
     ensures number { ticket.new.number ≡ ticket.old.number }
     ensures stamped { OnOk result (IsTrue ticket.new.stamped) }
 {
@@ -285,7 +286,7 @@ fn needs_of<E: Catalogue>(
 fn with_side(grid: Grid) -> Grid
     ensures same { result ≡ grid }
     ensures some { 1 ≤ grid }
-    ensures few { grid ≤ 1024 }
+    ensures few { grid ≤ MOST_TILE_SIDE }
 {
     grid
 }
@@ -305,15 +306,15 @@ fn gathered<R: Wait + Clock, E: Catalogue + Drop>(
 ) -> Result<Vec<Option<Arc<Image>>>, Memory>
     requires setup { IsSetup E.meaning E.number_of setup.now }
     requires seat { IsSeat setup.now seat.old }
-    requires within { Within sum.old seat.old.directory.made }
+    requires within { Within sum.old (made_of seat.old) }
     requires ready { All (λ need. IsReady E.meaning setup.now node need.end) needs.now }
     ensures tiles { let nodes = scene_nodes E.meaning setup.now.scene.now in
         IfOk result (λ tiles. AreTilesOf nodes needs.now tiles.items) }
     ensures seat { KeepsSeat seat.old seat.new }
     ensures met { OnOk result
-        (Met (renders_of needs.now) seat.old.directory.made seat.new.directory.made) }
+        (Met (renders_of needs.now) (made_of seat.old) (made_of seat.new)) }
     ensures follows { OnOk result
-        (Follows sum.old sum.new seat.old.directory.made seat.new.directory.made) }
+        (Follows sum.old sum.new (made_of seat.old) (made_of seat.new)) }
 {
     let mut early = gathered_unless_busy(rt, alloc, asking, setup, seat, sum, node, needs)?;
     let mut tiles = Vec::new(alloc);
@@ -341,15 +342,15 @@ fn gathered_unless_busy<R: Wait + Clock, E: Catalogue + Drop>(
 ) -> Result<Vec<Option<Arc<Image>>>, Memory>
     requires setup { IsSetup E.meaning E.number_of setup.now }
     requires seat { IsSeat setup.now seat.old }
-    requires within { Within sum.old seat.old.directory.made }
+    requires within { Within sum.old (made_of seat.old) }
     requires ready { All (λ need. IsReady E.meaning setup.now node need.end) needs.now }
     ensures tiles { let nodes = scene_nodes E.meaning setup.now.scene.now in
         IfOk result (λ tiles. MayBeTilesOf nodes needs.now tiles.items) }
     ensures seat { KeepsSeat seat.old seat.new }
     ensures met { IfOk result (λ tiles.
-        Met (sum_by one_if_some tiles.items) seat.old.directory.made seat.new.directory.made) }
+        Met (sum_by one_if_some tiles.items) (made_of seat.old) (made_of seat.new)) }
     ensures follows { OnOk result
-        (Follows sum.old sum.new seat.old.directory.made seat.new.directory.made) }
+        (Follows sum.old sum.new (made_of seat.old) (made_of seat.new)) }
 {
     let mut tiles = Vec::new(alloc);
     for need in needs {
@@ -373,15 +374,15 @@ fn tile_unless_busy<R: Wait + Clock, E: Catalogue + Drop>(
 ) -> Result<Option<Arc<Image>>, Memory>
     requires setup { IsSetup E.meaning E.number_of setup.now }
     requires seat { IsSeat setup.now seat.old }
-    requires within { Within sum.old seat.old.directory.made }
+    requires within { Within sum.old (made_of seat.old) }
     requires ready { IsReady E.meaning setup.now node end.now }
     ensures tile { let nodes = scene_nodes E.meaning setup.now.scene.now in
         IfOk result (MayBeTileOf nodes end.now) }
     ensures seat { KeepsSeat seat.old seat.new }
     ensures met { IfOk result (λ tile.
-        Met (one_if_some tile) seat.old.directory.made seat.new.directory.made) }
+        Met (one_if_some tile) (made_of seat.old) (made_of seat.new)) }
     ensures follows { OnOk result
-        (Follows sum.old sum.new seat.old.directory.made seat.new.directory.made) }
+        (Follows sum.old sum.new (made_of seat.old) (made_of seat.new)) }
 {
     match end {
         End::Void | End::Frame { .. } => Ok(None),
@@ -414,14 +415,14 @@ pub(crate) fn tile_for<R: Wait + Clock, E: Catalogue + Drop>(
 ) -> Result<Option<Arc<Image>>, Memory>
     requires setup { IsSetup E.meaning E.number_of setup.now }
     requires seat { IsSeat setup.now seat.old }
-    requires within { Within sum.old seat.old.directory.made }
+    requires within { Within sum.old (made_of seat.old) }
     requires ready { IsReady E.meaning setup.now node end.now }
     ensures tile { let nodes = scene_nodes E.meaning setup.now.scene.now in
         IfOk result (IsTileOf nodes end.now) }
     ensures seat { KeepsSeat seat.old seat.new }
-    ensures found { OnOk result (IsFound E.meaning setup.now end.now seat.old.directory.made seat.new.directory.made) }
+    ensures found { OnOk result (IsFound E.meaning setup.now end.now (made_of seat.old) (made_of seat.new)) }
     ensures follows { OnOk result
-        (Follows sum.old sum.new seat.old.directory.made seat.new.directory.made) }
+        (Follows sum.old sum.new (made_of seat.old) (made_of seat.new)) }
 {
     match end {
         End::Void | End::Frame { .. } => Ok(None),

@@ -1,5 +1,5 @@
 //! A tile of the picture of a frame.
-ghost use Rattle.std.specs.Prelude.{◌≡◌, ◌+◌, ◌<◌, ◌≤◌, ◌∷◌, [], None, ℤ, IfOk, OnOk, length};
+ghost use Rattle.std.specs.Prelude.{◌≡◌, ◌+◌, ◌≤◌, ◌∷◌, [], None, ℤ, IfOk, OnOk, length};
 ghost use Rattle.fx_base.specs.Bounds.{IsRect};
 ghost use Rattle.fx_base.specs.Rect.{IsWithin};
 ghost use Rattle.fx_image.specs.Part.{IsPart, IsWritten, SamePart, narrowed};
@@ -12,21 +12,21 @@ ghost use Rattle.fx_region.specs.Tables.{AreRegions};
 ghost use Rattle.fx_scene.specs.Scenes.{images_in, picture};
 ghost use Rattle.fx_tile.specs.Counts.{CountsEnd, CountsRises};
 ghost use Rattle.fx_life.specs.Posts.{HasLife};
-ghost use Rattle.fx_tile.specs.Setups.{IsReady, IsSeat, IsSetup, IsTileOf, KeepsSeat, end_renders};
+ghost use Rattle.fx_tile.specs.Moments.{IsFoundTile};
+ghost use Rattle.fx_tile.specs.Setups.{IsReady, IsTileOf, KeepsSeat, end_renders, made_of};
 ghost use Rattle.fx_tile.specs.Tiles.{IsRegion};
 
-use crate::count::{RenderCount, TileCount};
+use crate::count::TileCount;
+use crate::found::{FoundTile, found_tile};
 use crate::inputs::add_piece;
 use crate::setup::Setup;
 use crate::share::{Shared, TileSeat};
-use crate::tile::tile_for;
-use fx_actions::Asking;
 use fx_base::{Memory, Rect};
 use fx_effect::{Catalogue, Inputs};
 use fx_image::{Image, Part};
 use fx_life::Life;
 use fx_pixel::{Components, Depth};
-use fx_region::{End, Need, Regions, follow_by};
+use fx_region::{End, Need, Regions};
 use fx_scene::Scene;
 use std::alloc::Global;
 use std::rt::Clock;
@@ -72,110 +72,46 @@ pub fn window_tile<R: Wait + Clock, E: Catalogue + Drop>(
         IfOk result (CountsEnd (end_of (scene_nodes E.meaning scene.now) g.output frame tile)) }
     ensures rises { let g = scene.now.graph in let nodes = scene_nodes E.meaning scene.now in
         let r = end_renders nodes shared.now.grid (end_of nodes g.output frame tile) in
-        IfOk result (CountsRises r seat.old.directory.made seat.new.directory.made) }
+        IfOk result (CountsRises r (made_of seat.old) (made_of seat.new)) }
     ensures seat { KeepsSeat seat.old seat.new }
 {
-    let setup = Setup {
-        scene,
-        graph: scene.graph(),
-        store: scene.store(),
-        regions,
-        life,
-        shared,
-    };
-    let mut asking = Asking::new(alloc)?;
-    let output = setup.graph.output;
-    let end = follow_by(alloc, &mut asking, scene, regions, output, frame, tile)?;
-    tile_shown(rt, alloc, &mut asking, &setup, seat, frame, end, tile, out)
+    let setup = Setup::of(scene, regions, life, shared);
+    let found = found_tile(rt, alloc, &setup, seat, frame, tile)?;
+    show(alloc, &setup, &found, tile, out)?;
+    Ok(found.count)
 }
 
-// Writes a tile that is found at this end.
-fn tile_shown<R: Wait + Clock, E: Catalogue + Drop>(
-    rt: &R,
-    alloc: Global,
-    asking: &mut Asking,
-    setup: &Setup<'_, E>,
-    seat: &mut TileSeat<E>,
-    frame: i64,
-    end: End,
-    tile: Rect,
-    out: &mut Part<'_>,
-) -> Result<TileCount, Memory>
-    requires setup { IsSetup E.meaning E.number_of setup.now }
-    requires seat { IsSeat setup.now seat.old }
-    requires few { setup.now.graph.now.output < 1024 }
-    requires ready { IsReady E.meaning setup.now (setup.now.graph.now.output + 1) end }
-    requires part { IsPart out.old }
-    requires bounds { IsRect tile }
-    requires within { IsWithin tile out.old.rect }
-    ensures part { SamePart out.old out.new }
-    ensures pixels { let nodes = scene_nodes E.meaning setup.now.scene.now in let old = out.old.image.now in
-        let shown = end_pixel nodes (end_shown end) old.depth old.components in
-        OnOk result (IsWritten (narrowed out.old tile) (narrowed out.new tile) shown) }
-    ensures count { IfOk result (CountsEnd (end_shown end)) }
-    ensures rises { let nodes = scene_nodes E.meaning setup.now.scene.now in
-        let r = end_renders nodes setup.now.shared.now.grid (end_shown end) in
-        IfOk result (CountsRises r seat.old.directory.made seat.new.directory.made) }
-    ensures seat { KeepsSeat seat.old seat.new }
-{
-    let mut sum = RenderCount { landed: 0, hits: 0 };
-    let next = setup.graph.output + 1;
-    let made = tile_for(rt, alloc, asking, setup, seat, &mut sum, next, &end)?;
-    let count = count_of(&end, sum);
-    show(alloc, setup, frame, end, &made, tile, out)?;
-    Ok(count)
-}
-
-// What became of a tile that is found so, with what was counted for it.
-fn count_of(end: &End, sum: RenderCount) -> TileCount
-    ensures end { CountsEnd (end_shown end.now) result }
-    ensures landed { result.landed ≡ sum.landed }
-    ensures hits { result.hits ≡ sum.hits }
-{
-    let none = TileCount {
-        void_tiles: 0,
-        passed: 0,
-        asked: 0,
-        landed: sum.landed,
-        hits: sum.hits,
-    };
-    match end {
-        End::Void => TileCount {
-            void_tiles: 1,
-            ..none
-        },
-        End::Frame { .. } => TileCount { passed: 1, ..none },
-        End::Render { .. } => TileCount { asked: 1, ..none },
-    }
-}
-
-// Writes what is found at an end into a tile of a part.
-fn show<E: Catalogue>(
+/// Writes what a tile that was found shows of the picture of its frame into a place of a part, and no other pixel. The
+/// place lies in the tile, the part and the project's extent, and the part has the picture's depth and components.
+pub(crate) fn show<E: Catalogue>(
     alloc: Global,
     setup: &Setup<'_, E>,
-    frame: i64,
-    end: End,
-    image: &Option<Arc<Image>>,
-    tile: Rect,
+    found: &FoundTile,
+    place: Rect,
     out: &mut Part<'_>,
 ) -> Result<(), Memory>
-    requires ready { IsReady E.meaning setup.now (setup.now.graph.now.output + 1) end }
-    requires image { IsTileOf (scene_nodes E.meaning setup.now.scene.now) end image.now }
+    requires found { IsFoundTile E.meaning setup.now found.now.need.frame found.now }
+    requires in_tile { IsWithin place found.now.tile }
+    requires project { IsWithin place setup.now.scene.now.graph.project }
+    requires bounds { IsRect place }
     requires part { IsPart out.old }
-    requires bounds { IsRect tile }
-    requires within { IsWithin tile out.old.rect }
+    requires within { IsWithin place out.old.rect }
+    requires depth { out.old.image.now.depth ≡ setup.now.scene.now.graph.depth }
+    requires components { out.old.image.now.components ≡ components_for setup.now.scene.now.graph.format }
     ensures part { SamePart out.old out.new }
-    ensures pixels { let nodes = scene_nodes E.meaning setup.now.scene.now in let old = out.old.image.now in
-        let shown = end_pixel nodes (end_shown end) old.depth old.components in
-        OnOk result (IsWritten (narrowed out.old tile) (narrowed out.new tile) shown) }
+    ensures pixels { let s = setup.now.scene.now in
+        let shown = picture E.meaning s.graph (images_in s.store) found.now.need.frame in
+        OnOk result (IsWritten (narrowed out.old place) (narrowed out.new place) (pixel_at shown)) }
 {
-    let need = Need {
-        clip: 0,
-        frame,
-        end,
-    };
-    let inputs = one_clip(alloc, setup, out.depth(), out.components(), &need, image)?;
-    copy_rows(&inputs, frame, tile, out);
+    let inputs = one_clip(
+        alloc,
+        setup,
+        out.depth(),
+        out.components(),
+        &found.need,
+        &found.image,
+    )?;
+    copy_rows(&inputs, found.need.frame, place, out);
     Ok(())
 }
 

@@ -1,55 +1,51 @@
-use Rattle.std.proofs.Common.{◌≡◌, ℕ, ◌∙◌, sym, ap, subst, length, List, All, w64}
-use Rattle.std.proofs.lemmas.Int.{to_z-of_z}
-use mir.Val.{SFits}
+use Rattle.std.proofs.Common.{◌≡◌, ◌∙◌, ℕ, ℤ, List, All, length, sym, subst, w64, to_z, of_z}
 use Rattle.fx_base.specs.Bounds.{Bounds}
-use Rattle.fx_pool.specs.Weights.{plus, weigh}
-use Rattle.fx_pool.specs.Working.{numbers_below, numbers_of}
-use Rattle.fx_region.specs.Counts.{window_ends}
+use Rattle.fx_region.specs.declared.regions.Regions.{Regions}
+use Rattle.fx_region.specs.Tables.{Has}
+use Rattle.fx_scene.specs.Scenes.{Shot}
 use Rattle.fx_scene.specs.Sites.{scene_nodes}
-use Rattle.fx_tile.specs.declared.count.TileCount.{TileCount}
-use Rattle.fx_tile.specs.declared.job.Drawn.{Drawn}
-use Rattle.fx_tile.specs.Moments.{CountsTiles, Cover, FitsInto, IsWindowTile, ShowsTiles, count_of_all, count_weight, seat_weight}
-use Rattle.fx_tile.proofs.MomentLemmas.{is_count, is_picture, tiles_fit}
+use Rattle.fx_tile.specs.declared.found.FoundTile.{FoundTile}
+use Rattle.fx_tile.specs.declared.share.Shared.{Shared}
+use Rattle.fx_tile.specs.Moments.{IsFoundTile, IsFree, IsWindowTile}
+use Rattle.fx_tile.proofs.SeatLemmas.{nothing_kept}
+use Rattle.fx_tile.proofs.SetupLemmas.{has_output}
 use Rattle.fx_tile.proofs.moment.render_moment.Goals as goal
 
-pub paint_tiles-requires : goal.paint_tiles-requires
-paint_tiles-requires g c =
-    let fits : SFits w64 c.args.frame = c.ranges.frame in
-    let is = c.in-Ok.ensures in
-    let ground = c.in-Ok.ground in
-    let outs = c.in_ok-seats.field-0.outs.items in
-    let numbers : numbers_of outs ≡ numbers_below (length c.as_slice.result.now) = c.in_ok-seats.ensures.numbers ∙ ap numbers_below (c.len.ensures ∙ sym c.as_slice.ensures.len) in
-    let each = subst (All (IsWindowTile c.args.scene.now.graph.project)) (sym c.as_slice.ensures.value) is.each in
-    subst (All (λ out. FitsInto ground.picture out.1.image)) (sym c.deref.ensures.value)
-    (tiles_fit g.E.ImageEffect.meaning _ outs numbers c.in_ok-seats.ensures.right ground.picture is.rect is.depth is.components each)
-
-pub returns-in-Some-clause-picture : goal.returns-in-Some-clause-picture
-returns-in-Some-clause-picture g c =
-    let fits : SFits w64 c.args.frame = c.ranges.frame in
-    let is = c.in-Ok.ensures in
-    let ground = c.in-Ok.ground in
-    let image = c.paint_tiles.new.picture in
-    let frame = c.paint_tiles.ensures.frame in
-    let outs = c.in_ok-seats.field-0.outs.items in
-    let numbers : numbers_of outs ≡ numbers_below (length c.as_slice.result.now) = c.in_ok-seats.ensures.numbers ∙ ap numbers_below (c.len.ensures ∙ sym c.as_slice.ensures.len) in
-    let cover = subst (λ (tiles : List Bounds). Cover tiles c.args.scene.now.graph.project) (sym c.as_slice.ensures.value) is.cover in
-    let shows = subst (λ (os : List (ℕ × Drawn)). ShowsTiles os image) c.deref.ensures.value c.paint_tiles.ensures.tiles in
-    simp to_z-of_z at (is_picture g.E.ImageEffect.meaning _ outs numbers c.in_ok-seats.ensures.right image (frame.rect ∙ is.rect) (frame.depth ∙ is.depth) (frame.components ∙ is.components) cover shows)
-
-pub returns-in-Some-clause-count : goal.returns-in-Some-clause-count
-returns-in-Some-clause-count g c =
-    let fits : SFits w64 c.args.frame = c.ranges.frame in
-    let is = c.in-Ok.ensures in
+pub find_all-requires-clause-reached : goal.find_all-requires-clause-reached
+find_all-requires-clause-reached g c κs within =
+    let t = to_z w64 (of_z w64 c.args.frame) in
     let scene = c.args.scene.now in
-    let side = c.args.shared.now.grid in
-    let m = g.E.ImageEffect.meaning in
-    let outs = c.in_ok-seats.field-0.outs.items in
-    let numbers : numbers_of outs ≡ numbers_below (length c.as_slice.result.now) = c.in_ok-seats.ensures.numbers ∙ ap numbers_below (c.len.ensures ∙ sym c.as_slice.ensures.len) in
-    let sum : c.in-Some.count ≡ count_of_all outs = c.in-Some.ensures.sum ∙ ap count_of_all c.deref-2.ensures.value in
-    subst (CountsTiles (window_ends (scene_nodes m scene) scene.graph.output side scene.graph.project c.args.frame)) (sym sum)
-    (simp to_z-of_z at (is_count m _ outs numbers c.in_ok-seats.ensures.right side (c.as_slice.ensures.value ∙ is.tiles)))
+    let setup = c.of-setup.result in
+    let regions = c.in-Ok.ground.regions in
+    let has = has_output (scene_nodes g.E.ImageEffect.meaning scene) (length scene.graph.nodes) scene.graph.output regions t c.in-Ok.ensures.regions in
+    subst (λ (r : Regions). Has r setup.scene.now.graph.output t) (sym c.of-setup.ensures.regions)
+    (subst (λ (s : Shot _). Has regions s.graph.output t) (sym c.of-setup.ensures.scene) has)
 
-pub returns-in-Some-clause-rises : goal.returns-in-Some-clause-rises
-returns-in-Some-clause-rises g c =
-    let sum : c.in-Some.count ≡ count_of_all c.in_ok-seats.field-0.outs.items = c.in-Some.ensures.sum ∙ ap count_of_all c.deref-2.ensures.value in
-    c.in_ok-seats.ensures.weighs ∙ ap (λ (n : TileCount). plus (weigh seat_weight c.args.seats.items) (count_weight n)) (sym sum)
+pub find_all-requires-clause-tiles : goal.find_all-requires-clause-tiles
+find_all-requires-clause-tiles g c κs within =
+    let tiles = c.deref.result.now in
+    subst (λ (s : Shot _). All (IsWindowTile s.graph.project) tiles) (sym c.of-setup.ensures.scene)
+    (subst (λ (ts : List Bounds). All (IsWindowTile c.args.scene.now.graph.project) ts) (sym c.deref.ensures.value) c.in-Ok.ensures.each)
+
+pub find_all-requires-clause-seats : goal.find_all-requires-clause-seats
+find_all-requires-clause-seats g c κs within =
+    subst (λ (s : Shared _). All (IsFree s) c.args.seats.items) (sym c.of-setup.ensures.shared) c.requires.seats
+
+pub write_all-requires-clause-found : goal.write_all-requires-clause-found
+write_all-requires-clause-found g c κs within =
+    let t = to_z w64 (of_z w64 c.args.frame) in
+    subst (λ (fs : List (ℕ × FoundTile)). All (λ f. IsFoundTile g.E.ImageEffect.meaning c.of-setup.result t f.1) fs) (sym c.as_slice.ensures.value)
+    c.in_ok-all.ensures.found
+
+pub returns-clause-none_kept : goal.returns-clause-none_kept
+returns-clause-none_kept g c =
+    let seats = c.in_ok-all.all.seats.items in
+    let after = subst (λ (s : Shared _). All (IsFree s) seats) c.of-setup.ensures.shared c.in_ok-all.ensures.seats.1 in
+    nothing_kept c.args.shared.now c.args.seats.items seats c.in_ok-all.all.count c.requires.seats after c.in_ok-all.ensures.rises
+
+pub returns-clause-seats : goal.returns-clause-seats
+returns-clause-seats g c =
+    let seats = c.in_ok-picture.seats.items in (
+      c.in_ok-picture.ensures.seats.0 ∙ c.in_ok-all.ensures.seats.0,
+      subst (λ (s : Shared _). All (IsFree s) seats) c.of-setup.ensures.shared c.in_ok-picture.ensures.seats.1,
+    )

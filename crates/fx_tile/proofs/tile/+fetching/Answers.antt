@@ -13,7 +13,7 @@ use Rattle.fx_scene.specs.Sites.{scene_nodes}
 use Rattle.fx_region.specs.declared.ends.Need.{Need}
 use Rattle.fx_tile.specs.Counts.{AskedOnce, one_if_some}
 use Rattle.fx_tile.specs.Setups.{EachTile, IsFound, IsTileOf, MayBeTileOf, renders_needed}
-use Rattle.fx_tile.proofs.FlightLemmas.{fetched_after, follows_more, joined, met_both, met_same, right_of}
+use Rattle.fx_tile.proofs.FlightLemmas.{fetched_after, follows_more, joined, met_both, met_same, right_of, within_later}
 use Rattle.fx_tile.proofs.GatherLemmas.{gathers_early, gathers_now}
 use Rattle.fx_tile.proofs.PieceLemmas.{tiles_long, tiles_more}
 use Rattle.fx_tile.proofs.tile.+fetching.Goals as goal
@@ -28,6 +28,13 @@ fetch-returns-in-Some-2-clause-fetched g t c =
     let asked = simp to_z-of_z at c.in_ok-image.ensures.asked in
     fetched_after r c.args.seat.now.directory.made now new c.loop.invariant.unasked
     (subst (λ (found : Option (Arc Stored Global)). AskedOnce found r now new) c.in-Some-2.is asked)
+
+pub fetch-fetch_unless_busy-requires : goal.fetch-fetch_unless_busy-requires
+fetch-fetch_unless_busy-requires g t c κs within =
+    let keeps = c.loop.invariant.seat in
+    let row = keeps.row ∙ c.requires.seat.row in
+    let counted = within_later c.args.sum.now c.loop.sum c.args.seat.now.directory.made c.loop.seat.directory.made c.requires.within c.loop.invariant.follows in
+    search rules
 
 pub made-landed-requires-clause-right : goal.made-landed-requires-clause-right
 made-landed-requires-clause-right g t c =
