@@ -55,6 +55,10 @@ files_put g a n k t before mid now was last_mid last (put.Write name) is few qui
     (risen_since before mid now (omega (arith, same)) fault.0, fault.1, k, few, ap (file_name g) (sym is) ∙ fault.2)
 files_put g a n k t before mid now was last_mid last put.Memory is few quiet fault = quiet_more quiet fault
 
+pub memory_leaves : (g : Graph) (images : Images) (a n k : ℕ) (old new : Files) → k ≤ n → HasGained g images a k old new
+    → LeavesFiles g images a n put.Memory old new
+memory_leaves g images a n k old new few gained = (k, few, gained)
+
 pub leaves_files : (g : Graph) (images : Images) (a n k t before now : ℕ) (was last : List ℕ) (e : PutFailure) (old mid new : Files)
     → t ≡ a + k → k < n → FilePut (file_name g t) before now was last e → HasGained g images a k old mid
     → LeavesFile (file_name g t) e mid new → LeavesFiles g images a n e old new

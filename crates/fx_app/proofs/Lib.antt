@@ -1,14 +1,12 @@
 pub mod WordLemmas
 pub mod GraphLemmas
-pub mod EffectLemmas
 pub mod WantedLemmas
 pub mod FilesLemmas
-pub mod SplitFiles
-pub mod SplitImages
-pub mod SplitLemmas
 pub mod StepsLemmas
+pub mod CountLemmas
 pub mod MadeLemmas
 pub mod LengthLemmas
 pub mod BenchLemmas
+pub mod MigrateLemmas
 pub mod ModeLemmas
-pub mod FrameLemmas
+pub mod EndedLemmas

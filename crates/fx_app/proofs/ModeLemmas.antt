@@ -4,7 +4,7 @@ use Rattle.std.proofs.lemmas.Option.{none-some}
 use Rattle.fx_outside.specs.Outside.{Files, HasRisen}
 use Rattle.fx_words.specs.Ordered.{Ordered}
 use Rattle.fx_words.specs.declared.order.Mode.{Mode}
-use Rattle.fx_words.specs.declared.order.Mode.TheVariants.{Render, Check, Bench}
+use Rattle.fx_words.specs.declared.order.Mode.TheVariants.{Render, Check, Bench, Migrate}
 use Rattle.fx_words.specs.declared.fault.RunFault.{RunFault}
 use Rattle.fx_words.specs.declared.fault.RunFault.TheVariants as run
 use Rattle.fx_words.specs.Texts.{check_text}
@@ -18,6 +18,8 @@ use Rattle.fx_app.specs.Check.{CheckCause, LeavesCheckReport, check_report}
 use Rattle.fx_app.specs.Steps.{report_fault, BeginsReport, WantsAsMany}
 use Rattle.fx_app.specs.Run.{Job, IsAccepted, NamesNoGraph, Cause, Rose, LeavesLibrary, LeavesDepot}
 use Rattle.fx_app.specs.Modes.{CauseIn, LeavesIn, LeavesReportIn}
+use Rattle.fx_app.specs.Migrate.{Migration}
+use Rattle.fx_app.proofs.MigrateLemmas.{refused_migrate, not_bad}
 use Rattle.fx_app.proofs.StepsLemmas.{no_call, untouched, job_of, refused_not, only_memory}
 
 -- what holds of an order and its mode holds of what is asked for
@@ -47,12 +49,14 @@ memory_cause None tells asked library = λ told. tt
 memory_cause (Some Render) tells asked library = λ told. tt
 memory_cause (Some Check) tells asked library = tt
 memory_cause (Some Bench) tells asked library = tt
+memory_cause (Some Migrate) tells asked library = tt
 
 memory_leaves : (m : Option Mode) (asked : Option Ordered) (library old : Files) → LeavesIn m asked library run.Memory old old
 memory_leaves None asked library old = inl (untouched old)
 memory_leaves (Some Render) asked library old = inl (untouched old)
 memory_leaves (Some Check) asked library old = untouched old
 memory_leaves (Some Bench) asked library old = untouched old
+memory_leaves (Some Migrate) asked library old = inl (untouched old)
 
 memory_report : (m : Option Mode) (tells : Type 0) (asked : Option Ordered) (library : Files) (old : List ℕ)
     → LeavesReportIn m tells asked library run.Memory old old
@@ -60,6 +64,7 @@ memory_report None tells asked library old = (refl, λ told. tt)
 memory_report (Some Render) tells asked library old = (refl, λ told. tt)
 memory_report (Some Check) tells asked library old = refl
 memory_report (Some Bench) tells asked library old = refl
+memory_report (Some Migrate) tells asked library old = refl
 
 pub words_rose : (library depot : ℕ × ℕ × List ℕ) (out : ℕ × ℕ) (asked : Option Ordered) (e : RunFault) → NoOrder asked e
     → Rose library depot out e
@@ -272,6 +277,8 @@ refused_in (Some Render) tells asked library fetches puts out e other told bad c
 refused_in (Some Check) tells asked library fetches puts out e other told bad cause rose fetched =
     refused_check tells asked library fetches puts out e told bad cause rose fetched
 refused_in (Some Bench) tells asked library fetches puts out e other told bad cause rose fetched = absurd (other refl)
+refused_in (Some Migrate) tells asked library fetches puts out e other told bad cause rose fetched =
+    refused_migrate tells asked library fetches puts out e told (inl bad) cause rose fetched
 
 pub refused_answers : (tells : Type 0) (asked : Option Ordered) (library : Files) (fetches puts : ℕ × ℕ × List ℕ) (out : ℕ × ℕ)
     (status : ℕ) (e : RunFault) → Answers status e → (mode_in asked ≡ Some Bench → ⊥) → tells → NamesNoGraph asked library
@@ -288,10 +295,12 @@ refused_answers tells asked library fetches puts out status e (inl is) other tol
 -- a run that is done had a graph
 pub not_refused : (tells : Type 0) (asked : Option Ordered) (library : Files) → (mode_in asked ≡ Some Bench → ⊥) → tells
     → NamesNoGraph asked library → (mode_in asked ≡ Some Render → tells → IsAccepted asked library)
-    → (mode_in asked ≡ Some Check → tells → Job asked library) → ⊥
-not_refused tells asked library other told bad render check = by bad.2.order.mode (ap mode_in bad.2.ordered)
+    → (mode_in asked ≡ Some Check → tells → Job asked library)
+    → (mode_in asked ≡ Some Migrate → tells → Migration asked library) → ⊥
+not_refused tells asked library other told bad render check migrate = by bad.2.order.mode (ap mode_in bad.2.ordered)
   where
     by : (m : Mode) → mode_in asked ≡ Some m → ⊥
     by Render is = refused_not asked library (render is told).job bad
     by Check is = refused_not asked library (check is told) bad
     by Bench is = other is
+    by Migrate is = not_bad asked library (migrate is told) (inl bad)

@@ -1,6 +1,6 @@
 -- From the failure of a step to the fault of the run.
-use Rattle.std.proofs.Common.{◌≡◌, ◌≢◌, ◌≤◌, ◌<◌, ◌⊎◌, inl, inr, ℕ, ◌+◌, ◌++◌, List, Some, Result, Ok, Err, Option, option_map, refl, sym, ap, ◌∙◌, subst, arith}
-use Rattle.fx_app.specs.declared.graph.TheConstants.{GRAPH_SIDE}
+use Rattle.std.proofs.Common.{◌≡◌, ◌≢◌, ◌≤◌, ◌<◌, ◌⊎◌, inl, inr, ℕ, ◌+◌, List, Some, Result, Ok, Err, Option, option_map, refl, sym, ap, ◌∙◌, subst, arith}
+use Rattle.fx_base.specs.declared.limits.TheConstants.{MOST_SIDE}
 use Rattle.fx_outside.specs.Outside.{Files, HasRisen, SameFiles}
 use Rattle.fx_image.specs.Stored.{image_of}
 use Rattle.fx_seq.specs.declared.wanted.Wanted.{Wanted}
@@ -27,10 +27,12 @@ use Rattle.fx_app.specs.declared.frames.PutFailure.TheVariants as put
 use Rattle.fx_app.specs.declared.report.ReportFailure.{ReportFailure}
 use Rattle.fx_app.specs.declared.report.ReportFailure.TheVariants as report
 use Rattle.fx_app.specs.Graphs.{Graph, graph_under, first_of, last_of, frame_count}
-use Rattle.fx_app.specs.Texts.{report_of, status_of}
+use Rattle.fx_words.specs.Texts.{report_text}
+use Rattle.fx_words.specs.declared.report.Report.{Report}
+use Rattle.fx_app.specs.Texts.{status_of}
 use Rattle.fx_app.proofs.WantedLemmas.{wanted_once}
 use Rattle.fx_app.specs.Files.{AreWantedBy, AreImages, frame_refused, file_name, HasGained, HasGainedBut}
-use Rattle.fx_app.specs.Run.{Job, IsAccepted, NamesNoGraph, HasPutAll, count_in, Cause, Rose, Leaves, LeavesReport, LeavesOwnReport, LeavesLibrary, LeavesDepot, LeavesOut}
+use Rattle.fx_app.specs.Run.{Job, IsAccepted, NamesNoGraph, HasPutAll, IsRenderReport, count_in, Cause, Rose, Leaves, LeavesReport, LeavesOwnReport, LeavesLibrary, LeavesDepot, LeavesOut}
 use Rattle.fx_app.specs.Steps.{graph_fault, source_fault, put_fault, report_fault, GraphFetch, GraphCause, HasSources, SourceFetch, SourceCause, IsSourceFailure, FilesPut, LeavesFiles, ReportRose, BeginsReport}
 
 pub no_call : (a : ℕ) (x : List ℕ) → IsQuiet a a x x
@@ -90,7 +92,7 @@ graph_usage graph.Memory is = cc
 -- ---- the source frames
 
 -- a store that holds the pictures and no other frame has the images
-pub images_held : (library : Files) (ws : List Wanted) (store : Store) → HoldsPictures library GRAPH_SIDE ws (held store)
+pub images_held : (library : Files) (ws : List Wanted) (store : Store) → HoldsPictures library MOST_SIDE ws (held store)
     → HoldsOnly ws (held store) → AreImages library ws (images_in store)
 images_held library ws store holds only =
     record {
@@ -106,7 +108,7 @@ images_held library ws store holds only =
 
 -- what the library told of a refusal or of a fetch is the cause
 pub fill_cause : (library : Files) (g : Graph) (a b : ℕ) (ws : List Wanted) (fault : SeqFault) (e : SourceFailure)
-    → AreWantedBy g a b ws → IsTold (frame_refused library ws) fault → IsFirstFetch library GRAPH_SIDE MOST_BYTES ws fault
+    → AreWantedBy g a b ws → IsTold (frame_refused library ws) fault → IsFirstFetch library MOST_SIDE MOST_BYTES 0 ws fault
     → IsSourceFailure g fault e → SourceCause library g a b e
 fill_cause library g a b ws (seq.Fetch node t name) e are told first is =
     subst (SourceCause library g a b) (sym is) (ws, are, record { node = node; frame = t; name = name }, first, refl)
@@ -309,22 +311,15 @@ report_leaves asked library old new report.Report all = all
 report_leaves asked library old new report.Memory all =
     inr (count_in all.known.job, record { known = all.known; images = all.images; are = all.are; few = omega arith; gained = all.gained })
 
-pub report_report : (n : ℕ) (old new : List ℕ) (e : ReportFailure) → BeginsReport (report_of n) e old new
+pub report_report : (r : Report) (old new : List ℕ) (e : ReportFailure) → BeginsReport (report_text r) e old new
     → LeavesReport (report_fault e) old new
-report_report n old new report.Report begins = (n, begins)
-report_report n old new report.Memory begins = begins
+report_report r old new report.Report begins = (r, begins)
+report_report r old new report.Memory begins = begins
 
-pub report_own : (asked : Option Ordered) (library : Files) (order : Ordered) (g : Graph) (a b : ℕ) (images : Images)
-    (old new : List ℕ) (e : ReportFailure)
-    → asked ≡ Some order → graph_under library order.graph ≡ Some (Ok g)
-    → (first : a ≡ first_of g order) → (last : b ≡ last_of g order)
-    → HasSources library g a b images → BeginsReport (report_of (frame_count a b)) e old new
-    → LeavesOwnReport asked library (report_fault e) old new
-report_own asked library order g a b images old new report.Report ordered there first last sources begins = (
-  job_of asked library order g a b sources.wanted ordered there first last sources.are,
-  both (λ m n. BeginsReport (report_of (frame_count m n)) report.Report old new) a b (first_of g order) (last_of g order) first last begins,
-)
-report_own asked library order g a b images old new report.Memory ordered there first last sources begins = tt
+pub report_own : (asked : Option Ordered) (library : Files) (text old new : List ℕ) (e : ReportFailure)
+    → IsRenderReport asked library text → BeginsReport text e old new → LeavesOwnReport asked library (report_fault e) old new
+report_own asked library text old new report.Report is begins = (text, is, begins)
+report_own asked library text old new report.Memory is begins = tt
 
 pub report_library : (a b : ℕ) (x y : List ℕ) (e : ReportFailure) → IsQuiet a b x y → LeavesLibrary (report_fault e) a b x y
 report_library a b x y report.Report quiet = quiet
@@ -337,14 +332,6 @@ report_depot a b x y report.Memory quiet = quiet
 pub report_usage : (e : ReportFailure) → report_fault e ≢ run.Usage
 report_usage report.Report is = cc
 report_usage report.Memory is = cc
-
--- what was reported is the number of the job's frames
-pub told_of : (order : Ordered) (g : Graph) (a b n : ℕ) (old new : List ℕ) → a ≡ first_of g order → b ≡ last_of g order
-    → n ≡ frame_count a b → new ≡ old ++ report_of n → new ≡ old ++ report_of (frame_count (first_of g order) (last_of g order))
-told_of order g a b n old new first last is wrote =
-    wrote ∙ ap (λ k. old ++ report_of k) is
-    ∙ ap (λ k. old ++ report_of (frame_count k b)) first
-    ∙ ap (λ k. old ++ report_of (frame_count (first_of g order) k)) last
 
 -- ---- the top
 

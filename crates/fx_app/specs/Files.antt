@@ -1,7 +1,7 @@
 -- The source frames that a run reads, and the files that it puts.
 use Rattle.std.specs.Prelude.{◌≡◌, ℕ, zero, suc, ℤ, pos, ◌+◌, List, All, Contains, Option, Some, None, if◌then◌else◌}
 use Rattle.std.specs.Str.{bytes_eq}
-use Rattle.fx_app.specs.declared.graph.TheConstants.{GRAPH_SIDE}
+use Rattle.fx_base.specs.declared.limits.TheConstants.{MOST_SIDE}
 use Rattle.fx_base.specs.Pattern.{name_of}
 use Rattle.fx_outside.specs.Outside.{Files, SameFiles, SameBut}
 use Rattle.fx_image.specs.Image.{Image}
@@ -23,15 +23,15 @@ pub record AreWantedBy (g : Graph) (a b : ℕ) (wanted : List Wanted) : Type 0 w
   pub frames : AreWanted (graph_nodes meaning_of g no_images) g.output (pos a) (pos b) wanted
   pub names : All (IsNamedIn g) wanted
 
--- the first of them that is refused: sides go up to 4,096, and the pixels of all frames together up to 2^31 bytes
+-- the first of them that is refused: sides go up to 8,192, and the pixels of all frames together up to 2^31 bytes
 abbrev pub frame_refused : Files → List Wanted → Option SeqFault
-frame_refused library wanted = first_refused library GRAPH_SIDE MOST_BYTES 0 wanted
+frame_refused library wanted = first_refused library MOST_SIDE MOST_BYTES 0 wanted
 
 -- the bytes under the name are a file of this image
 pub record IsFileOf (library : Files) (name : List ℕ) (image : Image) : Type 0 where
   pub bytes : List ℕ
   pub told : library name ≡ Some bytes
-  pub reads : IsPam bytes GRAPH_SIDE image
+  pub reads : IsPam bytes MOST_SIDE image
 
 -- each wanted frame has the image of its file, and no other frame has any
 pub record AreImages (library : Files) (wanted : List Wanted) (images : Images) : Type 0 where

@@ -2,11 +2,12 @@ pub mod Words
 pub mod Graphs
 pub mod Texts
 pub mod Files
-pub mod Split
+pub mod Tiles
 pub mod Run
 pub mod Check
 pub mod Bench
-pub mod Made
+pub mod Migrate
 pub mod Modes
+pub mod Ended
 pub mod Steps
 pub mod Crews

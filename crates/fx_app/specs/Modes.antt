@@ -3,27 +3,31 @@ use Rattle.std.specs.Prelude.{ℕ, List, Option, Some}
 use Rattle.fx_outside.specs.Outside.{Files, SameFiles}
 use Rattle.fx_words.specs.Ordered.{Ordered}
 use Rattle.fx_words.specs.declared.order.Mode.{Mode}
-use Rattle.fx_words.specs.declared.order.Mode.TheVariants.{Check, Bench}
+use Rattle.fx_words.specs.declared.order.Mode.TheVariants.{Check, Bench, Migrate}
 use Rattle.fx_words.specs.declared.fault.RunFault.{RunFault}
 use Rattle.fx_app.specs.Run.{Cause, Leaves, LeavesReport, LeavesOwnReport}
 use Rattle.fx_app.specs.Check.{CheckCause, LeavesCheckReport}
 use Rattle.fx_app.specs.Bench.{BenchCause, LeavesBenchReport}
+use Rattle.fx_app.specs.Migrate.{MigrateCause, LeavesMigrate, LeavesMigrateReport}
 
 -- the cause of a fault, where `tells` says that the library tells its files
 abbrev pub CauseIn : Option Mode → Type 0 → Option Ordered → Files → RunFault → Type 0
 CauseIn (Some Check) tells asked library fault = CheckCause tells asked library fault
 CauseIn (Some Bench) tells asked library fault = BenchCause asked fault
+CauseIn (Some Migrate) tells asked library fault = MigrateCause tells asked library fault
 CauseIn _ tells asked library fault = tells → Cause asked library fault
 
 -- what a fault leaves in the depot: a check and a bench put nothing there
 abbrev pub LeavesIn : Option Mode → Option Ordered → Files → RunFault → Files → Files → Type 0
 LeavesIn (Some Check) asked library fault old new = SameFiles old new
 LeavesIn (Some Bench) asked library fault old new = SameFiles old new
+LeavesIn (Some Migrate) asked library fault old new = LeavesMigrate asked library fault old new
 LeavesIn _ asked library fault old new = Leaves asked library fault old new
 
 -- what a fault leaves of the report
 abbrev pub LeavesReportIn : Option Mode → Type 0 → Option Ordered → Files → RunFault → List ℕ → List ℕ → Type 0
 LeavesReportIn (Some Check) tells asked library fault old new = LeavesCheckReport tells asked library fault old new
 LeavesReportIn (Some Bench) tells asked library fault old new = LeavesBenchReport asked fault old new
+LeavesReportIn (Some Migrate) tells asked library fault old new = LeavesMigrateReport tells asked library fault old new
 LeavesReportIn _ tells asked library fault old new =
     LeavesReport fault old new × (tells → LeavesOwnReport asked library fault old new)

@@ -2,7 +2,7 @@
 use Rattle.std.specs.Prelude.{◌≡◌, ℕ, ◌+◌, ◌≤◌, ◌<◌, ◌⊎◌, Bool, ◌==◌, List, [], ◌∷◌, ◌++◌, ℤ, Some, None, Ok, Err}
 use Rattle.std.specs.Prelude.{Option}
 use Rattle.std.specs.List.{list_any}
-use Rattle.fx_app.specs.declared.graph.TheConstants.{GRAPH_SIDE}
+use Rattle.fx_base.specs.declared.limits.TheConstants.{MOST_SIDE}
 use Rattle.fx_outside.specs.Outside.{Files, HasRisen, SameFiles, AddsPrefix}
 use Rattle.fx_pam.specs.declared.fault.PamFault.{PamFault}
 use Rattle.fx_pam.specs.declared.fault.PamFault.TheVariants as pam
@@ -12,15 +12,21 @@ use Rattle.fx_seq.specs.declared.fault.SeqFault.TheVariants as seq
 use Rattle.fx_seq.specs.Filling.{ComesTo, IsQuiet}
 use Rattle.fx_text.specs.declared.fault.GraphCode.{GraphCode}
 use Rattle.fx_graph.specs.Refusal.{refusal}
-use Rattle.fx_scene.specs.Scenes.{Images}
+use Rattle.fx_region.specs.Counts.{count_ends}
+use Rattle.fx_region.specs.Ends.{EndShown}
+use Rattle.fx_scene.specs.Scenes.{Images, graph_nodes}
+use Rattle.fx_shipped.specs.Shipped.{meaning_of}
+use Rattle.fx_tile.specs.Moments.{renders_for}
 use Rattle.fx_words.specs.Ordered.{Ordered}
+use Rattle.fx_words.specs.Texts.{render_text, report_text}
+use Rattle.fx_words.specs.declared.report.Report.{Report}
 use Rattle.fx_words.specs.declared.fault.FrameFault.{FrameFault}
 use Rattle.fx_words.specs.declared.fault.FrameFault.TheVariants as fault
 use Rattle.fx_words.specs.declared.fault.RunFault.{RunFault}
 use Rattle.fx_words.specs.declared.fault.RunFault.TheVariants as run
 use Rattle.fx_app.specs.Graphs.{Graph, graph_under, name_at, first_of, last_of, frame_count}
 use Rattle.fx_app.specs.Files.{AreWantedBy, AreImages, frame_refused, file_name, HasGained, HasGainedBut}
-use Rattle.fx_app.specs.Texts.{report_of}
+use Rattle.fx_app.specs.Tiles.{ends_in}
 use Rattle.fx_app.specs.declared.sources.TheConstants.{MOST_BYTES}
 
 -- ---- what is asked for
@@ -84,13 +90,42 @@ pub record HasPutAll (asked : Option Ordered) (library : Files) (old new : Files
 
 -- ---- what it reports
 
--- the report tells how many frames were rendered
-abbrev pub HasTold : Option Ordered → Files → List ℕ → List ℕ → Type 0
-HasTold asked library old new = (job : Job asked library) × (new ≡ old ++ report_of (count_in job))
+-- where the window tiles of the job's frames are found
+abbrev pub tile_ends : {asked : Option Ordered} {library : Files} → Job asked library → Images → List EndShown
+tile_ends job images = ends_in job.graph images job.order.tile (first_in job) (count_in job)
 
--- a front of that report was written
+-- how many renders those of them need that are renders
+abbrev pub renders_in : {asked : Option Ordered} {library : Files} → Job asked library → Images → ℕ
+renders_in job images =
+    renders_for (graph_nodes meaning_of job.graph images) job.order.tile (tile_ends job images)
+
+-- How many frames were rendered, and how many window tiles they have; how many of these are found nowhere, in a source's
+-- frame, and in a render; how many renders landed, and how many were found kept. As many landed or were found kept, at
+-- least, as are asked for. Where nothing may be kept, none was found kept, and at least as many landed as are asked for
+-- and as these need.
+pub record IsRenderReport (asked : Option Ordered) (library : Files) (text : List ℕ) : Type 0 where
+  pub known : IsAccepted asked library
+  pub images : Images
+  pub are : AreImages library known.job.wanted images
+  pub landed : ℕ
+  pub hits : ℕ
+  pub told :
+      let n = count_ends (tile_ends known.job images) in
+      text ≡ render_text (count_in known.job) n.tiles n.void_tiles n.passed n.asked landed hits
+  pub enough : (count_ends (tile_ends known.job images)).asked ≤ hits + landed
+  pub none_kept :
+      known.job.order.cache ≡ 0
+      → (hits ≡ 0)
+      × ((count_ends (tile_ends known.job images)).asked + renders_in known.job images ≤ landed)
+
+-- the report was written
+abbrev pub HasTold : Option Ordered → Files → List ℕ → List ℕ → Type 0
+HasTold asked library old new = (text : List ℕ) × IsRenderReport asked library text × (new ≡ old ++ text)
+
+-- a front of it was written
 abbrev pub HasBegunToTell : Option Ordered → Files → List ℕ → List ℕ → Type 0
-HasBegunToTell asked library old new = (job : Job asked library) × AddsPrefix (report_of (count_in job)) old new
+HasBegunToTell asked library old new =
+    (text : List ℕ) × IsRenderReport asked library text × AddsPrefix text old new
 
 -- ---- why it ends early
 
@@ -116,7 +151,7 @@ IsToldAs g seq.Memory name t why = ⊥
 abbrev pub IsReadName : Option Ordered → Files → List ℕ → Type 0
 IsReadName asked library name =
     ((order : Ordered) × (asked ≡ Some order) × (order.graph ≡ name))
-    ⊎ ((job : Job asked library) × (w : Wanted) × ComesTo library GRAPH_SIDE MOST_BYTES job.wanted w × (w.name ≡ name))
+    ⊎ ((job : Job asked library) × (w : Wanted) × ComesTo library MOST_SIDE MOST_BYTES 0 job.wanted w × (w.name ≡ name))
 
 -- the cause of a fault, by what the library tells
 abbrev pub Cause : Option Ordered → Files → RunFault → Type 0
@@ -149,7 +184,7 @@ Leaves asked library other old new = SameFiles old new
 
 -- a fault of the report leaves a front of a report, and each other fault nothing
 abbrev pub LeavesReport : RunFault → List ℕ → List ℕ → Type 0
-LeavesReport run.Report old new = (n : ℕ) × AddsPrefix (report_of n) old new
+LeavesReport run.Report old new = (report : Report) × AddsPrefix (report_text report) old new
 LeavesReport other old new = new ≡ old
 
 -- a front of this run's own report

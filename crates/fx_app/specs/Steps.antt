@@ -1,6 +1,6 @@
 -- The failures of a run's steps: which fault of the run each is, what it shows of the outside, and what it leaves.
-use Rattle.std.specs.Prelude.{◌≡◌, ℕ, ◌+◌, ◌≤◌, ◌<◌, List, [], length, Option, Some, None, unwrap_or, Err}
-use Rattle.fx_app.specs.declared.graph.TheConstants.{GRAPH_SIDE}
+use Rattle.std.specs.Prelude.{◌≡◌, ◌⊎◌, ℕ, ◌+◌, ◌≤◌, ◌<◌, List, [], length, Option, Some, None, unwrap_or, Ok, Err}
+use Rattle.fx_base.specs.declared.limits.TheConstants.{MOST_SIDE}
 use Rattle.fx_outside.specs.Outside.{Files, HasRisen, SameFiles, SameBut, AddsPrefix}
 use Rattle.fx_seq.specs.declared.wanted.Wanted.{Wanted}
 use Rattle.fx_seq.specs.declared.fault.SeqFault.{SeqFault}
@@ -19,9 +19,13 @@ use Rattle.fx_app.specs.declared.frames.PutFailure.{PutFailure}
 use Rattle.fx_app.specs.declared.frames.PutFailure.TheVariants as put
 use Rattle.fx_app.specs.declared.report.ReportFailure.{ReportFailure}
 use Rattle.fx_app.specs.declared.report.ReportFailure.TheVariants as report
-use Rattle.fx_app.specs.Graphs.{Graph, graph_under}
+use Rattle.fx_app.specs.Graphs.{Graph, graph_of, graph_under}
 use Rattle.fx_app.specs.Files.{AreWantedBy, AreImages, frame_refused, file_name, HasGained, HasGainedBut}
 use Rattle.fx_app.specs.Run.{IsToldAs}
+use Rattle.fx_app.specs.Migrate.{slash_in, IsSlashed}
+use Rattle.fx_text.specs.Migrated.{IsMigrated, IsSameGraph}
+use Rattle.fx_text.specs.declared.fault.GraphFault.{GraphFault}
+use Rattle.fx_text.specs.declared.fault.GraphFault.TheVariants as fault
 use Rattle.fx_app.specs.Bench.{BenchCause}
 use Rattle.fx_app.specs.declared.bench.TheConstants.{MOST_FILE_BYTES}
 use Rattle.fx_base.specs.Pattern.{runs}
@@ -83,7 +87,7 @@ SourceFetch before now was last source.Memory = Unit {0}
 abbrev pub SourceCause : Files → Graph → ℕ → ℕ → SourceFailure → Type 0
 SourceCause library g a b (source.Read name) =
     (wanted : List Wanted) × AreWantedBy g a b wanted
-    × (w : Wanted) × ComesTo library GRAPH_SIDE MOST_BYTES wanted w × (w.name ≡ name)
+    × (w : Wanted) × ComesTo library MOST_SIDE MOST_BYTES 0 wanted w × (w.name ≡ name)
 SourceCause library g a b (source.Refused node t why) =
     (wanted : List Wanted) × AreWantedBy g a b wanted
     × (first : SeqFault) × (frame_refused library wanted ≡ Some first) × IsToldAs g first node t why
@@ -156,3 +160,45 @@ bytes_under files name = unwrap_or (files name) []
 
 abbrev pub AreShort : Files → Type 0
 AreShort files = (name : List ℕ) → length (bytes_under files name) ≤ MOST_FILE_BYTES
+
+-- ---- a migration
+
+-- the bytes under the name are a graph of so many nodes, no name of format 1 has a slash, and the text is that of their
+-- value in format 2, which is the same graph
+pub record IsMigrationOf (library : Files) (name : List ℕ) (nodes : ℕ) (text : List ℕ) : Type 0 where
+  pub bytes : List ℕ
+  pub told : library name ≡ Some bytes
+  pub graph : Graph
+  pub is : graph_of bytes ≡ Ok graph
+  pub plain : slash_in bytes ≡ None
+  pub many : nodes ≡ length graph.nodes
+  pub made : IsMigrated bytes text
+  pub same : graph_of text ≡ graph_of bytes
+
+abbrev pub MigrationCause : Files → List ℕ → GraphFailure → Type 0
+MigrationCause library name (graph.Refused code path) =
+    (graph_under library name ≡ Some (Err (refusal code path))) ⊎ IsSlashed library name code path
+MigrationCause library name (graph.Read other) = Unit {0}
+MigrationCause library name graph.Memory = Unit {0}
+
+-- the same of bytes
+pub record IsMigrationIn (bytes : List ℕ) (nodes : ℕ) (text : List ℕ) : Type 0 where
+  pub graph : Graph
+  pub is : graph_of bytes ≡ Ok graph
+  pub plain : slash_in bytes ≡ None
+  pub many : nodes ≡ length graph.nodes
+  pub made : IsMigrated bytes text
+  pub same : graph_of text ≡ graph_of bytes
+
+-- the bytes' graph; a name of it has no slash, and a text that says the same in format 2 is the same graph
+pub record IsPlainGraph (bytes : List ℕ) (graph : Graph) : Type 0 where
+  pub is : graph_of bytes ≡ Ok graph
+  pub plain : slash_in bytes ≡ None
+  pub stays : (text : List ℕ) → IsSameGraph bytes text → graph_of text ≡ Ok graph
+
+-- the bytes are no graph, or a name of format 1 has a slash
+abbrev pub MigrationRefused : List ℕ → GraphFault → Type 0
+MigrationRefused bytes fault.Memory = Unit {0}
+MigrationRefused bytes (fault.Refused code path) =
+    (graph_of bytes ≡ Err (refusal code path))
+    ⊎ ((graph : Graph) × (graph_of bytes ≡ Ok graph) × (slash_in bytes ≡ Some (refusal code path)))

@@ -1,12 +1,8 @@
 -- What a run writes on `out` and `err`, and its exit status.
-use Rattle.std.specs.Prelude.{◌≡◌, ◌⊎◌, ℕ, List, ◌++◌, codes, decimal}
+use Rattle.std.specs.Prelude.{◌≡◌, ◌⊎◌, ℕ, List, ◌++◌}
 use Rattle.fx_outside.specs.Outside.{HasRisen, AddsPrefix}
 use Rattle.fx_words.specs.declared.fault.RunFault.{RunFault}
 use Rattle.fx_words.specs.declared.fault.RunFault.TheVariants as run
-
--- the report of a run that rendered so many frames
-abbrev pub report_of : ℕ → List ℕ
-report_of frames = codes "frames " ++ decimal frames ++ codes "\n"
 
 -- the exit status of a fault
 abbrev pub status_of : RunFault → ℕ

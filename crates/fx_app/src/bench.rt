@@ -1,5 +1,5 @@
-//! What a bench renders, and what its files come to.
-ghost use Rattle.std.specs.Prelude.{◌≡◌, ◌≤◌, ◌+◌, ◌*◌, ℕ, List, map, length, sum, IsTrue, IfOk, IfErr};
+//! The mode `bench`: what is made of a number is rendered in memory, and what its files come to is told.
+ghost use Rattle.std.specs.Prelude.{◌≡◌, ◌≢◌, ◌≤◌, ◌+◌, ◌*◌, ℕ, List, map, length, sum, Some, IsTrue, IfOk, IfErr, OnOk};
 ghost use Rattle.std.specs.List.{flat_map, range_with_len};
 ghost use Rattle.fx_base.specs.Pattern.{name_of};
 ghost use Rattle.fx_base.specs.declared.limits.TheConstants.{LAST_FRAME};
@@ -7,27 +7,91 @@ ghost use Rattle.fx_outside.specs.Sure.{sure_library_files, sure_depot_files};
 ghost use Rattle.fx_bench.specs.Frames.{file_of};
 ghost use Rattle.fx_scene.specs.Scenes.{graph_shown};
 ghost use Rattle.fx_words.specs.Order.{is_bench_number};
+ghost use Rattle.fx_words.specs.Texts.{report_text};
+ghost use Rattle.fx_words.specs.declared.fault.RunFault.TheVariants.{Usage as OtherWords};
 ghost use Rattle.fx_app.specs.Graphs.{frame_count};
 ghost use Rattle.fx_app.specs.Files.{file_name};
-ghost use Rattle.fx_app.specs.Bench.{number_of, made_files, made_of};
-ghost use Rattle.fx_app.specs.Steps.{HasFiles, bytes_under, AreShort};
+ghost use Rattle.fx_app.specs.Bench.{number_of, made_files, made_of, IsBenchReport, HasBenched, BenchCause, LeavesBenchReport};
+ghost use Rattle.fx_app.specs.Run.{IsAccepted, Rose, LeavesOut};
+ghost use Rattle.fx_app.specs.Steps.{HasFiles, IsMakingFault, bytes_under, AreShort};
 ghost use Rattle.fx_app.specs.declared.frames.PutFailure.TheVariants.{Memory as NotPut};
 ghost use Rattle.fx_app.specs.declared.graph.GraphFailure.TheVariants.{Memory as NoGraph};
 
-use crate::frames::PutFailure;
-use crate::graph::GraphFailure;
+use crate::frames::{PutFailure, put_frames};
+use crate::graph::{GraphFailure, graph_of};
+use crate::order::{first_of, frame_count, last_of};
+use crate::report::report_lines;
+use crate::sources::sources_of;
 use fx_base::{Memory, Name, Pattern};
 use fx_bench::make;
 use fx_graph::Graph;
-use fx_outside::{SureDepot, SureLibrary};
+use fx_outside::{Pace, Sink, SureDepot, SureLibrary};
 use fx_shipped::Shipped;
+use fx_words::{Order, Report, RunFault};
 use std::alloc::Global;
+use std::rt::Clock;
+use std::sync::Wait;
+use std::thread::Threads;
 
 /// As many bytes as a file of a frame may have.
 pub(crate) const MOST_FILE_BYTES: u64 = 1 << 30;
 
-/// What is made of the number that a word writes: its graph under the word, and the graph's source frames.
-pub(crate) fn made_of(alloc: Global, word: &Name) -> Result<SureLibrary, GraphFailure>
+/// Renders what is made of a number, in memory, and reports what was put.
+pub(crate) fn bench<R: Threads + Wait + Clock + Sync, O: Sink, P: Pace>(
+    rt: &R,
+    alloc: Global,
+    pace: &P,
+    order: &Order,
+    out: &mut O,
+) -> Result<(), RunFault>
+    requires { IsTrue (is_bench_number order.now.graph) }
+    ensures benched { OnOk result (IsAccepted (Some order.now) (made_of order.now.graph)) }
+    ensures told { O.tells → OnOk result (HasBenched (Some order.now) (O.written out.old) (O.written out.new)) }
+    ensures rose { (library depot : ℕ × ℕ × List ℕ) → IfErr result
+        (λ e. Rose library depot (O.faults out.old, O.faults out.new) e) }
+    ensures cause { IfErr result (λ e. BenchCause (Some order.now) e) }
+    ensures report { O.tells
+        → IfErr result (λ e. LeavesBenchReport (Some order.now) e (O.written out.old) (O.written out.new)) }
+    ensures words { IfErr result (λ e. e ≢ OtherWords) }
+    ensures out { IfErr result (λ e. LeavesOut e (O.faults out.old) (O.faults out.new)) }
+    ensures quiet_out { OnOk result (O.faults out.new ≡ O.faults out.old) }
+{
+    let report = bench_report(rt, alloc, pace, order)?;
+    report_lines(alloc, out, &report)?;
+    Ok(())
+}
+
+// What a bench reports. The graph that is made is rendered as every other.
+fn bench_report<R: Threads + Wait + Clock + Sync, P: Pace>(
+    rt: &R,
+    alloc: Global,
+    pace: &P,
+    order: &Order,
+) -> Result<Report, RunFault>
+    requires { IsTrue (is_bench_number order.now.graph) }
+    ensures ok { IfOk result (λ report. IsBenchReport (Some order.now) (report_text report)) }
+    ensures cause { IfErr result (λ e. IsMakingFault (Some order.now) e) }
+{
+    let mut library = made_of(alloc, &order.graph)?;
+    let mut depot = SureDepot::new(alloc);
+    let graph = graph_of(alloc, &order.graph, &mut library)?;
+    let first = first_of(&graph, order);
+    let last = last_of(&graph, order);
+    let names = file_names(alloc, &graph, first, last)?;
+    let store = sources_of(alloc, &graph, first, last, &mut library)?;
+    put_frames(
+        rt, alloc, pace, order, graph, store, first, last, &mut depot,
+    )?;
+    let totals = totals_of(&names, &depot);
+    Ok(Report::Bench {
+        frames: frame_count(first, last),
+        size: totals.size,
+        sum: totals.sum,
+    })
+}
+
+// What is made of the number that a word writes: its graph under the word, and the graph's source frames.
+fn made_of(alloc: Global, word: &Name) -> Result<SureLibrary, GraphFailure>
     requires { IsTrue (is_bench_number word.now) }
     ensures ok { IfOk result (λ library. (name : List ℕ) → sure_library_files library name ≡ made_of word.now name) }
     ensures err { IfErr result (λ e. e ≡ NoGraph) }
@@ -55,8 +119,8 @@ fn number_of(word: &str) -> u32
     word.parse::<u32>().unwrap_or(0)
 }
 
-/// The names of the files of the frames from `first` to `last`.
-pub(crate) fn file_names(
+// The names of the files of the frames from `first` to `last`.
+fn file_names(
     alloc: Global,
     graph: &Graph<Shipped>,
     first: u32,
@@ -83,15 +147,15 @@ fn names_of(alloc: Global, file: &Pattern, first: u32, last: u32) -> Result<Vec<
     Ok(names)
 }
 
-/// How many bytes files have together, and the sum of these bytes.
+// How many bytes files have together, and the sum of these bytes.
 #[derive(Clone, Copy, Debug, PartialEq, Eq)]
-pub(crate) struct Totals {
-    pub(crate) size: u64,
-    pub(crate) sum: u64,
+struct Totals {
+    size: u64,
+    sum: u64,
 }
 
-/// The totals of the files of these names.
-pub(crate) fn totals_of(names: &[Name], depot: &SureDepot) -> Totals
+// The totals of the files of these names.
+fn totals_of(names: &[Name], depot: &SureDepot) -> Totals
     requires few { length names.now ≤ LAST_FRAME + 1 }
     requires short { AreShort (sure_depot_files depot.now) }
     ensures size { result.size ≡ length (flat_map (bytes_under (sure_depot_files depot.now)) names.now) }

@@ -1,36 +1,37 @@
-//! Those who render: what they share, and a seat for each worker.
-ghost use Rattle.std.specs.Prelude.{◌≡◌, ◌≤◌, ◌+◌, ℕ, pos, All, IfOk, OnOk, vec_len};
+//! Those who render: what they share, and the seat from which each worker's is split.
+ghost use Rattle.std.specs.Prelude.{◌≡◌, ◌≤◌, [], pos, IfOk};
+ghost use Rattle.fx_base.specs.declared.limits.TheConstants.{LAST_FRAME};
 ghost use Rattle.fx_image.specs.Image.{SameImage};
 ghost use Rattle.fx_image.specs.Stored.{image_of};
 ghost use Rattle.fx_life.specs.Posts.{HasLife};
+ghost use Rattle.fx_region.specs.Counts.{window_ends};
 ghost use Rattle.fx_scene.specs.Scenes.{images_in, picture};
+ghost use Rattle.fx_scene.specs.Sites.{scene_nodes};
 ghost use Rattle.fx_shipped.specs.Shipped.{meaning_of, number_of};
-ghost use Rattle.fx_tile.specs.Moments.{IsFree};
-ghost use Rattle.fx_base.specs.declared.limits.TheConstants.{LAST_FRAME};
-ghost use Rattle.fx_app.specs.Crews.{IsCrew, IsSpare};
+ghost use Rattle.fx_tile.specs.Moments.{CountsTiles, seat_weight};
+ghost use Rattle.fx_tile.specs.Seats.{AreAll};
+ghost use Rattle.fx_app.specs.Crews.{IsCrew, IsNewCrew, KeepsCrew};
 
 use fx_base::{Grid, Memory};
-use fx_core::Permit;
-use fx_directory::Directory;
-use fx_gate::Gates;
+use fx_core::{Permit, Totals};
 use fx_image::Image;
 use fx_life::Life;
 use fx_outside::Pace;
 use fx_scene::Scene;
 use fx_shipped::Shipped;
-use fx_tile::{Rendered, SceneName, Shared, TileSeat, render_moment};
+use fx_tile::{Rendered, Shared, TileCount, TileSeat, render_moment};
 use fx_words::Order;
 use std::alloc::Global;
-use std::mem;
 use std::rt::Clock;
 use std::sync::Wait;
 use std::thread::Threads;
 
-/// What those who render a scene share, and a seat for each worker.
+/// What those who render a scene share, the seat with all parts of it, and how many workers there are.
 #[derive(Drop)]
 pub(crate) struct Crew {
     pub shared: Shared<Shipped>,
-    pub seats: Vec<TileSeat<Shipped>>,
+    pub seat: TileSeat<Shipped>,
+    pub workers: u32,
 }
 
 impl Crew {
@@ -42,30 +43,20 @@ impl Crew {
         permit: Permit,
         order: &Order,
     ) -> Result<Crew, Memory>
-        ensures { IfOk result (IsCrew scene.now) }
+        ensures crew { IfOk result (IsCrew scene.now) }
+        ensures new { IfOk result (IsNewCrew order.now) }
     {
-        let name = SceneName::of(scene);
-        let Ok((directory, directory_seat)) = Directory::new(alloc, name, permit, order.cache)
-        else {
-            return Err(Memory);
-        };
-        let count = 64 + scene.graph().nodes.len() as u32;
-        let (gates, gate_seat) = Gates::new(alloc, count)?;
         let grid = Grid { side: order.tile };
-        let shared = Shared {
-            directory,
-            gates,
-            grid,
-        };
-        let mut first = TileSeat {
-            directory: directory_seat,
-            gates: gate_seat,
-        };
-        let seats = seats_of(alloc, &shared, &mut first, order.workers)?;
-        Ok(Crew { shared, seats })
+        let (shared, seat) = Shared::new(alloc, scene, permit, order.cache, grid)?;
+        Ok(Crew {
+            shared,
+            seat,
+            workers: order.workers,
+        })
     }
 
-    /// The picture of a frame of the crew's scene, by all its workers. The crew is as free afterwards as before.
+    /// The picture of a frame of the crew's scene, by all its workers, and what became of its window tiles. Each worker
+    /// has a seat for this frame alone.
     pub(crate) fn picture<R: Threads + Wait + Clock + Sync, P: Pace>(
         &mut self,
         rt: &R,
@@ -74,72 +65,48 @@ impl Crew {
         scene: &Scene<Shipped>,
         life: &Life<Shipped>,
         frame: u32,
-    ) -> Result<Image, Memory>
+    ) -> Result<(Image, TileCount), Memory>
         requires life { HasLife number_of scene.now.graph life.now }
         requires crew { IsCrew scene.now self.old }
         requires frame { frame ≤ LAST_FRAME }
         ensures crew { IsCrew scene.now self.new }
         ensures picture { let picture = picture meaning_of scene.now.graph (images_in scene.now.store) (pos frame) in
-            IfOk result (λ image. SameImage (image_of image) picture) }
+            IfOk result (λ r. SameImage (image_of r.0) picture) }
+        ensures count { let g = scene.now.graph in let nodes = scene_nodes meaning_of scene.now in
+            let side = self.old.shared.grid in
+            IfOk result (λ r. CountsTiles nodes side (window_ends nodes g.output side g.project (pos frame)) r.1) }
+        ensures none_kept { self.old.shared.directory.capacity ≡ 0 → IfOk result (λ r. r.1.hits ≡ 0) }
+        ensures keeps { IfOk result (λ r. KeepsCrew self.old self.new r.1) }
     {
-        let seats = mem::replace(&mut self.seats, Vec::new(alloc));
-        match render_moment(
-            rt,
-            alloc,
-            pace,
-            scene,
-            life,
-            &self.shared,
-            seats,
-            i64::from(frame),
-        ) {
+        let seats = self.shared.split(alloc, &mut self.seat, self.workers)?;
+        let frame = i64::from(frame);
+        match render_moment(rt, alloc, pace, scene, life, &self.shared, seats, frame) {
             Ok(rendered) => {
                 let Rendered {
                     picture,
-                    count: _,
+                    count,
                     seats,
                 } = rendered;
-                self.seats = seats;
-                Ok(picture)
+                self.shared.join(&mut self.seat, seats);
+                Ok((picture, count))
             }
             Err((seats, memory)) => {
-                self.seats = seats;
+                self.shared.join(&mut self.seat, seats);
                 Err(memory)
             }
         }
     }
-}
 
-// So many seats, split off from this one.
-fn seats_of(
-    alloc: Global,
-    shared: &Shared<Shipped>,
-    first: &mut TileSeat<Shipped>,
-    workers: u32,
-) -> Result<Vec<TileSeat<Shipped>>, Memory>
-    requires few { workers ≤ 64 }
-    requires spare { IsSpare shared.now 65 first.old }
-    ensures seats { IfOk result (λ seats. (vec_len seats ≡ workers) × All (IsFree shared.now) seats.items) }
-{
-    let mut seats = Vec::new(alloc);
-    for _ in 0..workers {
-        seats.push(seat_of(alloc, shared, first)?)?;
+    /// Closes what is shared, with the counts of its directory. At `Memory` it is let go.
+    pub(crate) fn close(self, alloc: Global) -> Result<Totals, Memory>
+        requires { AreAll self.shared self.seat [] }
+        ensures { IfOk result (λ totals. (totals.landed, totals.hits) ≡ seat_weight self.seat) }
+    {
+        let Crew {
+            shared,
+            seat,
+            workers: _,
+        } = self;
+        shared.close(alloc, seat)
     }
-    Ok(seats)
-}
-
-// One more seat, split off from this one.
-fn seat_of(
-    alloc: Global,
-    shared: &Shared<Shipped>,
-    first: &mut TileSeat<Shipped>,
-) -> Result<TileSeat<Shipped>, Memory>
-    requires { IsSpare shared.now 2 first.old }
-    ensures seat { IfOk result (IsFree shared.now) }
-    ensures left { (count : ℕ) → IsSpare shared.now (count + 1) first.old
-        → OnOk result (IsSpare shared.now count first.new) }
-{
-    let directory = shared.directory.split(alloc, &mut first.directory)?;
-    let gates = shared.gates.split(alloc, &mut first.gates)?;
-    Ok(TileSeat { directory, gates })
 }

@@ -6,13 +6,13 @@ ghost use Rattle.fx_seq.specs.Filling.{IsQuiet};
 ghost use Rattle.fx_scene.specs.Scenes.{graph_shown, images_in};
 ghost use Rattle.fx_shipped.specs.Shipped.{number_of};
 ghost use Rattle.fx_life.specs.Posts.{HasLife};
-ghost use Rattle.fx_app.specs.Crews.{IsCrew};
+ghost use Rattle.fx_app.specs.Crews.{IsCrew, KeepsCrew};
 ghost use Rattle.fx_app.specs.Graphs.{frame_count};
 ghost use Rattle.fx_app.specs.Files.{file_name, file_text, with_file, HasGained};
+ghost use Rattle.fx_app.specs.Tiles.{HasCounted};
 ghost use Rattle.fx_app.specs.Steps.{put_fault, FilePut, FilesPut, LeavesFile, LeavesFiles};
 
 use crate::crew::Crew;
-use crate::effects::all_effects;
 use fx_base::{Memory, Name};
 use fx_graph::Graph;
 use fx_life::Life;
@@ -20,7 +20,8 @@ use fx_outside::{Depot, Pace, PutFault};
 use fx_pam::write;
 use fx_scene::Scene;
 use fx_seq::Store;
-use fx_shipped::Shipped;
+use fx_shipped::{Shipped, all_effects};
+use fx_tile::TileCount;
 use fx_words::{Order, RunFault};
 use std::alloc::Global;
 use std::rt::Clock;
@@ -59,7 +60,8 @@ impl From<PutFailure> for RunFault {
 
 /// Takes the effects of the program through their order of life, and renders and puts each frame from the
 /// first to the last meanwhile, by as many workers, over tiles and with a directory as they are ordered. Every sequence
-/// is ended and every instance destroyed, whatever failed. With no frame there is no sequence.
+/// is ended and every instance destroyed, whatever failed. With no frame there is no sequence. The count is that of all
+/// frames' window tiles; what landed and what was found kept is told by the directory, once it is closed.
 pub(crate) fn put_frames<R: Threads + Wait + Clock + Sync, D: Depot, P: Pace>(
     rt: &R,
     alloc: Global,
@@ -70,7 +72,7 @@ pub(crate) fn put_frames<R: Threads + Wait + Clock + Sync, D: Depot, P: Pace>(
     first: u32,
     last: u32,
     depot: &mut D,
-) -> Result<(), PutFailure>
+) -> Result<TileCount, PutFailure>
     requires first { first ≤ LAST_FRAME }
     requires last { last ≤ LAST_FRAME }
     ensures ok { let g = graph_shown graph in let images = images_in store in let n = frame_count first last in
@@ -81,9 +83,11 @@ pub(crate) fn put_frames<R: Threads + Wait + Clock + Sync, D: Depot, P: Pace>(
         D.tells → IfErr result (λ e. LeavesFiles g images first n e (D.file depot.old) (D.file depot.new)) }
     ensures quiet { let at = D.last depot.new in
         OnOk result (IsQuiet (D.faults depot.old) (D.faults depot.new) (D.last depot.old) at) }
+    ensures counts { let g = graph_shown graph in let n = frame_count first last in
+        IfOk result (HasCounted g (images_in store) order.now.tile order.now.cache first n) }
 {
     if last < first {
-        return Ok(());
+        return Ok(TileCount::none());
     }
     let (scene, permit) = Scene::new(graph, store, 0);
     let mut crew = Crew::of(alloc, &scene, permit, order)?;
@@ -92,7 +96,13 @@ pub(crate) fn put_frames<R: Threads + Wait + Clock + Sync, D: Depot, P: Pace>(
         rt, alloc, pace, &scene, &life, &mut crew, first, last, depot,
     );
     life.finish();
-    put
+    let count = put?;
+    let totals = crew.close(alloc)?;
+    Ok(TileCount {
+        landed: totals.landed,
+        hits: totals.hits,
+        ..count
+    })
 }
 
 fn put_each<R: Threads + Wait + Clock + Sync, D: Depot, P: Pace>(
@@ -105,7 +115,7 @@ fn put_each<R: Threads + Wait + Clock + Sync, D: Depot, P: Pace>(
     first: u32,
     last: u32,
     depot: &mut D,
-) -> Result<(), PutFailure>
+) -> Result<TileCount, PutFailure>
     requires life { HasLife number_of scene.now.graph life.now }
     requires crew { IsCrew scene.now crew.old }
     requires order { first ≤ last }
@@ -120,16 +130,25 @@ fn put_each<R: Threads + Wait + Clock + Sync, D: Depot, P: Pace>(
     ensures quiet { let at = D.last depot.new in
         OnOk result (IsQuiet (D.faults depot.old) (D.faults depot.new) (D.last depot.old) at) }
     ensures crew { IsCrew scene.now crew.new }
+    ensures counts { let images = images_in scene.now.store in let n = frame_count first last in
+        let shared = crew.old.shared in
+        IfOk result (HasCounted scene.now.graph images shared.grid shared.directory.capacity first n) }
+    ensures keeps { IfOk result (KeepsCrew crew.old crew.new) }
 {
     // One text, whose memory serves each frame in turn.
     let mut text = Vec::new(alloc);
+    let mut sum = TileCount::none();
     for frame in first..last + 1 {
-        match put_frame(rt, alloc, pace, scene, life, crew, frame, &mut text, depot) {
-            Ok(()) => {}
+        let count = match put_frame(rt, alloc, pace, scene, life, crew, frame, &mut text, depot) {
+            Ok(count) => count,
             Err(failure) => return Err(failure),
-        }
+        };
+        sum = match sum.plus(count) {
+            Some(sum) => sum,
+            None => return Err(PutFailure::Memory),
+        };
     }
-    Ok(())
+    Ok(sum)
 }
 
 // Its text takes the place of what was in `text`.
@@ -143,7 +162,7 @@ fn put_frame<R: Threads + Wait + Clock + Sync, D: Depot, P: Pace>(
     frame: u32,
     text: &mut Vec<u8>,
     depot: &mut D,
-) -> Result<(), PutFailure>
+) -> Result<TileCount, PutFailure>
     requires life { HasLife number_of scene.now.graph life.now }
     requires crew { IsCrew scene.now crew.old }
     requires frame { frame ≤ LAST_FRAME }
@@ -157,11 +176,14 @@ fn put_frame<R: Threads + Wait + Clock + Sync, D: Depot, P: Pace>(
         OnOk result (IsQuiet (D.faults depot.old) (D.faults depot.new) (D.last depot.old) at) }
     ensures later { D.faults depot.old ≤ D.faults depot.new }
     ensures crew { IsCrew scene.now crew.new }
+    ensures counts { let images = images_in scene.now.store in let shared = crew.old.shared in
+        IfOk result (HasCounted scene.now.graph images shared.grid shared.directory.capacity frame 1) }
+    ensures keeps { IfOk result (KeepsCrew crew.old crew.new) }
 {
     let name = scene.graph().file.name(alloc, frame)?;
-    write_text(rt, alloc, pace, scene, life, crew, frame, text)?;
+    let count = write_text(rt, alloc, pace, scene, life, crew, frame, text)?;
     match depot.put(alloc, name.text(), text) {
-        Ok(()) => Ok(()),
+        Ok(()) => Ok(count),
         Err(PutFault::Failed) => Err(PutFailure::Write(name)),
         Err(PutFault::Memory) => Err(PutFailure::Memory),
     }
@@ -177,15 +199,18 @@ fn write_text<R: Threads + Wait + Clock + Sync, P: Pace>(
     crew: &mut Crew,
     number: u32,
     text: &mut Vec<u8>,
-) -> Result<(), Memory>
+) -> Result<TileCount, Memory>
     requires life { HasLife number_of scene.now.graph life.now }
     requires crew { IsCrew scene.now crew.old }
     requires frame { number ≤ LAST_FRAME }
     ensures crew { IsCrew scene.now crew.new }
     ensures text { OnOk result (text.new.items ≡ file_text scene.now.graph (images_in scene.now.store) number) }
+    ensures counts { let images = images_in scene.now.store in let shared = crew.old.shared in
+        IfOk result (HasCounted scene.now.graph images shared.grid shared.directory.capacity number 1) }
+    ensures keeps { IfOk result (KeepsCrew crew.old crew.new) }
 {
-    let image = crew.picture(rt, alloc, pace, scene, life, number)?;
+    let (image, count) = crew.picture(rt, alloc, pace, scene, life, number)?;
     text.clear();
     write(alloc, &image, scene.graph().format, text)?;
-    Ok(())
+    Ok(count)
 }

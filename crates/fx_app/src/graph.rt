@@ -4,23 +4,20 @@ ghost use Rattle.fx_outside.specs.Outside.{SameFiles};
 ghost use Rattle.fx_seq.specs.Filling.{IsQuiet};
 ghost use Rattle.fx_text.specs.Answers.{Refuses};
 ghost use Rattle.fx_scene.specs.Scenes.{graph_shown};
-ghost use Rattle.fx_app.specs.Graphs.{graph_of, graph_under};
+ghost use Rattle.fx_app.specs.Graphs.{accepted_of, graph_of, graph_under, raw_of};
 ghost use Rattle.fx_app.specs.Steps.{graph_fault, GraphCause, GraphFetch};
 ghost use Rattle.fx_app.specs.declared.graph.GraphFailure.TheVariants.{Memory as OutOfMemory, Read as NotRead};
 
+use fx_base::limits::{MOST_NODES, MOST_SIDE};
 use fx_base::{Memory, Name};
 use fx_graph::{Graph, accept};
+use fx_group::expand;
 use fx_outside::{FetchFault, Library};
 use fx_shipped::Shipped;
-use fx_text::{GraphCode, GraphFault, GraphPath, read_graph};
+use fx_takes::accept_takes;
+use fx_text::{GraphCode, GraphFault, GraphPath, RawGraph, read_graph};
 use fx_words::RunFault;
 use std::alloc::Global;
-
-/// The most nodes of a graph.
-pub(crate) const GRAPH_NODES: u32 = 256;
-
-/// The most columns or rows of a project, and of a source frame.
-pub(crate) const GRAPH_SIDE: u32 = 4096;
 
 /// Why there is no graph.
 #[derive(Debug, Drop)]
@@ -88,11 +85,36 @@ fn graph_in(alloc: Global, bytes: &[u8]) -> Result<Graph<Shipped>, GraphFault>
     ensures ok { IfOk result (λ g. graph_of bytes.now ≡ Ok (graph_shown g)) }
     ensures refused { Refuses result (graph_of bytes.now) }
 {
-    let raw = read_graph(alloc, bytes, GRAPH_NODES, GRAPH_SIDE)?;
-    accept::<Shipped>(alloc, raw)
+    let raw = raw_of(alloc, bytes)?;
+    accepted_of(alloc, raw)
 }
 
-fn fetch<L: Library>(alloc: Global, name: &Name, library: &mut L) -> Result<Vec<u8>, GraphFailure>
+/// What the bytes say, with each use of a group replaced by the group's nodes.
+pub(crate) fn raw_of(alloc: Global, bytes: &[u8]) -> Result<RawGraph, GraphFault>
+    ensures ok { IfOk result (λ raw. raw_of bytes.now ≡ Ok raw) }
+    ensures refused { Refuses result (raw_of bytes.now) }
+{
+    let raw = read_graph(alloc, bytes, MOST_NODES, MOST_SIDE)?;
+    expand(alloc, raw)
+}
+
+/// The graph that is said so, as it is written: its takes are looked at, and left.
+pub(crate) fn accepted_of(alloc: Global, mut raw: RawGraph) -> Result<Graph<Shipped>, GraphFault>
+    ensures ok { IfOk result (λ g. accepted_of raw ≡ Ok (graph_shown g)) }
+    ensures refused { Refuses result (accepted_of raw) }
+{
+    let takes = raw.take_takes(alloc);
+    let graph = accept::<Shipped>(alloc, raw)?;
+    accept_takes(alloc, &graph, takes)?;
+    Ok(graph)
+}
+
+/// The bytes that the library has under a graph's name.
+pub(crate) fn fetch<L: Library>(
+    alloc: Global,
+    name: &Name,
+    library: &mut L,
+) -> Result<Vec<u8>, GraphFailure>
     ensures bytes { L.tells → IfOk result (λ bytes. L.file library.old name.now ≡ Some bytes.items) }
     ensures quiet { let last = L.last library.new in
         OnOk result (IsQuiet (L.faults library.old) (L.faults library.new) (L.last library.old) last) }

@@ -5,12 +5,13 @@
 #![tactic(auto)]
 
 mod bench;
+mod check;
 mod crew;
-mod effects;
 mod frames;
 mod graph;
-pub mod laws;
+mod migrate;
 mod order;
+mod render;
 mod report;
 mod sources;
 mod steps;

@@ -1,11 +1,12 @@
 //! The report of a run.
-ghost use Rattle.std.specs.Prelude.{◌≡◌, ◌++◌, IfOk, IfErr, OnOk, string_bytes};
+ghost use Rattle.std.specs.Prelude.{◌≡◌, ◌++◌, IfOk, IfErr, IfSome, OnOk};
 ghost use Rattle.fx_words.specs.Texts.{report_text};
-ghost use Rattle.fx_app.specs.Texts.{report_of};
+ghost use Rattle.fx_app.specs.Tiles.{report_of};
 ghost use Rattle.fx_app.specs.Steps.{report_fault, BeginsReport, ReportRose};
 
 use fx_base::Memory;
 use fx_outside::{PutFault, Sink};
+use fx_tile::TileCount;
 use fx_words::{Report, RunFault, report_text};
 use std::alloc::Global;
 
@@ -39,20 +40,41 @@ impl From<ReportFailure> for RunFault {
     }
 }
 
-/// Writes how many frames were rendered, in one write.
+/// Writes how many frames were rendered and what became of their window tiles, in one write. `Memory` comes too where
+/// there are more tiles than can be counted.
 pub(crate) fn report_frames<O: Sink>(
     alloc: Global,
     out: &mut O,
     frames: u64,
+    count: TileCount,
 ) -> Result<(), ReportFailure>
-    ensures ok { O.tells → OnOk result (O.written out.new ≡ O.written out.old ++ report_of frames) }
-    ensures leaves { let text = report_of frames in
+    ensures ok { let text = report_text (report_of frames count) in
+        O.tells → OnOk result (O.written out.new ≡ O.written out.old ++ text) }
+    ensures leaves { let text = report_text (report_of frames count) in
         O.tells → IfErr result (λ e. BeginsReport text e (O.written out.old) (O.written out.new)) }
     ensures rose { IfErr result (λ e. ReportRose (O.faults out.old) (O.faults out.new) e) }
     ensures quiet { OnOk result (O.faults out.new ≡ O.faults out.old) }
 {
-    let text = report_of(alloc, frames)?;
-    written(alloc, out, text.as_bytes())
+    match report_of(frames, count) {
+        Some(report) => report_lines(alloc, out, &report),
+        None => Err(ReportFailure::Memory),
+    }
+}
+
+// The report of so many frames, where their tiles can be counted.
+fn report_of(frames: u64, count: TileCount) -> Option<Report>
+    ensures { IfSome result (λ report. report ≡ report_of frames count) }
+{
+    let found = count.void_tiles.checked_add(count.passed)?;
+    Some(Report::Render {
+        frames,
+        tiles: found.checked_add(count.asked)?,
+        void_tiles: count.void_tiles,
+        passed: count.passed,
+        asked: count.asked,
+        landed: count.landed,
+        hits: count.hits,
+    })
 }
 
 /// Writes a report's lines, in one write.
@@ -82,12 +104,6 @@ fn written<O: Sink>(alloc: Global, out: &mut O, text: &[u8]) -> Result<(), Repor
         Err(PutFault::Failed) => Err(ReportFailure::Report),
         Err(PutFault::Memory) => Err(ReportFailure::Memory),
     }
-}
-
-fn report_of(alloc: Global, frames: u64) -> Result<String, Memory>
-    ensures { IfOk result (λ text. string_bytes text ≡ report_of frames) }
-{
-    Ok(format!(in alloc; "frames {frames}\n")?)
 }
 
 fn lines_of(alloc: Global, report: &Report) -> Result<Vec<u8>, Memory>

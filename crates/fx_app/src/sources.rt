@@ -10,7 +10,7 @@ ghost use Rattle.fx_app.specs.Steps.{source_fault, HasSources, SourceCause, Sour
 ghost use Rattle.fx_app.specs.Steps.{WantsAsMany};
 ghost use Rattle.fx_app.specs.declared.sources.SourceFailure.TheVariants.{Memory as OutOfMemory};
 
-use crate::graph::GRAPH_SIDE;
+use fx_base::limits::MOST_SIDE;
 use fx_base::{Memory, Name};
 use fx_graph::Graph;
 use fx_outside::Library;
@@ -78,7 +78,7 @@ pub(crate) fn sources_of<L: Library>(
     ensures later { L.faults library.old ≤ L.faults library.new }
 {
     let wanted = wants(alloc, graph, first, last)?;
-    match Store::fill(alloc, library, &wanted, MOST_BYTES, GRAPH_SIDE) {
+    match Store::fill(alloc, library, &wanted, MOST_BYTES, MOST_SIDE) {
         Ok(store) => Ok(store),
         Err(fault) => Err(source_failure(alloc, graph, fault)),
     }

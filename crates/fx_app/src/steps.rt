@@ -1,44 +1,42 @@
-//! The top call, as a list of steps: words, graph, source frames, frame by frame rendering and put, report.
-ghost use Rattle.std.specs.Prelude.{◌≡◌, ◌≢◌, ◌⊎◌, ℕ, List, Some, None, IsTrue, map, string_bytes, IfOk, IfErr, OnOk};
+//! The top call: words, and then the steps of what they order.
+ghost use Rattle.std.specs.Prelude.{◌≡◌, ◌≢◌, ◌⊎◌, Some, None, IsTrue, map, string_bytes, IfOk, IfErr, OnOk};
 ghost use Rattle.fx_outside.specs.Outside.{HasRisen, AddsPrefix};
 ghost use Rattle.fx_seq.specs.Filling.{IsQuiet};
-ghost use Rattle.fx_words.specs.Order.{is_bench_number};
 ghost use Rattle.fx_words.specs.Ordered.{Ordered};
-ghost use Rattle.fx_words.specs.Texts.{fault_text, report_text};
-ghost use Rattle.fx_words.specs.declared.order.Mode.TheVariants.{Render, Check, Bench};
+ghost use Rattle.fx_words.specs.Texts.{fault_text};
+ghost use Rattle.fx_words.specs.declared.order.Mode.TheVariants.{Render, Check, Bench, Migrate};
 ghost use Rattle.fx_words.specs.declared.fault.RunFault.{RunFault};
 ghost use Rattle.fx_words.specs.declared.fault.RunFault.TheVariants.{Memory as OutOfMemory, Usage as OtherWords};
 ghost use Rattle.fx_words.specs.Order.{order_of};
 ghost use Rattle.fx_app.specs.Words.{mode_in, Orders};
 ghost use Rattle.fx_app.specs.Texts.{status_of, GainsLine};
 ghost use Rattle.fx_app.specs.Run.{is_status, Job, IsAccepted, NamesNoGraph, HasPutAll, HasTold};
-ghost use Rattle.fx_app.specs.Run.{Cause, Rose, Leaves, LeavesReport, LeavesOwnReport, LeavesLibrary, LeavesDepot, LeavesOut};
-ghost use Rattle.fx_app.specs.Check.{HasChecked, CheckCause, LeavesCheckReport};
-ghost use Rattle.fx_app.specs.Bench.{made_of, made_for, IsBenchReport, HasBenched, BenchCause, LeavesBenchReport};
+ghost use Rattle.fx_app.specs.Run.{Rose, LeavesLibrary, LeavesDepot, LeavesOut};
+ghost use Rattle.fx_app.specs.Check.{HasChecked};
+ghost use Rattle.fx_app.specs.Bench.{made_for, HasBenched};
+ghost use Rattle.fx_app.specs.Migrate.{Migration, HasMigrated, HasToldNodes, NamesSlash};
 ghost use Rattle.fx_app.specs.Modes.{CauseIn, LeavesIn, LeavesReportIn};
-ghost use Rattle.fx_app.specs.Steps.{IsMakingFault};
 
-use crate::bench::{file_names, made_of, totals_of};
-use crate::frames::put_frames;
-use crate::graph::{graph_of, node_count};
-use crate::order::{first_of, frame_count, last_of};
-use crate::report::{report_frames, report_lines};
-use crate::sources::{count_wanted, sources_of};
+use crate::bench::bench;
+use crate::check::check;
+use crate::migrate::migrate;
+use crate::render::render;
 use crate::tell::tell;
-use fx_outside::{Depot, Library, Pace, Sink, SureDepot};
-use fx_words::{Mode, Order, Report, RunFault, WordFault, read_words};
+use fx_outside::{Depot, Library, Pace, Sink};
+use fx_words::{Mode, Order, RunFault, WordFault, read_words};
 use std::alloc::Global;
 use std::rt::Clock;
 use std::sync::Wait;
 use std::thread::Threads;
 
-/// Does what the words order: it renders the frames of a graph and puts their files, checks a graph, or renders in
-/// memory what is made of a number. The answer is the exit status of the program: 0 done, 1 words that are no use
-/// of the command, 2 a graph that is refused, 3 a source frame that is refused, 4 a fetch that failed, 5 a put that
-/// failed, 6 want of memory, 7 a report that could not be written. Each other than 0 writes its line on `err`. A
-/// check fetches the graph alone and puts nothing, and a bench does neither. Frames are rendered one after another, each
-/// in tiles of the side that is ordered, by as many workers as are ordered; as many tiles are kept as are ordered. These
-/// three options change no byte of a file. Each worker calls `pace.before_draw` before each of its draws.
+/// Does what the words order: it renders the frames of a graph and puts their files, checks a graph, writes it again
+/// in format 2, or renders in memory what is made of a number. The answer is the exit status of the program: 0 done, 1
+/// words that are no use of the command, 2 a graph that is refused, 3 a source frame that is refused, 4 a fetch that
+/// failed, 5 a put that failed, 6 want of memory, 7 a report that could not be written. Each other than 0 writes its
+/// line on `err`. A check fetches the graph alone and puts nothing, a migration puts one file, and a bench does
+/// neither. Frames are rendered one after another, each in tiles of the side that is ordered, by as many workers as
+/// are ordered; as many tiles are kept as are ordered. These three options change no byte of a file. Each worker calls
+/// `pace.before_draw` before each of its draws.
 pub fn run<R: Threads + Wait + Clock + Sync, L: Library, D: Depot, O: Sink, F: Sink, P: Pace>(
     rt: &R,
     alloc: Global,
@@ -95,6 +93,30 @@ pub fn run<R: Threads + Wait + Clock + Sync, L: Library, D: Depot, O: Sink, F: S
         → IsAccepted (order_of (map string_bytes words.now)) (made_for (order_of (map string_bytes words.now)))
         → (HasRisen (O.faults out.old) (O.faults out.new) → ⊥)
         → (result ≡ 0) ⊎ (result ≡ 6) }
+
+    // A migration at status 0 has accepted the graph, and the depot has gained its text in format 2, which is the same
+    // graph, and nothing else; its report was written. It reads nothing but the graph, and refuses no source frame.
+    // Where a name of format 1 has a slash, the graph is refused.
+    ensures migratable { Orders (map string_bytes words.now) Migrate → L.tells → result ≡ 0
+        → Migration (order_of (map string_bytes words.now)) (L.file library.old) }
+    ensures migrated { Orders (map string_bytes words.now) Migrate → L.tells → D.tells → result ≡ 0
+        → HasMigrated (order_of (map string_bytes words.now)) (L.file library.old)
+        (D.file depot.old) (D.file depot.new) }
+    ensures migrate_reports { Orders (map string_bytes words.now) Migrate → L.tells → O.tells → result ≡ 0
+        → HasToldNodes (order_of (map string_bytes words.now)) (L.file library.old)
+        (O.written out.old) (O.written out.new) }
+    ensures migrate_statuses { Orders (map string_bytes words.now) Migrate → result ≢ 3 }
+    ensures migrate_reads { Orders (map string_bytes words.now) Migrate → result ≡ 4 → (order : Ordered)
+        × (order_of (map string_bytes words.now) ≡ Some order) × (L.last library.new ≡ order.graph) }
+    ensures migrate_completes { Orders (map string_bytes words.now) Migrate → L.tells
+        → Migration (order_of (map string_bytes words.now)) (L.file library.old)
+        → (HasRisen (L.faults library.old) (L.faults library.new) → ⊥)
+        → (HasRisen (D.faults depot.old) (D.faults depot.new) → ⊥)
+        → (HasRisen (O.faults out.old) (O.faults out.new) → ⊥)
+        → (result ≡ 0) ⊎ (result ≡ 6) }
+    ensures refuses_slash { Orders (map string_bytes words.now) Migrate → L.tells
+        → NamesSlash (order_of (map string_bytes words.now)) (L.file library.old)
+        → (HasRisen (L.faults library.old) (L.faults library.new) → ⊥) → (result ≡ 2) ⊎ (result ≡ 6) }
 
     // At status 0 no line is written. Each other status has a fault, which the outside shows, which has its cause,
     // leaves what it leaves, and is told on `err`. No count of faults rose but where the fault tells of it, at 6 too.
@@ -169,6 +191,14 @@ fn outcome<R: Threads + Wait + Clock + Sync, L: Library, D: Depot, O: Sink, P: P
         → OnOk result (HasBenched asked (O.written out.old) (O.written out.new)) }
     ensures bench_keeps { Orders (map string_bytes words.now) Bench
         → (library.new ≡ library.old) × (depot.new ≡ depot.old) }
+    ensures migratable { let asked = order_of (map string_bytes words.now) in
+        Orders (map string_bytes words.now) Migrate → L.tells → OnOk result (Migration asked (L.file library.old)) }
+    ensures migrated { let asked = order_of (map string_bytes words.now) in
+        Orders (map string_bytes words.now) Migrate → L.tells → D.tells
+        → OnOk result (HasMigrated asked (L.file library.old) (D.file depot.old) (D.file depot.new)) }
+    ensures migrate_told { let asked = order_of (map string_bytes words.now) in
+        Orders (map string_bytes words.now) Migrate → L.tells → O.tells
+        → OnOk result (HasToldNodes asked (L.file library.old) (O.written out.old) (O.written out.new)) }
     ensures quiet_library { OnOk result
         (IsQuiet (L.faults library.old) (L.faults library.new) (L.last library.old) (L.last library.new)) }
     ensures quiet_depot { OnOk result
@@ -199,6 +229,7 @@ fn outcome<R: Threads + Wait + Clock + Sync, L: Library, D: Depot, O: Sink, P: P
         Mode::Render => render(rt, alloc, pace, &order, library, depot, out),
         Mode::Check => check(alloc, &order, library, out),
         Mode::Bench => bench(rt, alloc, pace, &order, out),
+        Mode::Migrate => migrate(alloc, &order, library, depot, out),
     }
 }
 
@@ -213,141 +244,4 @@ fn ordered(alloc: Global, words: &[String]) -> Result<Order, RunFault>
         Err(WordFault::Usage) => Err(RunFault::Usage),
         Err(WordFault::Memory) => Err(RunFault::Memory),
     }
-}
-
-// Renders the graph's frames and puts them.
-fn render<R: Threads + Wait + Clock + Sync, L: Library, D: Depot, O: Sink, P: Pace>(
-    rt: &R,
-    alloc: Global,
-    pace: &P,
-    order: &Order,
-    library: &mut L,
-    depot: &mut D,
-    out: &mut O,
-) -> Result<(), RunFault>
-    ensures accepted { L.tells → OnOk result (IsAccepted (Some order.now) (L.file library.old)) }
-    ensures done { L.tells → D.tells
-        → OnOk result (HasPutAll (Some order.now) (L.file library.old) (D.file depot.old) (D.file depot.new)) }
-    ensures told { L.tells → O.tells
-        → OnOk result (HasTold (Some order.now) (L.file library.old) (O.written out.old) (O.written out.new)) }
-    ensures quiet_library { OnOk result
-        (IsQuiet (L.faults library.old) (L.faults library.new) (L.last library.old) (L.last library.new)) }
-    ensures quiet_depot { OnOk result
-        (IsQuiet (D.faults depot.old) (D.faults depot.new) (D.last depot.old) (D.last depot.new)) }
-    ensures rose { IfErr result
-        (λ e. Rose (L.faults library.old, L.faults library.new, L.last library.new)
-        (D.faults depot.old, D.faults depot.new, D.last depot.new) (O.faults out.old, O.faults out.new) e) }
-    ensures cause { L.tells → IfErr result (λ e. Cause (Some order.now) (L.file library.old) e) }
-    ensures leaves { L.tells → D.tells
-        → IfErr result (λ e. Leaves (Some order.now) (L.file library.old) e (D.file depot.old) (D.file depot.new)) }
-    ensures report { O.tells → IfErr result (λ e. LeavesReport e (O.written out.old) (O.written out.new)) }
-    ensures own_report { L.tells → O.tells
-        → IfErr result
-        (λ e. LeavesOwnReport (Some order.now) (L.file library.old) e (O.written out.old) (O.written out.new)) }
-    ensures library { let last = L.last library.new in
-        IfErr result (λ e. LeavesLibrary e (L.faults library.old) (L.faults library.new) (L.last library.old) last) }
-    ensures depot { let last = D.last depot.new in
-        IfErr result (λ e. LeavesDepot e (D.faults depot.old) (D.faults depot.new) (D.last depot.old) last) }
-    ensures words { IfErr result (λ e. e ≢ OtherWords) }
-    ensures out { IfErr result (λ e. LeavesOut e (O.faults out.old) (O.faults out.new)) }
-    ensures quiet_out { OnOk result (O.faults out.new ≡ O.faults out.old) }
-{
-    let graph = graph_of(alloc, &order.graph, library)?;
-    let first = first_of(&graph, order);
-    let last = last_of(&graph, order);
-    let store = sources_of(alloc, &graph, first, last, library)?;
-    put_frames(rt, alloc, pace, order, graph, store, first, last, depot)?;
-    report_frames(alloc, out, frame_count(first, last))?;
-    Ok(())
-}
-
-// Accepts the graph, and reports what a render of it takes.
-fn check<L: Library, O: Sink>(
-    alloc: Global,
-    order: &Order,
-    library: &mut L,
-    out: &mut O,
-) -> Result<(), RunFault>
-    ensures checked { L.tells → OnOk result (Job (Some order.now) (L.file library.old)) }
-    ensures told { L.tells → O.tells
-        → OnOk result (HasChecked (Some order.now) (L.file library.old) (O.written out.old) (O.written out.new)) }
-    ensures quiet { OnOk result
-        (IsQuiet (L.faults library.old) (L.faults library.new) (L.last library.old) (L.last library.new)) }
-    ensures rose { (depot : ℕ × ℕ × List ℕ) → IfErr result
-        (λ e. Rose (L.faults library.old, L.faults library.new, L.last library.new) depot
-        (O.faults out.old, O.faults out.new) e) }
-    ensures cause { IfErr result (λ e. CheckCause L.tells (Some order.now) (L.file library.old) e) }
-    ensures report { O.tells
-        → IfErr result (λ e. LeavesCheckReport L.tells (Some order.now) (L.file library.old) e
-        (O.written out.old) (O.written out.new)) }
-    ensures library { let last = L.last library.new in
-        IfErr result (λ e. LeavesLibrary e (L.faults library.old) (L.faults library.new) (L.last library.old) last) }
-    ensures words { IfErr result (λ e. e ≢ OtherWords) }
-    ensures out { IfErr result (λ e. LeavesOut e (O.faults out.old) (O.faults out.new)) }
-    ensures quiet_out { OnOk result (O.faults out.new ≡ O.faults out.old) }
-{
-    let graph = graph_of(alloc, &order.graph, library)?;
-    let first = first_of(&graph, order);
-    let last = last_of(&graph, order);
-    let report = Report::Check {
-        nodes: node_count(&graph),
-        frames: frame_count(first, last),
-        wanted: count_wanted(alloc, &graph, first, last)?,
-    };
-    report_lines(alloc, out, &report)?;
-    Ok(())
-}
-
-// Renders what is made of a number, in memory, and reports what was put.
-fn bench<R: Threads + Wait + Clock + Sync, O: Sink, P: Pace>(
-    rt: &R,
-    alloc: Global,
-    pace: &P,
-    order: &Order,
-    out: &mut O,
-) -> Result<(), RunFault>
-    requires { IsTrue (is_bench_number order.now.graph) }
-    ensures benched { OnOk result (IsAccepted (Some order.now) (made_of order.now.graph)) }
-    ensures told { O.tells → OnOk result (HasBenched (Some order.now) (O.written out.old) (O.written out.new)) }
-    ensures rose { (library depot : ℕ × ℕ × List ℕ) → IfErr result
-        (λ e. Rose library depot (O.faults out.old, O.faults out.new) e) }
-    ensures cause { IfErr result (λ e. BenchCause (Some order.now) e) }
-    ensures report { O.tells
-        → IfErr result (λ e. LeavesBenchReport (Some order.now) e (O.written out.old) (O.written out.new)) }
-    ensures words { IfErr result (λ e. e ≢ OtherWords) }
-    ensures out { IfErr result (λ e. LeavesOut e (O.faults out.old) (O.faults out.new)) }
-    ensures quiet_out { OnOk result (O.faults out.new ≡ O.faults out.old) }
-{
-    let report = bench_report(rt, alloc, pace, order)?;
-    report_lines(alloc, out, &report)?;
-    Ok(())
-}
-
-// What a bench reports. The graph that is made is rendered as every other.
-fn bench_report<R: Threads + Wait + Clock + Sync, P: Pace>(
-    rt: &R,
-    alloc: Global,
-    pace: &P,
-    order: &Order,
-) -> Result<Report, RunFault>
-    requires { IsTrue (is_bench_number order.now.graph) }
-    ensures ok { IfOk result (λ report. IsBenchReport (Some order.now) (report_text report)) }
-    ensures cause { IfErr result (λ e. IsMakingFault (Some order.now) e) }
-{
-    let mut library = made_of(alloc, &order.graph)?;
-    let mut depot = SureDepot::new(alloc);
-    let graph = graph_of(alloc, &order.graph, &mut library)?;
-    let first = first_of(&graph, order);
-    let last = last_of(&graph, order);
-    let names = file_names(alloc, &graph, first, last)?;
-    let store = sources_of(alloc, &graph, first, last, &mut library)?;
-    put_frames(
-        rt, alloc, pace, order, graph, store, first, last, &mut depot,
-    )?;
-    let totals = totals_of(&names, &depot);
-    Ok(Report::Bench {
-        frames: frame_count(first, last),
-        size: totals.size,
-        sum: totals.sum,
-    })
 }

@@ -16,7 +16,7 @@ returns-in-Ok-clause-ok g c = λ tells.
     let pattern : c.graph.result.now.file ≡ h.file = ap (λ (s : Graph). s.file) c.graph.ensures.shown in
     let name : c.text.result.now ≡ file_name h c.args.frame =
     c.text.ensures ∙ c.in_ok-name.ensures.value ∙ ap (λ (p : List ℕ). name_of p c.args.frame) pattern in
-    let bytes : c.deref.result.now ≡ file_text h (images_in c.args.scene.now.store) c.args.frame = c.deref.ensures.value ∙ c.in_ok-write_text.ensures.text in
+    let bytes : c.deref.result.now ≡ file_text h (images_in c.args.scene.now.store) c.args.frame = c.deref.ensures.value ∙ c.in_ok-count.ensures.text in
     subst (λ (n : List ℕ). SameFiles (with_file n (file_text h (images_in c.args.scene.now.store) c.args.frame) old) new) name
     (subst (λ (b : List ℕ). SameFiles (with_file c.text.result.now b old) new) bytes
     (with_set c.text.result.now c.deref.result.now old new (c.in-Ok.ensures.ok tells)))

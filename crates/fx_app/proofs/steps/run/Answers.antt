@@ -1,7 +1,8 @@
-use Rattle.std.proofs.Common.{map, string_bytes}
-use Rattle.fx_words.specs.declared.order.Mode.TheVariants.{Render, Check, Bench}
+use Rattle.std.proofs.Common.{inr, map, string_bytes}
+use Rattle.fx_words.specs.declared.order.Mode.TheVariants.{Render, Check, Bench, Migrate}
 use Rattle.fx_words.specs.Order.{order_of}
 use Rattle.fx_app.proofs.StepsLemmas.{only_memory, ends_by_memory}
+use Rattle.fx_app.proofs.MigrateLemmas as migrate
 use Rattle.fx_app.proofs.ModeLemmas as mode
 use Rattle.fx_app.proofs.steps.run.Goals as goal
 
@@ -29,7 +30,7 @@ returns-in-Ok-clause-bench_reports g c = λ bench tells done. c.in-Ok.ensures.be
 pub returns-in-Ok-clause-refuses_graph : goal.returns-in-Ok-clause-refuses_graph
 returns-in-Ok-clause-refuses_graph g c = λ other told bad fetched.
     absurd (mode.not_refused g.L.Library.tells (order_of (map string_bytes c.args.words.now)) (g.L.Library.file c.args.library.now) other told bad
-    c.in-Ok.ensures.accepted c.in-Ok.ensures.checked)
+    c.in-Ok.ensures.accepted c.in-Ok.ensures.checked c.in-Ok.ensures.migratable)
 
 pub returns-in-Err-clause-completes : goal.returns-in-Err-clause-completes
 returns-in-Err-clause-completes g c = λ render told known fetched wrote reported.
@@ -104,3 +105,60 @@ returns-in-Err-clause-refuses_graph g c = λ other told bad fetched.
     (depot.faults c.args.depot.now, depot.faults c.outcome.new.depot, depot.last c.outcome.new.depot)
     (sink.faults c.args.out.now, sink.faults c.outcome.new.out)
     c.tell.result c.in-Err.fault c.tell.ensures.status other told bad c.in-Err.ensures.cause c.in-Err.ensures.rose fetched
+
+pub returns-in-Ok-clause-migratable : goal.returns-in-Ok-clause-migratable
+returns-in-Ok-clause-migratable g c = λ migrates told done. c.in-Ok.ensures.migratable migrates told
+
+pub returns-in-Ok-clause-migrated : goal.returns-in-Ok-clause-migrated
+returns-in-Ok-clause-migrated g c = λ migrates told put done. c.in-Ok.ensures.migrated migrates told put
+
+pub returns-in-Ok-clause-migrate_reports : goal.returns-in-Ok-clause-migrate_reports
+returns-in-Ok-clause-migrate_reports g c = λ migrates told tells done. c.in-Ok.ensures.migrate_told migrates told tells
+
+pub returns-in-Ok-clause-refuses_slash : goal.returns-in-Ok-clause-refuses_slash
+returns-in-Ok-clause-refuses_slash g c = λ migrates told bad fetched.
+    absurd (migrate.not_bad (order_of (map string_bytes c.args.words.now)) (g.L.Library.file c.args.library.now)
+    (c.in-Ok.ensures.migratable migrates told) (inr bad))
+
+pub returns-in-Err-clause-migrate_completes : goal.returns-in-Err-clause-migrate_completes
+returns-in-Err-clause-migrate_completes g c = λ migrates told known fetched wrote reported.
+    let library = g.L.Library in
+    let depot = g.D.Depot in
+    let sink = g.O.Sink in
+    ends_by_memory c.tell.result c.in-Err.fault c.tell.ensures.status
+    (migrate.only_migrate_memory library.tells (order_of (map string_bytes c.args.words.now)) (library.file c.args.library.now)
+    (library.faults c.args.library.now, library.faults c.outcome.new.library, library.last c.outcome.new.library)
+    (depot.faults c.args.depot.now, depot.faults c.outcome.new.depot, depot.last c.outcome.new.depot)
+    (sink.faults c.args.out.now, sink.faults c.outcome.new.out)
+    c.in-Err.fault told known (mode.cause_at Migrate library.tells (order_of (map string_bytes c.args.words.now)) (library.file c.args.library.now) c.in-Err.fault migrates c.in-Err.ensures.cause)
+    c.in-Err.ensures.rose fetched wrote reported)
+
+pub returns-in-Err-clause-migrate_statuses : goal.returns-in-Err-clause-migrate_statuses
+returns-in-Err-clause-migrate_statuses g c = λ migrates.
+    let library = g.L.Library in
+    migrate.migrate_answers library.tells (order_of (map string_bytes c.args.words.now)) (library.file c.args.library.now) c.tell.result c.in-Err.fault c.tell.ensures.status
+    (mode.cause_at Migrate library.tells (order_of (map string_bytes c.args.words.now)) (library.file c.args.library.now) c.in-Err.fault migrates c.in-Err.ensures.cause)
+
+pub returns-in-Err-clause-migrate_reads : goal.returns-in-Err-clause-migrate_reads
+returns-in-Err-clause-migrate_reads g c = λ migrates four.
+    let library = g.L.Library in
+    let depot = g.D.Depot in
+    let sink = g.O.Sink in
+    migrate.migrate_read library.tells (order_of (map string_bytes c.args.words.now)) (library.file c.args.library.now) c.tell.result c.in-Err.fault
+    (library.faults c.args.library.now) (library.faults c.outcome.new.library) (library.last c.outcome.new.library)
+    (depot.faults c.args.depot.now, depot.faults c.outcome.new.depot, depot.last c.outcome.new.depot)
+    (sink.faults c.args.out.now, sink.faults c.outcome.new.out) c.tell.ensures.status
+    (mode.cause_at Migrate library.tells (order_of (map string_bytes c.args.words.now)) (library.file c.args.library.now) c.in-Err.fault migrates c.in-Err.ensures.cause)
+    c.in-Err.ensures.rose four
+
+pub returns-in-Err-clause-refuses_slash : goal.returns-in-Err-clause-refuses_slash
+returns-in-Err-clause-refuses_slash g c = λ migrates told bad fetched.
+    let library = g.L.Library in
+    let depot = g.D.Depot in
+    let sink = g.O.Sink in
+    migrate.slash_answers library.tells (order_of (map string_bytes c.args.words.now)) (library.file c.args.library.now) c.tell.result c.in-Err.fault
+    (library.faults c.args.library.now, library.faults c.outcome.new.library, library.last c.outcome.new.library)
+    (depot.faults c.args.depot.now, depot.faults c.outcome.new.depot, depot.last c.outcome.new.depot)
+    (sink.faults c.args.out.now, sink.faults c.outcome.new.out) c.tell.ensures.status told bad
+    (mode.cause_at Migrate library.tells (order_of (map string_bytes c.args.words.now)) (library.file c.args.library.now) c.in-Err.fault migrates c.in-Err.ensures.cause)
+    c.in-Err.ensures.rose fetched

@@ -7,7 +7,7 @@ use Rattle.fx_app.specs.Check.{check_report}
 use Rattle.fx_app.specs.Graphs.{graph_under}
 use Rattle.fx_app.specs.Run.{Job}
 use Rattle.fx_app.proofs.ModeLemmas as mode
-use Rattle.fx_app.proofs.steps.check.Goals as goal
+use Rattle.fx_app.proofs.check.check.Goals as goal
 
 pub returns-in_err-report_lines-clause-cause : goal.returns-in_err-report_lines-clause-cause
 returns-in_err-report_lines-clause-cause g c =

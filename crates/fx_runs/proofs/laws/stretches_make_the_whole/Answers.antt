@@ -1,5 +1,5 @@
-use Rattle.fx_app.proofs.SplitLemmas.{one_run, stretches_make_whole, want_no_more}
-use Rattle.fx_app.proofs.laws.stretches_make_the_whole.Goals as goal
+use Rattle.fx_runs.proofs.SplitLemmas.{one_run, stretches_make_whole, want_no_more}
+use Rattle.fx_runs.proofs.laws.stretches_make_the_whole.Goals as goal
 
 pub returns-clause-runs : goal.returns-clause-runs
 returns-clause-runs c asked library old new put =

@@ -22,7 +22,7 @@ use Rattle.fx_pixel.specs.Pixel.{IsOfDepth}
 use Rattle.fx_bench.specs.Generator.{state, draw}
 use Rattle.fx_bench.specs.Frames.{frame_samples, samples, header, frame_text}
 use Rattle.fx_bench.proofs.DrawLemmas.{samples_none, samples_more}
-use Rattle.fx_app.specs.Made.{made_pixel, made_image}
+use Rattle.fx_runs.specs.Made.{made_pixel, made_image}
 
 -- ---- the header
 
@@ -140,7 +140,7 @@ module _ (number f : ℕ) where
       ∙ ap (λ xs. pam.header 320 240 RgbAlpha 255 ++ xs) (at first frame_samples (240 * 1280) (omega arith) ∙ sym (rows_so_far 240 (omega arith)))
 
   -- and can be read
-  pub can_be_read : CanBeRead RgbAlpha 4096 image
+  pub can_be_read : CanBeRead RgbAlpha 8192 image
   can_be_read = record {
     width = 320;
     height = 240;
@@ -158,6 +158,6 @@ module _ (number f : ℕ) where
       small : (x y : ℕ) → IsOfDepth Byte (made_pixel number f x y)
       small x y = (below first _, below first _, below first _, below first _)
 
-  pub reads : IsPam (frame_text number f) 4096 image
-  reads = subst (λ (bytes : List ℕ). IsPam bytes 4096 image) (append-nil (pam.pam_text RgbAlpha image) ∙ sym text_is)
-      (written_reads_back RgbAlpha 4096 image [] can_be_read)
+  pub reads : IsPam (frame_text number f) 8192 image
+  reads = subst (λ (bytes : List ℕ). IsPam bytes 8192 image) (append-nil (pam.pam_text RgbAlpha image) ∙ sym text_is)
+      (written_reads_back RgbAlpha 8192 image [] can_be_read)

@@ -11,7 +11,7 @@ use Rattle.fx_pam.specs.Text.{pam_text}
 use Rattle.fx_pam.specs.Reading.{IsPam}
 use Rattle.fx_bench.specs.Generator.{state, draw}
 use Rattle.fx_bench.specs.Frames.{frame_samples, frame_text}
-use Rattle.fx_app.specs.declared.graph.TheConstants.{GRAPH_SIDE}
+use Rattle.fx_base.specs.declared.limits.TheConstants.{MOST_SIDE}
 
 -- sample k of frame f, from 1
 abbrev pub made_sample : ℕ → ℕ → ℕ → ℕ
@@ -37,4 +37,4 @@ made_image number f =
 abbrev pub FramesArePam : Type 0
 FramesArePam =
     (number f : ℕ) → (frame_text number f ≡ pam_text RgbAlpha (made_image number f))
-    × IsPam (frame_text number f) GRAPH_SIDE (made_image number f)
+    × IsPam (frame_text number f) MOST_SIDE (made_image number f)

@@ -12,7 +12,7 @@ use Rattle.fx_app.specs.Files.{file_name}
 use Rattle.fx_app.specs.Graphs.{graph_under, frame_count}
 use Rattle.fx_app.specs.Steps.{bytes_under, GraphCause, GraphFetch, SourceCause, HasSources}
 use Rattle.fx_app.proofs.BenchLemmas.{are_short, bytes_put, bench_graph, bench_store, bench_is}
-use Rattle.fx_app.proofs.steps.bench_report.Goals as goal
+use Rattle.fx_app.proofs.bench.bench_report.Goals as goal
 
 made_as : (inside word : List ℕ) (library : Files) → inside ≡ word → ((name : List ℕ) → library name ≡ made_of inside name)
     → library ≡ made_of word

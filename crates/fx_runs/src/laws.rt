@@ -1,8 +1,8 @@
 //! What is known of every run: a range that is rendered in stretches has the files of one run. And what is known of the
 //! frames that are made of a number.
 ghost use Rattle.fx_scene.specs.Scenes.{graph_shown};
-ghost use Rattle.fx_app.specs.Made.{FramesArePam};
-ghost use Rattle.fx_app.specs.Split.{StretchesMakeWhole, StretchesWantNoMore, RunsAreSuch};
+ghost use Rattle.fx_runs.specs.Made.{FramesArePam};
+ghost use Rattle.fx_runs.specs.Stretches.{StretchesMakeWhole, StretchesWantNoMore, RunsAreSuch};
 
 use fx_graph::Graph;
 use fx_scene::laws::value_depends_on_reach;

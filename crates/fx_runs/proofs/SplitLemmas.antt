@@ -27,10 +27,10 @@ use Rattle.fx_scene.proofs.WantLemmas.{contains_of}
 use Rattle.fx_shipped.specs.Shipped.{meaning_of}
 use Rattle.fx_app.specs.Graphs.{Graph, frame_count}
 use Rattle.fx_app.specs.Files.{AreImages, IsFileOf, file_name, file_text}
-use Rattle.fx_app.specs.Split.{AreStretches, HasRun, HaveRun, IsIn, Stretch, StretchesMakeWhole, StretchesWantNoMore}
-use Rattle.fx_app.specs.declared.graph.TheConstants.{GRAPH_SIDE}
-use Rattle.fx_app.proofs.SplitFiles.{IsOf, hit, miss, seek}
-use Rattle.fx_app.proofs.SplitImages.{frame_image, same_image}
+use Rattle.fx_runs.specs.Stretches.{AreStretches, HasRun, HaveRun, IsIn, Stretch, StretchesMakeWhole, StretchesWantNoMore}
+use Rattle.fx_base.specs.declared.limits.TheConstants.{MOST_SIDE}
+use Rattle.fx_runs.proofs.SplitFiles.{IsOf, hit, miss, seek}
+use Rattle.fx_runs.proofs.SplitImages.{frame_image, same_image}
 use Rattle.fx_app.proofs.WantedLemmas.{one_name}
 
 -- ---- what is wanted
@@ -130,7 +130,7 @@ images_are library ws images are n f image is = by (seek_entry ws n f)
     by (inl l) =
         let has = has_file library ws images are n f (lists_of ws n f l) in
         let same : has.image ≡ image = same_Some has.image image (sym has.is ∙ is) in
-        subst (λ (i : Image). IsFrameImage i) same (frame_image has.file.bytes GRAPH_SIDE has.image has.file.reads (omega arith))
+        subst (λ (i : Image). IsFrameImage i) same (frame_image has.file.bytes MOST_SIDE has.image has.file.reads (omega arith))
     by (inr none) = absurd (none-some image (sym (are.only n f (λ l. none (of_lists ws n f l))) ∙ is))
 
 -- one file gives both the same image
@@ -141,7 +141,7 @@ same_file library name other a b same p q =
     same_Some p.file.bytes q.file.bytes (sym p.file.told ∙ ap library same ∙ q.file.told) in
     subst (λ (o : Option Image). scene.AreSame o b) (sym p.is)
     (subst (λ (o : Option Image). scene.AreSame (Some p.image) o) (sym q.is)
-    (same_image q.file.bytes GRAPH_SIDE p.image q.image (subst (λ bs. IsPam bs GRAPH_SIDE p.image) bytes p.file.reads) q.file.reads))
+    (same_image q.file.bytes MOST_SIDE p.image q.image (subst (λ bs. IsPam bs MOST_SIDE p.image) bytes p.file.reads) q.file.reads))
 
 -- ---- runs over stretches of a whole
 

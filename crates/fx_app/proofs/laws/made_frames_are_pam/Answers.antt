@@ -1,5 +1,0 @@
-use Rattle.fx_app.proofs.FrameLemmas.{text_is, reads}
-use Rattle.fx_app.proofs.laws.made_frames_are_pam.Goals as goal
-
-pub returns : goal.returns
-returns c = λ number f. (text_is number f, reads number f)

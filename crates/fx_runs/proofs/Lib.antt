@@ -1,0 +1,4 @@
+pub mod FrameLemmas
+pub mod SplitFiles
+pub mod SplitImages
+pub mod SplitLemmas
