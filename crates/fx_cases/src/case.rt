@@ -77,6 +77,19 @@ fn add_numbers(list: &Value, numbers: &mut Vec<u64>) -> Result<(), CaseFault> {
     Ok(())
 }
 
+// A report, and how many runs one after another are to write it.
+fn repeated(item: &Value) -> Result<(u64, &str), CaseFault> {
+    let pair = item.as_array().map(|pair| (pair.first(), pair.get(1)));
+    let (times, text) = match pair {
+        Some((Some(times), Some(text))) => (times.as_u64(), text.as_str()),
+        _ => (Some(1), item.as_str()),
+    };
+    match (times, text) {
+        (Some(times), Some(text)) => Ok((times, text)),
+        _ => Err(CaseFault::Form("reports")),
+    }
+}
+
 // A name, and the bytes of a file.
 fn named(alloc: Global, name: &str, bytes: Vec<u8>) -> Result<(Name, Vec<u8>), AllocError> {
     let name = Name::of(String::from_str(alloc, name)?);
@@ -221,7 +234,8 @@ impl<'v> Case<'v> {
     /// What it is to leave.
     pub(crate) fn wanted(self) -> Result<Wanted<'v>, CaseFault> {
         let value = self.own.get("wanted").ok_or(CaseFault::Form("wanted"))?;
-        check_members(value, &["status", "out", "err", "files"], "wanted")?;
+        let keys = ["status", "out", "reports", "err", "files"];
+        check_members(value, &keys, "wanted")?;
         Ok(Wanted {
             value,
             frames: self.shared.get("frames"),
@@ -248,6 +262,23 @@ impl<'v> Wanted<'v> {
             Some(None) => Err(CaseFault::Form(part)),
             None => Ok(None),
         }
+    }
+
+    /// The report that run `number` of the case is to write, counted from 0: that of this run where the case has one for
+    /// each, else the one of all.
+    pub(crate) fn report(self, number: u64) -> Result<Option<&'v str>, CaseFault> {
+        let Some(reports) = self.value.get("reports") else {
+            return self.text("out");
+        };
+        let mut left = number;
+        for item in reports.as_array().ok_or(CaseFault::Form("reports"))? {
+            let (times, text) = repeated(item)?;
+            match left.checked_sub(times) {
+                Some(rest) => left = rest,
+                None => return Ok(Some(text)),
+            }
+        }
+        Err(CaseFault::Form("reports"))
     }
 
     /// The names of the files that are told of, each with what is said of it.

@@ -50,9 +50,9 @@ fn each_is_right<R: Threads + Wait + Clock + Print + Sync>(
     case: Case<'_>,
     again: &[Value],
 ) -> Result<bool, CaseFault> {
-    let mut right = is_right(rt, alloc, file, case, None)?;
-    for behind in again {
-        right &= is_right(rt, alloc, file, case, Some(behind))?;
+    let mut right = is_right(rt, alloc, file, case, 0, None)?;
+    for (place, behind) in again.iter().enumerate() {
+        right &= is_right(rt, alloc, file, case, place as u64 + 1, Some(behind))?;
     }
     Ok(right)
 }

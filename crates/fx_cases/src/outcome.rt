@@ -2,7 +2,7 @@
 use crate::case::{Case, Wanted};
 use crate::fault::CaseFault;
 use crate::pace::CasePace;
-use crate::tell::{At, bytes_are, is_kept, status_is, text_is};
+use crate::tell::{At, bytes_are, is_kept, report_is, status_is, text_is};
 use fx_app::run;
 use fx_outside::{MemoryDepot, MemorySink};
 use serde_json::Value;
@@ -74,17 +74,18 @@ fn files_are<R: Print>(
     Ok(right)
 }
 
-// Whether a run left what is wanted.
+// Whether run `number` of a case left what is wanted.
 fn outcome_is<R: Print>(
     rt: &R,
     alloc: Global,
     at: &At<'_>,
     wanted: Wanted<'_>,
+    number: u64,
     outcome: &Outcome,
 ) -> Result<bool, CaseFault> {
     let status = status_is(rt, at, wanted.status()?, outcome.status);
-    let out = match wanted.text("out")? {
-        Some(text) => text_is(rt, alloc, at, "out", text, outcome.out.bytes())?,
+    let out = match wanted.report(number)? {
+        Some(text) => report_is(rt, alloc, at, text, outcome.out.bytes())?,
         None => true,
     };
     let line = wanted.text("err")?.unwrap_or("");
@@ -93,12 +94,14 @@ fn outcome_is<R: Print>(
     Ok(status & out & err & files & is_kept(rt, at, outcome.paced))
 }
 
-/// Runs a case with these words behind its own. Whether it left what is wanted; each part that is other is told.
+/// Runs a case, as its run `number`, with these words behind its own. Whether it left what is wanted; each part that is
+/// other is told.
 pub(crate) fn is_right<R: Threads + Wait + Clock + Print + Sync>(
     rt: &R,
     alloc: Global,
     file: &str,
     case: Case<'_>,
+    number: u64,
     behind: Option<&Value>,
 ) -> Result<bool, CaseFault> {
     let words = case.words(alloc, behind)?;
@@ -109,5 +112,5 @@ pub(crate) fn is_right<R: Threads + Wait + Clock + Print + Sync>(
         words: &words,
     };
     let outcome = outcome_of(rt, alloc, case, &words)?;
-    outcome_is(rt, alloc, &at, case.wanted()?, &outcome)
+    outcome_is(rt, alloc, &at, case.wanted()?, number, &outcome)
 }

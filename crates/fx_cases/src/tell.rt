@@ -75,6 +75,37 @@ pub(crate) fn text_is<R: Print>(
     Ok(false)
 }
 
+// Whether a text is the one that is wanted, in which `*` stands for a number.
+fn is_like(wanted: &[u8], found: &[u8]) -> bool {
+    let mut rest = found;
+    for byte in wanted {
+        let taken = match rest.first() {
+            _ if *byte == b'*' => rest.iter().take_while(|b| b.is_ascii_digit()).count(),
+            Some(first) if first == byte => 1,
+            _ => 0,
+        };
+        if taken == 0 {
+            return false;
+        }
+        rest = &rest[taken..];
+    }
+    rest.is_empty()
+}
+
+/// Whether a report is the one that is wanted, in which `*` stands for a number.
+pub(crate) fn report_is<R: Print>(
+    rt: &R,
+    alloc: Global,
+    at: &At<'_>,
+    wanted: &str,
+    found: &[u8],
+) -> Result<bool, AllocError> {
+    if is_like(wanted.as_bytes(), found) {
+        return Ok(true);
+    }
+    text_is(rt, alloc, at, "out", wanted, found)
+}
+
 // How many bytes two files begin with both.
 fn same_front(one: &[u8], other: &[u8]) -> usize {
     let least = one.len().min(other.len());

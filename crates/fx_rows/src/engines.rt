@@ -1,15 +1,12 @@
 //! The picture of a frame by whole frames, and by tiles, over the effects of the program.
-ghost use Rattle.std.specs.Prelude.{◌≡◌, ◌≤◌, ◌+◌, [], None, ℕ, All, IfOk, OnOk, length, vec_len};
-ghost use Rattle.fx_app.specs.Crews.{IsSpare};
+ghost use Rattle.std.specs.Prelude.{◌≡◌, ◌≤◌, ◌+◌, None, IfOk, length};
 ghost use Rattle.fx_eval.specs.Flights.{IsIdle};
 ghost use Rattle.fx_life.specs.Posts.{HasLife};
-ghost use Rattle.fx_shipped.specs.Shipped.{all, number_of};
-ghost use Rattle.fx_tile.specs.Moments.{IsFree};
+ghost use Rattle.fx_shipped.specs.Shipped.{number_of};
 ghost use Rattle.fx_turn.specs.Seats.{all_parts};
 
 use fx_base::{Grid, Memory};
 use fx_core::{Core, Permit};
-use fx_directory::Directory;
 use fx_eval::frame;
 use fx_gate::{GateSeat, Gates};
 use fx_graph::{Graph, accept};
@@ -18,9 +15,9 @@ use fx_life::Life;
 use fx_outside::{FreePace, SureLibrary};
 use fx_scene::{Key, Scene, wants};
 use fx_seq::Store;
-use fx_shipped::Shipped;
+use fx_shipped::{Shipped, all_effects};
 use fx_text::{GraphFault, read_graph};
-use fx_tile::{Rendered, SceneName, Shared, TileCount, TileSeat, render_moment};
+use fx_tile::{Rendered, Shared, TileCount, render_moment};
 use std::alloc::Global;
 use std::rt::Clock;
 use std::sync::Wait;
@@ -55,40 +52,6 @@ fn scene_of(
         .ok()
         .ok_or("a frame is refused")?;
     Ok(Scene::new(graph, store, 7))
-}
-
-// Each effect once, by its number.
-fn all_effects(alloc: Global) -> Result<Vec<Shipped>, Memory>
-    ensures { IfOk result (λ effects. effects.items ≡ all) }
-{
-    Ok(vec![in alloc;
-        Shipped::Solid,
-        Shipped::Checker,
-        Shipped::Ramp,
-        Shipped::Grain,
-        Shipped::Invert,
-        Shipped::Gain,
-        Shipped::Premult,
-        Shipped::Unpremult,
-        Shipped::Shuffle,
-        Shipped::Saturation,
-        Shipped::Posterise,
-        Shipped::Boxblur,
-        Shipped::Erode,
-        Shipped::Dilate,
-        Shipped::Convolve3,
-        Shipped::Crop,
-        Shipped::Translate,
-        Shipped::Mirror,
-        Shipped::Timeoffset,
-        Shipped::Frameblend,
-        Shipped::Framediff,
-        Shipped::Echo,
-        Shipped::Dissolve,
-        Shipped::Wipe,
-        Shipped::Merge,
-        Shipped::Keymix,
-    ]?)
 }
 
 // The life of a scene's graph over the frames that the tests render.
@@ -144,72 +107,6 @@ fn grid_of(side: u32) -> Result<Grid, Fail> {
     Ok(Grid { side })
 }
 
-// What the workers share, for the scene whose permit this is, and a seat to split theirs off from.
-fn shared_by(
-    alloc: Global,
-    scene: &Scene<Shipped>,
-    permit: Permit,
-    grid: Grid,
-    cache: u32,
-) -> Result<(Shared<Shipped>, TileSeat<Shipped>), Memory>
-    ensures name { IfOk result (λ r. r.0.directory.name.scene.value ≡ scene.now) }
-    ensures row { IfOk result (λ r. r.1.directory.row ≡ r.0.directory) }
-    ensures free { IfOk result (λ r. r.1.directory.aloft ≡ []) }
-    ensures gates { IfOk result (λ r. r.0.gates.gates ≡ 64 + length scene.now.graph.nodes) }
-    ensures gate_seat { IfOk result (λ r. (r.1.gates.row ≡ r.0.gates) × (r.1.gates.turn ≡ None)) }
-    ensures parts { IfOk result (λ r. (r.1.directory.parts ≡ all_parts) × (r.1.gates.parts ≡ all_parts)) }
-{
-    let name = SceneName::of(scene);
-    let Ok((directory, directory_seat)) = Directory::new(alloc, name, permit, cache) else {
-        return Err(Memory);
-    };
-    let (gates, gate_seat) = gates_for(alloc, scene.graph())?;
-    let shared = Shared {
-        directory,
-        gates,
-        grid,
-    };
-    let first = TileSeat {
-        directory: directory_seat,
-        gates: gate_seat,
-    };
-    Ok((shared, first))
-}
-
-// So many seats, split off from this one.
-fn seats_of(
-    alloc: Global,
-    shared: &Shared<Shipped>,
-    first: &mut TileSeat<Shipped>,
-    workers: u32,
-) -> Result<Vec<TileSeat<Shipped>>, Memory>
-    requires few { workers ≤ 64 }
-    requires spare { IsSpare shared.now 65 first.old }
-    ensures { IfOk result (λ seats. (vec_len seats ≡ workers) × All (IsFree shared.now) seats.items) }
-{
-    let mut seats = Vec::new(alloc);
-    for _ in 0..workers {
-        seats.push(seat_of(alloc, shared, first)?)?;
-    }
-    Ok(seats)
-}
-
-// One more seat, split off from this one.
-fn seat_of(
-    alloc: Global,
-    shared: &Shared<Shipped>,
-    first: &mut TileSeat<Shipped>,
-) -> Result<TileSeat<Shipped>, Memory>
-    requires { IsSpare shared.now 2 first.old }
-    ensures seat { IfOk result (IsFree shared.now) }
-    ensures left { (count : ℕ) → IsSpare shared.now (count + 1) first.old
-        → OnOk result (IsSpare shared.now count first.new) }
-{
-    let directory = shared.directory.split(alloc, &mut first.directory)?;
-    let gates = shared.gates.split(alloc, &mut first.gates)?;
-    Ok(TileSeat { directory, gates })
-}
-
 /// The picture of a frame by tiles, and what became of them.
 pub(crate) fn by_tiles<R: Threads + Wait + Clock + Sync>(
     rt: &R,
@@ -224,8 +121,8 @@ pub(crate) fn by_tiles<R: Threads + Wait + Clock + Sync>(
 {
     let (scene, permit) = scene_of(alloc, library, text, at)?;
     let grid = grid_of(engine.side)?;
-    let (shared, mut first) = shared_by(alloc, &scene, permit, grid, engine.cache)?;
-    let seats = seats_of(alloc, &shared, &mut first, engine.workers)?;
+    let (shared, mut first) = Shared::new(alloc, &scene, permit, engine.cache, grid)?;
+    let seats = shared.split(alloc, &mut first, engine.workers)?;
     let life = life_of(alloc, &scene)?;
     let at = i64::from(at);
     let made = render_moment(rt, alloc, &FreePace, &scene, &life, &shared, seats, at);

@@ -38,6 +38,21 @@ fn room_keeps_the_old_cells(rt: HostRuntime) -> Result<(), Fail> {
     Ok(())
 }
 
+#[test]
+fn room_keeps_the_old_bytes(rt: HostRuntime) -> Result<(), Fail> {
+    let alloc = rt.alloc();
+    let mut hold = Gates::free(alloc);
+    let workspace = hold.workspace();
+    workspace.byte_room(alloc, 1)?;
+    workspace.bytes.clear();
+    workspace.bytes.push(7)?;
+    workspace.byte_room(alloc, 3)?;
+    workspace.byte_room(alloc, 1)?;
+    same(&rt, workspace.bytes.as_slice(), [7, 0, 0].as_slice());
+    same(&rt, workspace.cells.len(), 0);
+    Ok(())
+}
+
 // One cell in the workspace of a gate.
 fn make_room<R: Wait + Clock>(
     rt: &R,

@@ -11,6 +11,8 @@ mod directory;
 #[cfg(test)]
 mod gate;
 #[cfg(test)]
+mod grouped;
+#[cfg(test)]
 mod image;
 #[cfg(test)]
 mod kernel;

@@ -18,7 +18,7 @@ const WHOLE: &str =
 const SHORT: &str = "0123456789012345678901234567890123456789012345678901234567890123";
 
 // What is read of bytes: the number of nodes, or the code and the path.
-fn told(alloc: Global, bytes: &[u8]) -> Result<String, AllocError> {
+pub(crate) fn told(alloc: Global, bytes: &[u8]) -> Result<String, AllocError> {
     match read_graph(alloc, bytes, 256, 4096) {
         Ok(graph) => format!(in alloc; "{}", graph.nodes.items().len()),
         Err(GraphFault::Memory) => format!(in alloc; "memory"),
@@ -35,16 +35,26 @@ fn told(alloc: Global, bytes: &[u8]) -> Result<String, AllocError> {
     }
 }
 
-// The whole graph, with a text of it replaced.
-fn changed(alloc: Global, old: &str, new: &str) -> Result<String, AllocError> {
-    match WHOLE.split_once(old) {
+// A graph, with a text of it replaced.
+pub(crate) fn changed_in(
+    alloc: Global,
+    whole: &str,
+    old: &str,
+    new: &str,
+) -> Result<String, AllocError> {
+    match whole.split_once(old) {
         Some((before, after)) => format!(in alloc; "{before}{new}{after}"),
         None => format!(in alloc; "no {old}"),
     }
 }
 
+// The whole graph, with a text of it replaced.
+fn changed(alloc: Global, old: &str, new: &str) -> Result<String, AllocError> {
+    changed_in(alloc, WHOLE, old, new)
+}
+
 // A text with another one between two of its own, so many times.
-fn repeated(
+pub(crate) fn repeated(
     alloc: Global,
     before: &str,
     item: &str,
@@ -68,7 +78,11 @@ const CHANGES: &[(&str, &str, &str)] = &[
     (r#""ofxr":1"#, r#""ofxr":1"#, "2"),
     (r#""ofxr":1,"#, "", "G2 ofxr"),
     (r#""ofxr":1"#, r#""ofxr":0"#, "G3 ofxr"),
-    (r#""ofxr":1"#, r#""ofxr":2"#, "G3 ofxr"),
+    (r#""ofxr":1"#, r#""ofxr":2"#, "2"),
+    (r#""ofxr":1"#, r#""ofxr":3"#, "G3 ofxr"),
+    (r#""ofxr":1"#, r#""ofxr":1,"groups":[]"#, "G2 groups"),
+    (r#""ofxr":1"#, r#""ofxr":3,"groups":[]"#, "G2 groups"),
+    (r#""ofxr":1,"#, r#""groups":[],"#, "G2 groups"),
     (r#""ofxr":1"#, r#""ofxr":-1"#, "G3 ofxr"),
     (r#""ofxr":1"#, r#""ofxr":"1""#, "G2 ofxr"),
     (r#""ofxr":1"#, r#""ofxr":1e0"#, "G2 ofxr"),
@@ -366,6 +380,7 @@ fn a_whole_graph_is_read(rt: HostRuntime) -> Result<(), Fail> {
                     2,
                 );
             }
+            RawWork::GroupUse { group, .. } => same(&rt, group.text(), ""),
         }
     }
     Ok(())
@@ -376,7 +391,8 @@ const ORDER: &[(&str, &str)] = &[
     (r#"{"ofxr":2,"zebra":1}"#, "G2 zebra"),
     (r#"{"zebra":1,"Zebra":1}"#, "G2 Zebra"),
     (r#"{"project":1}"#, "G2 ofxr"),
-    (r#"{"ofxr":2,"project":1}"#, "G3 ofxr"),
+    (r#"{"ofxr":2,"project":1}"#, "G2 project"),
+    (r#"{"ofxr":3,"project":1}"#, "G3 ofxr"),
     (
         r#"{"ofxr":1,"project":{"width":0},"nodes":1}"#,
         "G3 project.width",

@@ -20,6 +20,7 @@ fn ordered(alloc: Global, line: &str) -> Result<String, AllocError> {
                 Mode::Render => "render",
                 Mode::Check => "check",
                 Mode::Bench => "bench",
+                Mode::Migrate => "migrate",
             };
             let (graph, first, last) = (order.graph.text(), order.first, order.last);
             let (tile, cache, workers) = (order.tile, order.cache, order.workers);
@@ -39,6 +40,10 @@ const LINES: &[(&str, &str)] = &[
     ("bench 1234567", "usage"),
     ("bench 12a", "usage"),
     ("bench", "usage"),
+    ("migrate g.json", "migrate g.json 0 999999 64 4096 4"),
+    ("migrate 7 --tile 16", "migrate 7 0 999999 16 4096 4"),
+    ("migrate", "usage"),
+    ("migrates g.json", "usage"),
     ("paint g.json", "usage"),
     ("render", "usage"),
     ("", "usage"),
@@ -178,6 +183,18 @@ const CODES: &[(GraphCode, &str, &[u8])] = &[
         "output.file",
         b">ofxr: graph: G14 output.file\n",
     ),
+    (
+        GraphCode::EditOfNoEffect,
+        "takes[0].edits[0].node",
+        b">ofxr: graph: G15 takes[0].edits[0].node\n",
+    ),
+    (GraphCode::UnknownGroup, "g", b">ofxr: graph: G16 g\n"),
+    (
+        GraphCode::TooManyNodes,
+        "nodes",
+        b">ofxr: graph: G17 nodes\n",
+    ),
+    (GraphCode::SlashInName, "n", b">ofxr: graph: G18 n\n"),
 ];
 
 #[test]
@@ -279,6 +296,7 @@ const REPORTS: &[(Report, &[u8])] = &[
         },
         b"frames 4\nbytes 1229076\nsum 18446744073709551615\n",
     ),
+    (Report::Migrate { nodes: 1024 }, b"nodes 1024\n"),
 ];
 
 #[test]

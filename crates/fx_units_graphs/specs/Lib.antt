@@ -1,2 +1,1 @@
 pub mod TileCounting
-pub mod TileCrews

@@ -1,3 +1,2 @@
 //! Frames by workers over effects that note and count their calls.
 mod counting;
-mod crew;

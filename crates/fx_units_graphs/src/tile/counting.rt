@@ -1,5 +1,6 @@
 //! Renders by workers over effects that note their actions and count their calls.
 ghost use Rattle.std.specs.Prelude.{◌≡◌, ◌≤◌, ◌∷◌, [], IfOk, map};
+ghost use Rattle.fx_tile.specs.Seats.{AreAll};
 ghost use Rattle.fx_units_graphs.specs.TileCounting.{counted_number};
 
 mod course;
@@ -12,7 +13,6 @@ use crate::same::{same, same_at};
 use crate::tile::counting::course::is_lawful;
 use crate::tile::counting::effect::Counted;
 use crate::tile::counting::notes::Notes;
-use crate::tile::crew::{closed, shared_by, split_off};
 use fx_base::{Grid, Memory, Name, Rect};
 use fx_core::Totals;
 use fx_effect::Safety;
@@ -24,7 +24,7 @@ use fx_pixel::Pixel;
 use fx_scene::{Scene, wants};
 use fx_seq::Store;
 use fx_text::{GraphFault, read_graph};
-use fx_tile::{Rendered, SceneName, TileCount, render_moment};
+use fx_tile::{Rendered, Shared, TileCount, TileSeat, render_moment};
 use std::alloc::{AllocError, Global};
 use std::process::Abort;
 use std::rt::Clock;
@@ -177,14 +177,11 @@ fn rendered<'a, R: Threads + Wait + Clock + Sync>(
     requires effects { map (λ e. counted_number e.safety) effects.items ≡ 0 ∷ 1 ∷ 2 ∷ [] }
     requires workers { (1 ≤ workers) × (workers ≤ 64) }
 {
-    if graph.nodes.len() > 16 {
-        return Err(Memory);
-    }
     let store = store(alloc, &graph)?;
     let (scene, permit) = Scene::new(graph, store, 7);
     let grid = Grid { side: TILE };
-    let (shared, mut first) = shared_by(alloc, SceneName::of(&scene), permit, 9, grid)?;
-    let seats = split_off(alloc, &shared, &mut first, workers)?;
+    let (shared, mut first) = Shared::new(alloc, &scene, permit, 9, grid)?;
+    let seats = shared.split(alloc, &mut first, workers)?;
     let life = Life::start(alloc, scene.graph(), effects, FRAME, FRAME)?;
     let frame = i64::from(FRAME);
     let outcome = render_moment(rt, alloc, &FreePace, &scene, &life, &shared, seats, frame);
@@ -206,6 +203,19 @@ fn rendered<'a, R: Threads + Wait + Clock + Sync>(
             Ok(Outcome { made, totals })
         }
     }
+}
+
+// The counts of the directory, once all its seats are joined.
+fn closed<'a>(
+    alloc: Global,
+    shared: Shared<Counted<'a>>,
+    mut first: TileSeat<Counted<'a>>,
+    seats: Vec<TileSeat<Counted<'a>>>,
+) -> Result<Totals, Memory>
+    requires { AreAll shared first seats.items }
+{
+    shared.join(&mut first, seats);
+    shared.close(alloc, first)
 }
 
 // Each pixel of the picture is that of the source at its place.

@@ -4,7 +4,7 @@ use Rattle.fx_graph.specs.Shown.{GraphShown}
 use Rattle.fx_shipped.specs.declared.shipped.Shipped.{Shipped}
 use Rattle.fx_shipped.specs.Shipped.{number_of}
 use Rattle.fx_life.proofs.LifeLemmas.{started_life}
-use Rattle.fx_app.proofs.EffectLemmas.{numbers_differ, number_among}
+use Rattle.fx_shipped.proofs.NumberLaws.{numbers_differ, number_among}
 use Rattle.fx_rows.proofs.engines.life_of.Goals as goal
 
 pub start-requires-clause-numbers : goal.start-requires-clause-numbers
