@@ -58,6 +58,14 @@ module _ (tells : Type 0) (files : Files) (p : Schedule) (told : tells) (each : 
       (subst (λ (xs : List SourceFrame). Has (m + 1 + length fs) xs) (append_assoc before f (all_of fs))
       (has_all (m + 1) (before ++ f) fs (has_more m before f h read.0) read.1))
 
+  -- the frames of the first moments have the images of their files
+  pub pictures_read : (fs : List (List SourceFrame)) → AreRead tells files p [] 0 fs
+      → ArePictures files p.most_side (due_until p.uses.now (length fs)) (all_of fs)
+  pictures_read fs read =
+      let at : 0 + length fs ≡ length fs = omega arith in
+      subst (λ (k : ℕ). ArePictures files p.most_side (due_until p.uses.now k) (all_of fs)) at
+      (has_all 0 [] fs has_none read).pictures
+
   pub read_accepted : (fs : List (List SourceFrame)) → AreRead tells files p [] 0 fs
       → AreAccepted files p.most_side p.limit p.uses.now (length fs)
   read_accepted fs read j low = accepted_from 0 [] fs has_none read j (omega arith) (omega (arith, low))

@@ -54,8 +54,8 @@ pub record Puts (tells : Type 0) (block : List Made) (old new : Files) (before n
   pub leaves : IfErr result (λ e. PutLeaves tells block old new e)
 
 -- The files of a block's moments were made, the first of which is `first`; or memory was wanting
-pub record Makes (right : List SourceFrame → ℕ → Made → Type 0) (first : ℕ) (block : List (List SourceFrame)) (made : List Made)
-    (old new : List SourceFrame) (next : ℕ) (all : Bool) : Type 0 where
+pub record Makes (right : List SourceFrame → ℕ → Made → Type 0) (first : ℕ) (block : List (List SourceFrame))
+    (made : List Made) (old new : List SourceFrame) (next : ℕ) (all : Bool) : Type 0 where
   pub next_is : all ≡ true → next ≡ first + length block
   pub seen : all ≡ true → new ≡ old ++ all_of block
   pub right_ones : all ≡ true → AreMade right old first block made

@@ -20,7 +20,8 @@ AreDue due m [] = Unit {0}
 AreDue due m (f ∷ fs) = (places f ≡ due m) × AreDue due (m + 1) fs
 
 -- what was made of each of the moments from m on is right for its frames and those before, which begin with these
-abbrev pub AreMade : (List SourceFrame → ℕ → Made → Type 0) → List SourceFrame → ℕ → List (List SourceFrame) → List Made → Type 0
+abbrev pub AreMade : (List SourceFrame → ℕ → Made → Type 0) → List SourceFrame → ℕ → List (List SourceFrame)
+    → List Made → Type 0
 AreMade right seen m [] [] = Unit {0}
 AreMade right seen m [] (d ∷ ds) = ⊥
 AreMade right seen m (f ∷ fs) [] = ⊥

@@ -16,11 +16,13 @@ pub enum PutStop {
     Memory,
 }
 
-/// Puts the files of a block, one after the other.
+/// Puts the files of a block, one after the other. The bytes of the last one that was put are left in `spare`, whose
+/// memory may serve for the next file.
 pub fn put_block<D: Depot>(
     alloc: Global,
     depot: &mut D,
     made: &mut VecDeque<Made>,
+    spare: &mut Vec<u8>,
 ) -> Result<(), PutStop>
     ensures { Puts D.tells made.old.items (D.file depot.old) (D.file depot.new) (D.faults depot.old)
         (D.faults depot.new) (D.last depot.old) (D.last depot.new) result }
@@ -28,7 +30,7 @@ pub fn put_block<D: Depot>(
     while let Some(one) = made.pop_front() {
         let Made { name, bytes } = one;
         match depot.put(alloc, name.text(), &bytes) {
-            Ok(()) => {}
+            Ok(()) => *spare = bytes,
             Err(PutFault::Failed) => return Err(PutStop::Failed(name)),
             Err(PutFault::Memory) => return Err(PutStop::Memory),
         }

@@ -60,6 +60,8 @@ pub fn read_on<L: Library>(
     ensures reads { ReadsOn L.tells (L.file library.old) (L.faults library.old) (L.faults library.new)
         (L.last library.old) (L.last library.new) schedule.now reader.old reader.new fault.old fault.new
         (fetched_in fetched.new.items) }
+    // Of a block of one moment nothing was read where a fault is told.
+    ensures single { schedule.now.ahead ≤ 1 → IfSome fault.new (λ _. fetched.new.items ≡ []) }
     ensures same { L.tells → SameFiles (L.file library.old) (L.file library.new) }
 {
     if fault.is_none() {
@@ -88,6 +90,7 @@ fn read_block<L: Library>(
         (λ e. IsUnread L.tells files schedule.now (all_of (fs ++ fetched_in fetched.new.items)) reader.new.next e) }
     ensures next { reader.new.next ≤ schedule.now.moments }
     ensures before_last { IfSome result (λ _. reader.new.next < schedule.now.moments) }
+    ensures single { schedule.now.ahead ≤ 1 → IfSome result (λ _. fetched.new.items ≡ []) }
     ensures few { kept_size schedule.now.uses.now reader.new.next reader.new.kept.items ≤ schedule.now.limit }
     ensures quiet { let last = L.last library.new in
         IfNone result (IsQuiet (L.faults library.old) (L.faults library.new) (L.last library.old) last) }
@@ -131,7 +134,8 @@ fn read_moment<L: Library>(
         → Knows schedule.now fs reader.old
         → IfErr result (λ e. IsUnread L.tells files schedule.now (all_of fs) reader.old.next e) }
     ensures next { OnOk result (reader.new.next ≡ reader.old.next + 1) }
-    ensures few { OnOk result (kept_size schedule.now.uses.now reader.new.next reader.new.kept.items ≤ schedule.now.limit) }
+    ensures few { let kept = kept_size schedule.now.uses.now reader.new.next reader.new.kept.items in
+        OnOk result (kept ≤ schedule.now.limit) }
     ensures stays { OnErr result
         ((reader.new.next ≡ reader.old.next) × (reader.new.kept.items ≡ reader.old.kept.items)) }
     ensures quiet { let last = L.last library.new in

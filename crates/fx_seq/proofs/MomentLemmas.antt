@@ -239,7 +239,7 @@ zip_from R (a ∷ xs) (b ∷ ys) z y (suc k, low, e) =
     let under = at.1 in
     (r.0, (suc at.0, omega (arith, under), at.2), r.2)
 
-zip_to : {A B : Type 0} (R : A → B → Type 0) (xs : List A) (ys : List B) → AllZip R xs ys → (x : A) → Contains xs x → (y : B) × Contains ys y × R x y
+pub zip_to : {A B : Type 0} (R : A → B → Type 0) (xs : List A) (ys : List B) → AllZip R xs ys → (x : A) → Contains xs x → (y : B) × Contains ys y × R x y
 zip_to R [] [] z x at = absurd (omega (arith, at.1))
 zip_to R [] (b ∷ ys) z x at = absurd z
 zip_to R (a ∷ xs) [] z x at = absurd z
@@ -435,7 +435,7 @@ to_due (v ∷ us) u (suc k, low, e) = by (to_due us u (k, omega (arith, low), e)
     by rest true = let under = rest.1 in (suc rest.0, omega (arith, under), rest.2)
     by rest false = rest
 
-to_until : (uses : List Use) (u : Use) → Contains uses u → (moment : ℕ) → u.from < moment → Contains (due_until uses moment) u.wanted
+pub to_until : (uses : List Use) (u : Use) → Contains uses u → (moment : ℕ) → u.from < moment → Contains (due_until uses moment) u.wanted
 to_until uses u at zero low = absurd (omega (arith, low))
 to_until uses u at (suc m) low =
     ⊎_elim (λ before. Contains-append_left (due_until uses m) (due_at uses m) u.wanted (to_until uses u at m before))
@@ -444,7 +444,7 @@ to_until uses u at (suc m) low =
     Contains-append_right (due_until uses m) (due_at uses m) u.wanted (subst (λ (k : ℕ). Contains (due_at uses k) u.wanted) same (to_due uses u at)))
     (cases_lt u.from m)
 
-some_in : (ss : List SourceFrame) (s : SourceFrame) → Contains ss s → IsSome (frames_in ss s.node s.frame)
+pub some_in : (ss : List SourceFrame) (s : SourceFrame) → Contains ss s → IsSome (frames_in ss s.node s.frame)
 some_in [] s at = absurd (omega (arith, at.1))
 some_in (t ∷ ss) s (zero, low, e) =
     let here = of_itself s.node s.frame t (ap (λ (x : SourceFrame). x.node) e) (ap (λ (x : SourceFrame). x.frame) e) in

@@ -87,7 +87,8 @@ fn read_at<L: Library>(
         IfOk result (ReadsMore L.tells (L.file library.old) most_side limit sum due frames.old.items frames.new.items) }
     ensures quiet { let last = L.last library.new in
         OnOk result (IsQuiet (L.faults library.old) (L.faults library.new) (L.last library.old) last) }
-    ensures refused { let told = first_refused (L.file library.old) most_side limit sum (due_at (used.now ∷ []) moment) in
+    ensures refused { let due = due_at (used.now ∷ []) moment in
+        let told = first_refused (L.file library.old) most_side limit sum due in
         L.tells → IfErr result (λ e. IsTold told e) }
     ensures quiet_refusal { let last = L.last library.new in
         IfErr result (λ e. IsQuietAt (L.faults library.old) (L.faults library.new) (L.last library.old) last e) }

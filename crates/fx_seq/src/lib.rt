@@ -14,6 +14,7 @@ mod wanted;
 
 pub use due::read_due;
 pub use fault::SeqFault;
+pub use kept::Kept;
 pub use source::SourceFrame;
 pub use store::Store;
 pub use used::Use;

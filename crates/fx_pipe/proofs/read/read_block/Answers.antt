@@ -36,6 +36,8 @@ loop-preserved g c =
           let one = c.in-Ok.ensures.read files (fs ++ block) now r.1 in
           let both = read_one l.tells files p fs block frames c.args.reader.now.next c.loop.reader c.read_moment.new.reader knows.next r.1 r.0 one in
           search (rules, both, more);
+      single = λ none. absurd (omega (arith, none));
+      most = c.loop.invariant.most;
       next = search rules;
       few = c.in-Ok.ensures.few;
       quiet = quiet_more c.loop.invariant.quiet c.in-Ok.ensures.quiet;

@@ -1,4 +1,4 @@
-use Rattle.std.proofs.Common.{◌≤◌, ◌++◌, List}
+use Rattle.std.proofs.Common.{◌≡◌, ◌≤◌, ◌++◌, List, []}
 use Rattle.fx_outside.specs.Outside.{Files, SameFiles}
 use Rattle.fx_seq.specs.Filling.{IsQuiet}
 use Rattle.fx_seq.specs.declared.source.SourceFrame.{SourceFrame}
@@ -14,6 +14,8 @@ invariant-loop g l =
     record {
       read : (files : Files) (fs : List (List SourceFrame)) → (lib.tells → SameFiles files (lib.file l.fn.library)) → Knows l.schedule fs l.fn.reader
           → AreRead lib.tells files l.schedule (all_of fs) l.fn.reader.next block × Knows l.schedule (fs ++ block) l.reader;
+      single : l.counter ≡ 0 → l.fetched.items ≡ [];
+      most : l.schedule.ahead ≤ 1 → l.end ≤ 1;
       next : l.reader.next ≤ l.schedule.moments;
       few : kept_size l.schedule.uses.now l.reader.next l.reader.kept.items ≤ l.schedule.limit;
       quiet : IsQuiet (lib.faults l.fn.library) (lib.faults l.library) (lib.last l.fn.library) (lib.last l.library);
