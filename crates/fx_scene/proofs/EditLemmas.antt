@@ -1,19 +1,19 @@
 -- Edits of parameters leave nodes such as a graph keeps.
-use Rattle.std.proofs.Common.{◌≡◌, ℕ, zero, suc, List, [], ◌∷◌, set, Option, Some, None, slice_get, sym, ap, ◌∙◌, subst, refl, inl, inr}
+use Rattle.std.proofs.Common.{◌≡◌, ℕ, zero, suc, List, [], ◌∷◌, set, Some, slice_get, sym, ap, ◌∙◌, subst, refl, inl, inr}
 use Rattle.std.specs.List.{AllByRecursion}
 use Rattle.std.proofs.lemmas.Bool.{cases_eq}
 use Rattle.std.proofs.lemmas.Option.{none-some, same_Some}
-use Rattle.fx_params.specs.Parameter.{IsSound, Parameter}
+use Rattle.fx_params.specs.Parameter.{Parameter}
 use Rattle.fx_params.specs.declared.def.ParamDef.{ParamDef}
 use Rattle.fx_effect.specs.Meaning.{Meaning}
-use Rattle.fx_graph.specs.Edits.{HasParam, IsEditOf, edited, with_edit, with_param}
+use Rattle.fx_graph.specs.Edits.{HasParam, edited, with_edit, with_param}
 use Rattle.fx_graph.specs.Shown.{Does, GraphShown, Shown}
 use Rattle.fx_graph.specs.Shown as does
 use Rattle.fx_graph.specs.Nodes.{Form}
 use Rattle.fx_graph.specs.Kept.{AreNodes}
 use Rattle.fx_graph.proofs.EditLaws.{edit_keeps}
 use Rattle.fx_scene.specs.declared.take.Edit.{Edit}
-use Rattle.fx_scene.specs.Takes.{AreEdits, AreTakes, EditsKeep, IsEdit, edited_all, edits_after, nodes_at}
+use Rattle.fx_scene.specs.Takes.{AreEdits, EditsKeep, IsEdit, edited_all, edits_after, nodes_at}
 use Rattle.fx_scene.proofs.TakeLemmas.{other_edit}
 
 module _ {E : Type 0} where
@@ -55,7 +55,7 @@ module _ {E : Type 0} where
     | inr n ↦ record { node = h.node; there = other_edit d d.node ns e.node n ∙ h.there; param = h.param }
   ]
 
-  still_all : (d : Edit) (es : List Edit) (ns : List (Shown E)) → IsEdit ns d → AllByRecursion (IsEdit ns) es
+  pub still_all : (d : Edit) (es : List Edit) (ns : List (Shown E)) → IsEdit ns d → AllByRecursion (IsEdit ns) es
       → AllByRecursion (IsEdit (with_edit d.node d.param d.value ns)) es
   still_all d [] ns of h = tt
   still_all d (e ∷ es) ns of h = (still_edit d e ns of h.0, still_all d es ns of h.1)
@@ -73,7 +73,7 @@ module _ {E : Type 0} where
   after_all (e ∷ es) fs ns of h =
       after_all es fs (with_edit e.node e.param e.value ns) (still_all e es ns of.0 of.1) (still_all e fs ns of.0 h)
 
-  edits_then : (ns : List (Shown E)) (takes : List (List Edit)) → AreEdits ns takes → (k : ℕ) (fs : List Edit)
+  pub edits_then : (ns : List (Shown E)) (takes : List (List Edit)) → AreEdits ns takes → (k : ℕ) (fs : List Edit)
       → AllByRecursion (IsEdit ns) fs → AllByRecursion (IsEdit (nodes_at ns takes k)) fs
   edits_then ns takes are zero fs h = h
   edits_then ns takes are (suc k) fs h =

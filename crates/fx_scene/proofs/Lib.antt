@@ -27,3 +27,5 @@ pub mod EditLemmas
 pub mod UseLemmas
 pub mod MadeLemmas
 pub mod NotingLemmas
+pub mod RowLemmas
+pub mod ScriptLemmas

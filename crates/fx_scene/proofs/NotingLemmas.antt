@@ -1,10 +1,10 @@
 -- What a table of uses has, moment by moment.
-use Rattle.std.proofs.Common.{◌≡◌, ℕ, zero, suc, ◌<◌, ◌≤◌, ◌+◌, ◌/◌, ◌%◌, ℤ, pos, Bool, true, false, cond, ◌||◌, List, [], ◌∷◌, ◌++◌, map, length, get_or, Option, Some, None, IsSome, is_some, All, Contains, refl, sym, ap, ◌∙◌, subst, arith, inl, inr, ◌⊎◌}
-use Rattle.std.specs.List.{list_any, IsDistinct}
+use Rattle.std.proofs.Common.{◌≡◌, ℕ, zero, suc, ◌<◌, ◌+◌, ◌*◌, ◌/◌, ◌%◌, ℤ, pos, Bool, true, false, cond, ◌||◌, List, [], ◌∷◌, ◌++◌, map, get_or, Option, Some, None, IsSome, is_some, All, Contains, refl, sym, ap, ◌∙◌, subst, arith, inl, inr}
+use Rattle.std.specs.List.{list_any}
 use Rattle.std.specs.List.Sorted.{IsStrictlySortedBy}
 use Rattle.std.specs.Map.{keys_of, lookup, values_of}
 use Rattle.std.specs.Option.{option_map_or}
-use Rattle.std.specs.BTreeMap.{BTreeMap, IsOrdered, Updates, get, is_at, values}
+use Rattle.std.specs.BTreeMap.{BTreeMap, IsOrdered, Updates, is_at, values}
 use Rattle.std.specs.Ordering.{is_eq, eq_by_cmp}
 use Rattle.std.specs.Cmp.{tied_itself}
 use Rattle.std.specs.declared.cmp.Ordering.TheVariants.{Less}
@@ -14,18 +14,22 @@ use Rattle.std.proofs.lemmas.List.Folds.{Any-from_list_any, list_any_at}
 use Rattle.std.proofs.lemmas.Map.Keys.{IsDistinct-from_sorted, sorted_head, sorted_tail}
 use Rattle.std.proofs.lemmas.Map.Views.{Contains-from_lookup, lookup-from_Contains}
 use Rattle.std.proofs.lemmas.Option.{none-some, same_Some}
-use Rattle.std.proofs.Math.Nat.{div-eq_of_lt, mod-eq_of_lt}
+use Rattle.std.proofs.lemmas.Nat.{div-mul-add, mod-mul-add}
+use Rattle.std.proofs.Math.Nat.{add-mul, mul_comm, one-mul}
 use Rattle.std.specs.List.{AllByRecursion}
 use Rattle.fx_base.proofs.RunLaws.{Contains-map}
 use Rattle.fx_seq.specs.declared.used.Use.{Use}
 use Rattle.fx_seq.specs.declared.wanted.Wanted.{Wanted}
 use Rattle.fx_scene.specs.declared.reaching.NodeFrame.{NodeFrame}
 use Rattle.fx_scene.specs.Reach.{node_frame, node_frame_cmp}
-use Rattle.fx_scene.specs.Uses.{AreUses, IsUse, ListsUse, Notes, Wanting, is_here, noted, use_with, used_in, wanting}
+use Rattle.fx_scene.specs.Uses.{AreUses, HasUses, IsUse, ListsUse, Notes, Wanting, is_here, noted, use_with, used_in, wanting}
 use Rattle.fx_effect.specs.Meaning.{Meaning}
-use Rattle.fx_graph.specs.Shown.{GraphShown}
+use Rattle.fx_graph.specs.Shown.{GraphShown, Shown}
+use Rattle.fx_params.specs.Parameter.{Parameter}
+use Rattle.fx_scene.specs.Rows.{graph_with, with_rows}
+use Rattle.fx_scene.specs.declared.take.Edit.{Edit}
 use Rattle.fx_scene.specs.Scenes.{graph_nodes, no_images}
-use Rattle.fx_scene.specs.Takes.{graph_of_take}
+use Rattle.fx_scene.specs.Takes.{nodes_at}
 use Rattle.fx_scene.specs.Wants.{AreWanted, IsBefore, IsWanted, Lists}
 use Rattle.std.proofs.lemmas.List.Elements.{All-contains, Contains-get_or}
 use Rattle.fx_scene.proofs.Members.{In, contained, in_of}
@@ -115,15 +119,6 @@ module _ (P : Wanted → Type 0) where
       by more false e k = more k
 
 -- ---- from moment to moment
-
--- the table has the use of each frame that is wanted at one of the first moments
-pub record HasUses (W : Wanting) (P : Wanted → Type 0) (j : ℕ) (table : BTreeMap NodeFrame Use) : Type 0 where
-  pub node : (n : ℕ) (f : ℤ) (u : Use) → used_in table n f ≡ Some u → u.wanted.node ≡ n
-  pub frame : (n : ℕ) (f : ℤ) (u : Use) → used_in table n f ≡ Some u → u.wanted.frame ≡ f
-  pub is : (n : ℕ) (f : ℤ) (u : Use) → used_in table n f ≡ Some u → IsUse W j u
-  pub all : (i n : ℕ) (f : ℤ) → i < j → W i n f → IsSome (used_in table n f)
-  pub named : (n : ℕ) (f : ℤ) (u : Use) → used_in table n f ≡ Some u → P u.wanted
-  pub order : IsOrdered node_frame_cmp table
 
 -- these are the frames that the moment wants
 pub record AreAt (W : Wanting) (P : Wanted → Type 0) (j : ℕ) (ws : List Wanted) : Type 0 where
@@ -344,25 +339,50 @@ all_named W P count table has k d low =
     let r = from_values table.entries u (Contains-get_or (values table) k d low) in
     has.named r.0.node r.0.frame u (has_entry table has.order r.0 u r.1)
 
--- ---- at take 0
+-- ---- at a take
 
-pub at_plain : {E : Type 0} (meaning : E → Meaning) (g : GraphShown E) (P : Wanted → Type 0) (first count j : ℕ) (ws : List Wanted) → j < count
-    → AreWanted (graph_nodes meaning g no_images) g.output (pos (first + j)) (pos (first + j)) ws
-    → All P ws → AreAt (wanting meaning g [] first count) P j ws
-at_plain {E} meaning g P first count j ws low are named =
+module _ (count take i : ℕ) (low : i < count) where
+  pub take_is : (take * count + i) / count ≡ take
+  take_is = div-mul-add take count i low
+
+  pub frame_is : (take * count + i) % count ≡ i
+  frame_is = mod-mul-add take count i low
+
+pub at_take : {E : Type 0} (meaning : E → Meaning) (g : GraphShown E) (P : Wanted → Type 0) (takes : List (List Edit))
+    (rows : List (List Parameter)) (first count take i : ℕ) (ws : List Wanted) → i < count
+    → nodes_at g.nodes takes take ≡ with_rows g.nodes rows
+    → AreWanted (graph_nodes meaning (graph_with g rows) no_images) g.output (pos (first + i)) (pos (first + i)) ws
+    → All P ws → AreAt (wanting meaning g takes first count) P (take * count + i) ws
+at_take {E} meaning g P takes rows first count take i ws low same are named =
     record {
-      only = λ w at.
-          subst (λ (k : ℕ). At w.node w.frame k (first + j % count)) (sym take) (subst (λ (i : ℕ). At w.node w.frame 0 (first + i)) (sym frame) (are.only w at));
-      all = λ n f w.
-          are.all n f (subst (λ (i : ℕ). At n f 0 (first + i)) frame (subst (λ (k : ℕ). At n f k (first + j % count)) take w));
-      named = λ w i. All-contains P ws w named (contained ws w i);
+      only = λ w at. there w.node w.frame (are.only w at);
+      all = λ n f w. are.all n f (here n f w);
+      named = λ w at. All-contains P ws w named (contained ws w at);
     }
   where
-    At : ℕ → ℤ → ℕ → ℕ → Type 0
-    At n f k t = IsWanted (graph_nodes meaning (graph_of_take g [] k) no_images) g.output (pos t) (pos t) n f
+    Over : List (Shown E) → ℕ → ℕ → ℤ → Type 0
+    Over nodes t n f =
+        IsWanted (graph_nodes meaning (record g { nodes = nodes }) no_images) g.output (pos (first + t)) (pos (first + t)) n f
 
-    take : j / count ≡ 0
-    take = div-eq_of_lt low
+    there : (n : ℕ) (f : ℤ) → Over (with_rows g.nodes rows) i n f → wanting meaning g takes first count (take * count + i) n f
+    there n f w =
+        subst (λ (k : ℕ). Over (nodes_at g.nodes takes k) ((take * count + i) % count) n f) (sym (take_is count take i low))
+        (subst (λ (t : ℕ). Over (nodes_at g.nodes takes take) t n f) (sym (frame_is count take i low))
+        (subst (λ (nodes : List (Shown E)). Over nodes i n f) (sym same) w))
 
-    frame : j % count ≡ j
-    frame = mod-eq_of_lt low
+    here : (n : ℕ) (f : ℤ) → wanting meaning g takes first count (take * count + i) n f → Over (with_rows g.nodes rows) i n f
+    here n f w =
+        subst (λ (nodes : List (Shown E)). Over nodes i n f) same
+        (subst (λ (t : ℕ). Over (nodes_at g.nodes takes take) t n f) (frame_is count take i low)
+        (subst (λ (k : ℕ). Over (nodes_at g.nodes takes k) ((take * count + i) % count) n f) (take_is count take i low) w))
+
+-- ---- the number of a moment
+
+pub next_moment : (a i : ℕ) → (a + i) + 1 ≡ a + (i + 1)
+next_moment a i = omega arith
+
+pub next_take : (k count : ℕ) → k * count + count ≡ (k + 1) * count
+next_take k count = ap (λ (n : ℕ). k * count + n) (sym (one-mul count)) ∙ sym (add-mul k 1 count)
+
+pub all_moments : (k count : ℕ) → k * count + count ≡ count * (k + 1)
+all_moments k count = next_take k count ∙ mul_comm (k + 1) count

@@ -1,16 +1,20 @@
 -- What edits leave as it is.
-use Rattle.std.proofs.Common.{◌≡◌, ℕ, zero, suc, ◌<◌, ◌≤◌, ℤ, Bool, true, false, ◌||◌, nat_eq, List, [], ◌∷◌, length, Option, Some, None, slice_get, slice_index_or, refl, sym, ap, ◌∙◌, subst, arith}
-use Rattle.std.proofs.lemmas.Bool.{or_parts}
+use mathlib.Core.Path.{fun_ext}
+use Rattle.std.proofs.Common.{◌≡◌, ℕ, zero, suc, ◌<◌, ◌+◌, ℤ, Bool, false, ◌||◌, nat_eq, inl, inr, List, [], ◌∷◌, ◌++◌, map, get_or, option_map, length, Option, Some, None, slice_get, slice_index_or, refl, sym, ap, ◌∙◌, subst, arith}
+use Rattle.std.proofs.lemmas.Bool.{cases_lt, or_parts}
+use Rattle.std.proofs.lemmas.List.{get_or_append_left, get_or_past, get_or_push}
+use Rattle.std.proofs.lemmas.Option.{slice_get-get_or, slice_get-map}
 use Rattle.std.proofs.lemmas.Bool.Decides.{nat_tests}
 use Rattle.std.specs.List.{list_any}
 use Rattle.fx_effect.specs.Meaning.{Meaning}
 use Rattle.fx_graph.specs.Edits.{with_edit}
-use Rattle.fx_graph.specs.Shown.{Does, GraphShown, Shown}
+use Rattle.fx_graph.specs.declared.node.Node.{Node}
+use Rattle.fx_graph.specs.Shown.{Does, GraphShown, Shown, does_of, shown}
 use Rattle.fx_graph.specs.Shown as does
-use Rattle.fx_scene.specs.Nodes.{AreNodes, IsNode, Node, Effect, Source, clip_node}
+use Rattle.fx_scene.specs.Nodes.{AreNodes, IsNode}
 use Rattle.fx_scene.specs.Scenes.{Images, graph_nodes, node_in, node_of, node_values, nodes_of, values_in}
 use Rattle.fx_scene.specs.Table.{at_place, below}
-use Rattle.fx_scene.proofs.TableLemmas.{below_is}
+use Rattle.fx_scene.proofs.TableLemmas.{below_is, below_past}
 use Rattle.fx_scene.specs.declared.take.Edit.{Edit}
 use Rattle.fx_scene.specs.Takes.{clip_touched, does_touched, edited_all, edits_after, graph_of_take, is_touched, names_node, node_touched, nodes_at}
 use Rattle.fx_scene.proofs.SameOutside.{HasClip, IsSameOutside}
@@ -98,6 +102,37 @@ module _ {E : Type 0} (nodes : List (Shown E)) (es : List Edit) where
           of_work n n.does
           (ap (node_touched (below false step k)) (sym (sym (ap (λ (ns : List (Shown E)). slice_get ns k) is) ∙ e)) ∙ untouched_node k out)
           i c
+
+-- ---- node by node
+
+module _ {E : Type 0} (nodes : List (Node E)) (edits : List Edit) (k : ℕ) (touched : List Bool) (long : length touched ≡ k)
+    (known : (m : ℕ) → m < k → slice_index_or touched m false ≡ is_touched (map shown nodes) edits m) where
+  -- what is known of the nodes before
+  known_below : (λ m. slice_index_or touched m false) ≡ below false (step (map shown nodes) edits) k
+  known_below = fun_ext (λ m. elim (cases_lt m k) [
+    | inl h ↦ known m h ∙ sym (touched_is (map shown nodes) edits m) ∙ sym (below_is false (step (map shown nodes) edits) k m h)
+    | inr h ↦ get_or_past touched m false (omega (arith, long, h)) ∙ sym (below_past false (step (map shown nodes) edits) k m h)
+  ])
+
+  -- and of the next one
+  pub touched_here : (node : Node E) → k < length nodes → node ≡ get_or nodes k node
+      → names_node edits k || does_touched (λ m. slice_index_or touched m false) (does_of node.work) ≡ is_touched (map shown nodes) edits k
+  unfolding is_touched
+  touched_here node low is =
+      ap (λ (before : ℕ → Bool). names_node edits k || does_touched before (does_of node.work)) known_below
+      ∙ ap (λ (o : Option (Shown E)). names_node edits k || node_touched (below false (step (map shown nodes) edits) k) o) (sym there)
+    where
+      there : slice_get (map shown nodes) k ≡ Some (shown node)
+      there = slice_get-map shown nodes k ∙ ap (option_map shown) (slice_get-get_or nodes k node low ∙ ap Some (sym is))
+
+  pub touched_more : (now : Bool) → now ≡ is_touched (map shown nodes) edits k → (m : ℕ) → m < k + 1
+      → slice_index_or (touched ++ now ∷ []) m false ≡ is_touched (map shown nodes) edits m
+  touched_more now is m low = elim (cases_lt m k) [
+    | inl h ↦ get_or_append_left touched (now ∷ []) false m (omega (arith, long, h)) ∙ known m h
+    | inr h ↦
+        let same : k ≡ m = omega (arith, low, h) in
+        get_or_push touched now false m (omega (arith, long, same)) ∙ is ∙ ap (is_touched (map shown nodes) edits) same
+  ]
 
 -- ---- one take after the other
 

@@ -1,20 +1,17 @@
 -- The frames that are wanted, one after the other.
-use Rattle.std.proofs.Common.{◌≡◌, ◌≢◌, ℕ, zero, suc, ◌<◌, ◌≤◌, ◌+◌, ◌-◌, ℤ, pos, negsuc, ◌≤ℤ◌, ◌<ℤ◌, Bool, true, false, ◌&&◌, ◌||◌, nat_eq, cond, List, [], ◌∷◌, ◌++◌, length, get_or, slice_get, Option, Some, None, refl, sym, ap, ◌∙◌, subst, arith, ◌⊎◌, inl, inr, All, AllPairs}
+use Rattle.std.proofs.Common.{◌≡◌, ℕ, suc, ◌<◌, ◌-◌, ℤ, pos, negsuc, ◌≤ℤ◌, ◌<ℤ◌, Bool, true, false, ◌&&◌, ◌||◌, nat_eq, cond, List, [], ◌∷◌, ◌++◌, length, slice_get, Option, Some, None, refl, sym, ap, ◌∙◌, subst, arith, ◌⊎◌, inl, inr, AllPairs}
 use Rattle.std.proofs.lemmas.Int.{ints, clamps}
-use Rattle.std.proofs.lemmas.Bool.{and_parts, cases_Bool, false≢true}
+use Rattle.std.proofs.lemmas.Bool.{and_parts, false≢true}
 use Rattle.std.proofs.lemmas.Bool.Decides.{nat_tests}
-use Rattle.std.proofs.lemmas.List.Elements.{All-nil, All-cons}
 use Rattle.std.proofs.lemmas.List.Kept.{AllPairs-cons}
 use Rattle.std.proofs.lemmas.Map.Keys.{sorted_head, sorted_tail}
 use Rattle.std.proofs.lemmas.Option.{none-some, same_Some}
 use Rattle.std.specs.declared.cmp.Ordering.TheVariants.{Less}
-use Rattle.std.specs.Int.{int_max, int_min}
 use Rattle.std.specs.List.{AllByRecursion, Contains}
 use Rattle.std.specs.List.Sorted.{IsStrictlySortedBy}
 use Rattle.std.specs.Option.{option_map}
 use Rattle.std.specs.Ordering.{int_eq}
 use Rattle.std.specs.BTreeSet.{BTreeSet}
-use Rattle.fx_base.specs.Bounds.{Bounds}
 use Rattle.fx_base.specs.Pattern.{name_of}
 use Rattle.fx_pixel.specs.declared.Depth.{Depth}
 use Rattle.fx_pixel.specs.declared.Components.{Components}
@@ -24,10 +21,10 @@ use Rattle.fx_seq.specs.declared.wanted.Wanted.{Wanted}
 use Rattle.fx_graph.specs.Shown.{Does, GraphShown, Shown}
 use Rattle.fx_graph.specs.Shown as does
 use Rattle.fx_scene.specs.declared.reaching.NodeFrame.{NodeFrame}
-use Rattle.fx_scene.specs.Nodes.{Effect, Node, Nodes, Source}
-use Rattle.fx_scene.specs.Reach.{IsReach, IsReached, has, node_frame, node_frame_cmp}
+use Rattle.fx_scene.specs.Nodes.{Node, Nodes}
+use Rattle.fx_scene.specs.Reach.{IsReach, has, node_frame, node_frame_cmp}
 use Rattle.fx_scene.specs.Scenes.{graph_nodes, is_between, nearest, no_images, node_of, shown_frame}
-use Rattle.fx_scene.specs.Wants.{AreWanted, IsBefore, IsNamedBy, IsNamedIn, IsWanted, Lists, Shows, WantsIn, WantsShown, entry, is_last, is_of, with_entry, with_shown}
+use Rattle.fx_scene.specs.Wants.{AreWanted, IsBefore, IsNamedBy, IsNamedIn, Lists, ShowSame, Shows, WantsIn, WantsShown, entry, is_last, is_of, with_shown}
 use Rattle.fx_scene.proofs.GraphLemmas.{node_is}
 use Rattle.fx_scene.proofs.Members.{In, all_from, in_of}
 use Rattle.fx_scene.proofs.OpenLemmas.{same_frame}
@@ -240,14 +237,17 @@ module _ {E : Type 0} (meaning : E → Meaning) (g : GraphShown E) where
         within = λ k i. has_key node_frames k i;
       }
 
-  -- behind the last
-  pub wanting_end : (node_frames : BTreeSet NodeFrame) (wanted : List Wanted) (output : ℕ) (first last : ℤ)
-      → IsReach nodes_in output first last (has node_frames) → IsWanting node_frames [] wanted
-      → AreWanted nodes_in output first last wanted
-  wanting_end node_frames wanted output first last reach w =
+  -- behind the last, where they are reached over nodes whose sources show the same
+  pub wanting_end : (nodes : Nodes) → ShowSame nodes nodes_in → (node_frames : BTreeSet NodeFrame) (wanted : List Wanted) (output : ℕ)
+      (first last : ℤ) → IsReach nodes output first last (has node_frames) → IsWanting node_frames [] wanted
+      → AreWanted nodes output first last wanted
+  wanting_end nodes same node_frames wanted output first last reach w =
       record {
-        only = λ v c. let o = w.only v (in_of wanted v c) in record { at = o.0; reached = reach.only v.node o.0 o.1; shows = o.2 };
-        all = λ n f i. elim (w.all n i.at f (reach.all n i.at i.reached) i.shows) [ inl e ↦ e | inr e ↦ absurd e ];
+        only = λ v c.
+            let o = w.only v (in_of wanted v c) in
+            record { at = o.0; reached = reach.only v.node o.0 o.1; shows = (same v.node o.0 v.frame).1 o.2 };
+        all = λ n f i.
+            elim (w.all n i.at f (reach.all n i.at i.reached) ((same n i.at f).0 i.shows)) [ inl e ↦ e | inr e ↦ absurd e ];
         order = pairs_of wanted w.rises;
       }
 

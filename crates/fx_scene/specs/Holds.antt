@@ -25,8 +25,8 @@ HeldSuffice meaning g =
     × (area (graph_nodes meaning g held) n u ≡ area (graph_nodes meaning g all) n u)
 
 -- What a tile is made from: at a take k, of all that was fetched what is wanted at t is held
-pub record IsHeldAt {E : Type 0} (meaning : E → Meaning) (g : GraphShown E) (takes : List (List Edit)) (held all : Images)
-    (k : ℕ) (t : ℤ) : Type 0 where
+pub record IsHeldAt {E : Type 0} (meaning : E → Meaning) (g : GraphShown E) (takes : List (List Edit))
+    (held all : Images) (k : ℕ) (t : ℤ) : Type 0 where
   pub few : k ≤ length takes
   pub held_are : AreImages held
   pub all_are : AreImages all

@@ -12,4 +12,6 @@ pub mod Windows
 pub mod Takes
 pub mod Right
 pub mod Holds
+pub mod Rows
+pub mod Scripts
 pub mod Uses

@@ -1,5 +1,5 @@
 -- What the nodes of a graph are, where the sources' frames show these images; and the picture of a frame.
-use Rattle.std.specs.Prelude.{◌≡◌, ◌||◌, ◌&&◌, ℕ, ℤ, pos, List, [], map, Bool, Option, Some, None, slice_get, option_map, if◌then◌else◌}
+use Rattle.std.specs.Prelude.{◌||◌, ◌&&◌, ℕ, ℤ, pos, List, [], map, Bool, Option, Some, None, slice_get, option_map, if◌then◌else◌}
 use Rattle.std.specs.Int.{int_min, int_max}
 use Rattle.std.specs.Int.Signed.{le_z}
 use Rattle.fx_base.specs.Bounds.{Bounds}
@@ -23,6 +23,7 @@ use Rattle.fx_graph.specs.Shown as does
 use Rattle.fx_graph.specs.Kept.{use_values}
 use Rattle.fx_scene.specs.Nodes.{SourceFrames, EffectNode, Node, Source, Effect, Nodes, depth_at}
 use Rattle.fx_scene.specs.Value.{value}
+use Rattle.fx_scene.specs.declared.take.Edit.{Edit}
 
 -- a graph, with lists in place of vectors
 abbrev pub graph_shown : {E : Type 0} {c e : _} → Graph E c e → GraphShown E
@@ -119,11 +120,18 @@ nodes_of meaning project nodes images k = node_in meaning project (images k) (sl
 abbrev pub graph_nodes : {E : Type 0} → (E → Meaning) → GraphShown E → Images → Nodes
 graph_nodes meaning g images = nodes_of meaning g.project g.nodes images
 
--- a scene: a graph, the frames that were fetched, and a number
+-- a graph as it is written, the edits of its takes, and how many of the takes were done
+pub record Script (E : Type 0) : Type 0 where
+  pub written : GraphShown E
+  pub takes : List (List Edit)
+  pub take : ℕ
+
+-- a scene: the graph of its take, the frames that were fetched, a number, and where the graph comes from
 pub record Shot (E : Type 0) : Type 0 where
   pub graph : GraphShown E
   pub store : Store
   pub number : ℕ
+  pub script : Script E
 
 -- the picture of a frame: the value of the output's node over the project's extent, at the project's depth, with Alpha
 -- for grey files and RGBA for all others

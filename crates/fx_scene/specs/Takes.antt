@@ -1,5 +1,5 @@
 -- Takes: edits of a graph's parameters, done one after another. The graph of a take, and the eras of its nodes.
-use Rattle.std.specs.Prelude.{◌≡◌, ◌≤◌, ◌+◌, ℕ, zero, suc, ℤ, ◌||◌, nat_eq, Bool, true, false, List, [], ◌∷◌, length, Option, Some, None, slice_get, slice_index_or, if◌then◌else◌}
+use Rattle.std.specs.Prelude.{◌≡◌, ◌+◌, ℕ, zero, suc, ℤ, ◌||◌, nat_eq, Bool, false, List, [], ◌∷◌, map, Option, Some, None, slice_get, slice_index_or, if◌then◌else◌}
 use Rattle.std.specs.List.{AllByRecursion, list_any}
 use Rattle.fx_effect.specs.Meaning.{Meaning}
 use Rattle.fx_graph.specs.Shown.{Does, Shown, GraphShown}
@@ -7,15 +7,20 @@ use Rattle.fx_graph.specs.Shown as does
 use Rattle.fx_graph.specs.Edits.{IsEditOf, with_edit}
 use Rattle.fx_graph.specs.Kept as kept
 use Rattle.fx_scene.specs.Depends.{AreImages}
-use Rattle.fx_scene.specs.Nodes.{Nodes, components_at, depth_at}
+use Rattle.fx_scene.specs.Nodes.{components_at, depth_at}
 use Rattle.fx_scene.specs.Reach.{IsReached}
 use Rattle.fx_scene.specs.Scenes.{Images, graph_nodes, node_values}
 use Rattle.fx_scene.specs.Table.{at_place}
 use Rattle.fx_scene.specs.Value.{value}
 use Rattle.fx_scene.specs.Wants.{IsWanted}
 use Rattle.fx_scene.specs.declared.take.Edit.{Edit}
+use Rattle.fx_scene.specs.declared.take.Take.{Take}
 
 -- ---- the graph of a take
+
+-- the edits of each take
+abbrev pub edits_of : List Take → List (List Edit)
+edits_of takes = map (λ t. t.edits.items) takes
 
 -- the nodes after edits that are done in order
 abbrev pub edited_all : {E : Type 0} → List Edit → List (Shown E) → List (Shown E)
@@ -75,7 +80,8 @@ pub record IsSameAt {E : Type 0} (meaning : E → Meaning) (g h : GraphShown E) 
   pub values : (t : ℤ) → node_values g n t ≡ node_values h n t
   pub depth : (images : Images) → depth_at (graph_nodes meaning g images) n ≡ depth_at (graph_nodes meaning h images) n
   pub components :
-      (images : Images) → components_at (graph_nodes meaning g images) n ≡ components_at (graph_nodes meaning h images) n
+      (images : Images)
+      → components_at (graph_nodes meaning g images) n ≡ components_at (graph_nodes meaning h images) n
   pub pixels :
       (images : Images) → AreImages images → (t x y : ℤ)
       → value (graph_nodes meaning g images) n t x y ≡ value (graph_nodes meaning h images) n t x y

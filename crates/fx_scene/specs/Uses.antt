@@ -1,6 +1,6 @@
 -- The moments of a run, which are its frames at take 0 and then at each take after it, and what they want.
-use Rattle.std.specs.Prelude.{◌≡◌, ◌<◌, ◌≤◌, ◌↔◌, ◌+◌, ◌/◌, ◌%◌, ℕ, ℤ, pos, Bool, List, [], ◌∷◌, map, AllPairs, Contains, Option, Some, if◌then◌else◌}
-use Rattle.std.specs.BTreeMap.{BTreeMap, get, is_at}
+use Rattle.std.specs.Prelude.{◌≡◌, ◌<◌, ◌≤◌, ◌↔◌, ◌+◌, ◌/◌, ◌%◌, ℕ, ℤ, pos, Bool, List, [], ◌∷◌, map, AllPairs, Contains, Option, Some, IsSome, if◌then◌else◌}
+use Rattle.std.specs.BTreeMap.{BTreeMap, IsOrdered, get, is_at}
 use Rattle.std.specs.Option.{option_map_or}
 use Rattle.fx_effect.specs.Meaning.{Meaning}
 use Rattle.fx_graph.specs.Shown.{GraphShown}
@@ -90,3 +90,12 @@ noted (w ∷ ws) moment n f o = noted ws moment n f (if is_here w n f then Some 
 
 abbrev pub Notes : List Wanted → ℕ → BTreeMap NodeFrame Use → BTreeMap NodeFrame Use → Type 0
 Notes ws moment old new = (n : ℕ) (f : ℤ) → used_in new n f ≡ noted ws moment n f (used_in old n f)
+
+-- the table has the use of each frame that is wanted at one of the first moments
+pub record HasUses (W : Wanting) (P : Wanted → Type 0) (j : ℕ) (table : BTreeMap NodeFrame Use) : Type 0 where
+  pub node : (n : ℕ) (f : ℤ) (u : Use) → used_in table n f ≡ Some u → u.wanted.node ≡ n
+  pub frame : (n : ℕ) (f : ℤ) (u : Use) → used_in table n f ≡ Some u → u.wanted.frame ≡ f
+  pub is : (n : ℕ) (f : ℤ) (u : Use) → used_in table n f ≡ Some u → IsUse W j u
+  pub all : (i n : ℕ) (f : ℤ) → i < j → W i n f → IsSome (used_in table n f)
+  pub named : (n : ℕ) (f : ℤ) (u : Use) → used_in table n f ≡ Some u → P u.wanted
+  pub order : IsOrdered node_frame_cmp table

@@ -1,5 +1,5 @@
 -- The source frames that a run of a graph wants: those that the sources show which are reached.
-use Rattle.std.specs.Prelude.{◌≡◌, ◌⊎◌, ◌<◌, ◌<ℤ◌, ◌-◌, ◌&&◌, ◌++◌, ℕ, ℤ, pos, Bool, false, nat_eq, List, [], ◌∷◌, length, Option, Some, None, slice_get, Contains, AllPairs, if◌then◌else◌}
+use Rattle.std.specs.Prelude.{◌≡◌, ◌↔◌, ◌⊎◌, ◌<◌, ◌<ℤ◌, ◌-◌, ◌&&◌, ◌++◌, ℕ, ℤ, pos, Bool, false, nat_eq, List, [], ◌∷◌, length, Option, Some, None, slice_get, Contains, AllPairs, if◌then◌else◌}
 use Rattle.std.specs.Option.{option_map}
 use Rattle.std.specs.Ordering.{int_eq}
 use Rattle.fx_base.specs.Pattern.{name_of}
@@ -15,6 +15,10 @@ use Rattle.fx_scene.specs.Scenes.{shown_frame}
 abbrev pub Shows : Node → ℤ → ℤ → Type 0
 Shows (Source s) t f = s.named t ≡ Some f
 Shows (Effect o) t f = ⊥
+
+-- the sources of both show the same frames
+abbrev pub ShowSame : Nodes → Nodes → Type 0
+ShowSame a b = (n : ℕ) (t f : ℤ) → Shows (a n) t f ↔ Shows (b n) t f
 
 -- a source that is reached shows the frame
 pub record IsWanted (nodes : Nodes) (output : ℕ) (first last : ℤ) (n : ℕ) (f : ℤ) : Type 0 where

@@ -8,6 +8,7 @@ ghost use Rattle.fx_scene.specs.Value.{ValueIsMix};
 ghost use Rattle.fx_scene.specs.Areas.{ZeroOutsideArea};
 ghost use Rattle.fx_scene.specs.Depends.{PicturesDependOnWanted, ValueDependsOnWanted};
 ghost use Rattle.fx_scene.specs.Scenes.{graph_nodes, graph_shown, images_in};
+ghost use Rattle.fx_scene.specs.Scripts.{IsScene};
 
 use crate::scene::Scene;
 use fx_effect::Catalogue;
@@ -43,6 +44,15 @@ pub fn scene_nodes<E: Catalogue>(scene: &Scene<E>)
 {
     let _graph = scene.graph();
     let _store = scene.store();
+}
+
+/// What is known of every scene: its graph is that of its take, and what it holds is among what it fetched. It computes
+/// nothing.
+pub fn scene_is<E: Catalogue>(scene: &Scene<E>)
+    ensures { IsScene E.meaning scene.now }
+{
+    let _store = scene.store();
+    scene.is_played();
 }
 
 /// The frames of a list of spans are those that lie in one of them, each once and rising. It computes nothing.

@@ -3,11 +3,14 @@
 //! effect in it, so all that is known of values and areas is known for every catalogue.
 #![tactic(auto)]
 
+mod editing;
+mod eras;
 mod key;
 pub mod laws;
 mod moments;
 mod reaching;
 mod reads;
+mod rows;
 mod scene;
 pub mod site;
 mod take;
@@ -16,7 +19,7 @@ mod values;
 mod wanting;
 
 pub use key::Key;
-pub use moments::uses;
+pub use moments::{uses, uses_of_takes};
 pub use reaching::{NodeFrame, reach, reads_of};
 pub use reads::frames_read;
 pub use scene::Scene;

@@ -1,15 +1,19 @@
 //! Which nodes of a graph are reached at which frames.
 ghost use Rattle.std.specs.Prelude.{◌≡◌, ◌<◌, ◌≤◌, ◌≤ℤ◌, ℕ, ℤ, pos, neg_ℤ, length, map, slice_index_or, true, Some, None, IfOk, OnOk};
+ghost use Rattle.fx_graph.specs.Shown.{GraphShown};
 ghost use Rattle.fx_base.specs.declared.limits.TheConstants.{LAST_FRAME};
 ghost use Rattle.fx_scene.specs.Scenes.{graph_nodes, graph_shown, no_images};
 ghost use Rattle.fx_scene.specs.Frames.{has_frame, items_of};
+ghost use Rattle.fx_scene.specs.Rows.{AreRows, HasRow, IsRowAt, graph_with, row_in, rows_in};
 ghost use Rattle.fx_scene.specs.Reach.{IsReach, IsReadBy, IsNearFrame, IsPlace, IsClipRead, Adds, has};
 
 use crate::reads::frames_read;
-use crate::values::use_values;
+use crate::rows::{row_of, rows_of};
+use crate::values::values_with;
 use fx_base::Memory;
 use fx_effect::Catalogue;
 use fx_graph::{Graph, Work};
+use fx_params::Param;
 use std::alloc::Global;
 use std::collections::BTreeSet;
 
@@ -37,11 +41,33 @@ pub fn reach<E: Catalogue>(
     ensures places { IfOk result (λ node_frames. (n : ℕ) (t : ℤ) → has node_frames n t ≡ true
         → IsPlace (length graph.now.nodes.items) n t) }
 {
+    let rows = rows_of(alloc, graph)?;
+    reach_with(alloc, graph, rows.as_slice(), first, last)
+}
+
+/// The same with these parameters in place of the graph's own.
+pub(crate) fn reach_with<E: Catalogue>(
+    alloc: Global,
+    graph: &Graph<E>,
+    rows: &[Vec<&Param>],
+    first: i64,
+    last: i64,
+) -> Result<BTreeSet<NodeFrame>, Memory>
+    requires rows { AreRows E.meaning (graph_shown graph.now) (rows_in rows.now) }
+    requires low { neg_ℤ (pos LAST_FRAME) ≤ℤ first }
+    requires high { last ≤ℤ pos LAST_FRAME }
+    ensures least { let g = graph_with (graph_shown graph.now) (rows_in rows.now) in
+        let nodes = graph_nodes E.meaning g no_images in
+        IfOk result (λ node_frames. IsReach nodes graph.now.output first last (has node_frames)) }
+    ensures places { IfOk result (λ node_frames. (n : ℕ) (t : ℤ) → has node_frames n t ≡ true
+        → IsPlace (length graph.now.nodes.items) n t) }
+{
     let mut pending = BTreeSet::new(alloc);
     open_range(graph.output, first, last, &mut pending)?;
     let mut reached = BTreeSet::new(alloc);
     while let Some(node_frame) = pending.pop_last() {
-        open_reads(alloc, graph, node_frame, &mut pending)?;
+        let row = rows[node_frame.node as usize].as_slice();
+        open_reads(alloc, graph, row, node_frame, &mut pending)?;
         reached.insert(node_frame)?;
     }
     Ok(reached)
@@ -60,8 +86,9 @@ pub fn reads_of<E: Catalogue>(
     ensures only { let node = graph_nodes E.meaning (graph_shown graph.now) no_images node_frame.node in
         IfOk result (λ reads. (m : ℕ) (f : ℤ) → has reads m f ≡ true → IsReadBy node node_frame.frame m f) }
 {
+    let row = row_of(alloc, &graph.nodes[node_frame.node as usize].work)?;
     let mut reads = BTreeSet::new(alloc);
-    open_reads(alloc, graph, node_frame, &mut reads)?;
+    open_reads(alloc, graph, row.as_slice(), node_frame, &mut reads)?;
     Ok(reads)
 }
 
@@ -82,16 +109,19 @@ fn open_range(
     Ok(())
 }
 
-// Opens what a node reads at a frame.
+// Opens what a node reads at a frame, with these parameters in place of its own.
 fn open_reads<E: Catalogue>(
     alloc: Global,
     graph: &Graph<E>,
+    row: &[&Param],
     node_frame: NodeFrame,
     pending: &mut BTreeSet<NodeFrame>,
 ) -> Result<(), Memory>
     requires place { IsPlace (length graph.now.nodes.items) node_frame.node node_frame.frame }
-    ensures { let nodes = graph_nodes E.meaning (graph_shown graph.now) no_images in
-        OnOk result (Adds (IsReadBy (nodes node_frame.node) node_frame.frame) pending.old pending.new) }
+    requires row { IsRowAt E.meaning (graph_shown graph.now) node_frame.node (row_in row.now) }
+    ensures { (h : GraphShown E) → HasRow h (graph_shown graph.now) node_frame.node (row_in row.now)
+        → OnOk result (Adds (IsReadBy (graph_nodes E.meaning h no_images node_frame.node) node_frame.frame)
+        pending.old pending.new) }
 {
     match &graph.nodes[node_frame.node as usize].work {
         Work::Source { .. } => Ok(()),
@@ -99,14 +129,13 @@ fn open_reads<E: Catalogue>(
             effect,
             clips,
             names,
-            params,
             ..
         } => {
-            let values = use_values(
+            let values = values_with(
                 alloc,
                 graph.project,
                 clips.as_slice(),
-                params.as_slice(),
+                row,
                 node_frame.frame,
             )?;
             let reads = frames_read(alloc, effect, names, &values)?;

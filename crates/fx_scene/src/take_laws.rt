@@ -7,6 +7,7 @@ ghost use Rattle.fx_scene.specs.Holds.{HeldSuffice, MadeIsRight, PicturesStay, R
 ghost use Rattle.fx_scene.specs.Right.{RightByOne, RightStays};
 ghost use Rattle.fx_scene.specs.Scenes.{graph_shown};
 
+use crate::scene::Scene;
 use fx_effect::Catalogue;
 use fx_graph::Graph;
 
@@ -70,4 +71,15 @@ pub fn made_is_right<E: Catalogue>(graph: &Graph<E>)
         → RightIsMade E.meaning g takes }
 {
     let _nodes = &graph.nodes;
+}
+
+/// Of the takes of every scene: what is right under a key stays right, what was made is right, and what is right is what
+/// would be made. It computes nothing.
+pub fn scene_tiles<E: Catalogue>(scene: &Scene<E>)
+    ensures stays { RightStays E.meaning scene.now.script.written scene.now.script.takes }
+    ensures made { MadeIsRight E.meaning scene.now.script.written scene.now.script.takes }
+    ensures right { RightIsMade E.meaning scene.now.script.written scene.now.script.takes }
+{
+    let _graph = scene.graph();
+    scene.is_played();
 }

@@ -4,13 +4,17 @@ ghost use Rattle.std.specs.Option.{option_map};
 ghost use Rattle.fx_base.specs.declared.limits.TheConstants.{LAST_FRAME};
 ghost use Rattle.fx_seq.specs.Filling.{IsApart};
 ghost use Rattle.fx_scene.specs.Reach.{IsPlace, IsReach, has};
+ghost use Rattle.fx_scene.specs.Nodes.{Nodes};
+ghost use Rattle.fx_scene.specs.Rows.{AreRows, graph_with, rows_in};
 ghost use Rattle.fx_scene.specs.Scenes.{graph_nodes, graph_shown, no_images, shown_frame};
-ghost use Rattle.fx_scene.specs.Wants.{AreWanted, IsNamedIn, WantsIn, is_last, with_entry};
+ghost use Rattle.fx_scene.specs.Wants.{AreWanted, IsNamedIn, ShowSame, WantsIn, is_last, with_entry};
 
-use crate::reaching::{NodeFrame, reach};
+use crate::reaching::{NodeFrame, reach_with};
+use crate::rows::rows_of;
 use fx_base::{Memory, Pattern};
 use fx_effect::Catalogue;
 use fx_graph::{Graph, Work};
+use fx_params::Param;
 use fx_seq::Wanted;
 use std::alloc::Global;
 use std::collections::BTreeSet;
@@ -31,11 +35,31 @@ pub fn wants<E: Catalogue>(
     ensures names { IfOk result (λ wanted. All (IsNamedIn (graph_shown graph.now)) wanted.items) }
     ensures apart { IfOk result (λ wanted. AllPairs IsApart wanted.items) }
 {
-    let node_frames = reach(alloc, graph, i64::from(first), i64::from(last))?;
+    let rows = rows_of(alloc, graph)?;
+    wants_with(alloc, graph, rows.as_slice(), first, last)
+}
+
+/// The same with these parameters in place of the graph's own.
+pub(crate) fn wants_with<E: Catalogue>(
+    alloc: Global,
+    graph: &Graph<E>,
+    rows: &[Vec<&Param>],
+    first: u32,
+    last: u32,
+) -> Result<Vec<Wanted>, Memory>
+    requires rows { AreRows E.meaning (graph_shown graph.now) (rows_in rows.now) }
+    requires end { last ≤ LAST_FRAME }
+    ensures exact { let g = graph_with (graph_shown graph.now) (rows_in rows.now) in
+        let nodes = graph_nodes E.meaning g no_images in
+        IfOk result (λ wanted. AreWanted nodes graph.now.output (pos first) (pos last) wanted.items) }
+    ensures names { IfOk result (λ wanted. All (IsNamedIn (graph_shown graph.now)) wanted.items) }
+    ensures apart { IfOk result (λ wanted. AllPairs IsApart wanted.items) }
+{
+    let node_frames = reach_with(alloc, graph, rows, i64::from(first), i64::from(last))?;
     wants_at(alloc, graph, &node_frames)
 }
 
-// The frames that sources show at these nodes at frames.
+// The frames that sources show at these nodes at frames, which may be reached over other effects.
 fn wants_at<E: Catalogue>(
     alloc: Global,
     graph: &Graph<E>,
@@ -43,8 +67,8 @@ fn wants_at<E: Catalogue>(
 ) -> Result<Vec<Wanted>, Memory>
     requires { let count = length graph.now.nodes.items in
         (n : ℕ) (t : ℤ) → has node_frames.now n t ≡ true → IsPlace count n t }
-    ensures exact { let nodes = graph_nodes E.meaning (graph_shown graph.now) no_images in
-        (output : ℕ) (first last : ℤ) → IsReach nodes output first last (has node_frames.now)
+    ensures exact { (nodes : Nodes) → ShowSame nodes (graph_nodes E.meaning (graph_shown graph.now) no_images)
+        → (output : ℕ) (first last : ℤ) → IsReach nodes output first last (has node_frames.now)
         → IfOk result (λ wanted. AreWanted nodes output first last wanted.items) }
     ensures names { IfOk result (λ wanted. All (IsNamedIn (graph_shown graph.now)) wanted.items) }
     ensures apart { IfOk result (λ wanted. AllPairs IsApart wanted.items) }

@@ -1,7 +1,8 @@
 -- Edits that are accepted are of parameters of the graph, each with the definition of its value.
-use Rattle.std.proofs.Common.{◌≡◌, refl, ap, sym, ◌∙◌, subst, ℕ, ◌+◌, ◌<◌, ◌&&◌, Bool, true, false, List, [], ◌∷◌, All, codes, Option, Some, None, Result, Ok, Err, get_or, slice_get, bytes_eq, position}
+use Rattle.std.proofs.Common.{◌≡◌, refl, ap, sym, ◌∙◌, subst, ℕ, zero, suc, ◌+◌, ◌&&◌, Bool, true, false, List, [], ◌∷◌, map, All, codes, Option, Some, None, Result, Ok, Err, get_or, slice_get, bytes_eq, position}
 use Rattle.std.proofs.lemmas.Bool.{false≢true}
-use Rattle.std.proofs.lemmas.List.Elements.{All-nil, All-cons}
+use Rattle.std.proofs.lemmas.List.Elements.{All-nil, All-cons, All-head, All-tail}
+use Rattle.std.specs.List.{AllByRecursion}
 use Rattle.std.proofs.lemmas.List.Quantifiers.{position-Some}
 use Rattle.std.proofs.lemmas.Option.{none-some, same_Some, slice_get-get_or}
 use Rattle.std.specs.Option.{option_map, option_and_then}
@@ -18,11 +19,15 @@ use Rattle.fx_text.specs.declared.value.RawValue.TheVariants as raw
 use Rattle.fx_text.specs.declared.fault.GraphCode.{GraphCode}
 use Rattle.fx_graph.specs.Edits.{HasParam, IsEditOf}
 use Rattle.fx_graph.specs.Named.{is_effect, effect_named, params_of, params_in, params_at, param_named}
-use Rattle.fx_graph.specs.Params.{plain_put, value_in, value_fault, valued}
-use Rattle.fx_graph.specs.Refusal.{refused_or, found_or, node_path, fault_at}
+use Rattle.fx_graph.specs.Params.{plain_put, value_in, valued}
+use Rattle.fx_graph.specs.Refusal.{refused_or, found_or, node_path}
 use Rattle.fx_graph.specs.Shown.{Does, Source, Effect, Shown}
-use Rattle.fx_takes.specs.Shown.{EditShown, TakeShown}
-use Rattle.fx_takes.specs.Accepted.{each_of, param_edit, node_edit, edit_of, edits_of, take_of, takes_of, AreEdits}
+use Rattle.fx_scene.specs.Takes.{AreEdits, IsEdit}
+use Rattle.fx_scene.specs.Takes as scene
+use Rattle.fx_scene.specs.declared.take.Edit.{Edit}
+use Rattle.fx_scene.specs.declared.take.Take.{Take}
+use Rattle.fx_takes.specs.Shown.{EditShown, TakeShown, edit_shown, take_shown}
+use Rattle.fx_takes.specs.Accepted.{each_of, param_edit, node_edit, edit_of, edits_of, take_of, takes_of}
 
 -- ---- results
 
@@ -146,7 +151,21 @@ module _ {E : Type 0} (nodes : List (Shown E)) where
       (each_is IsOne (λ k r. edit_of nodes (inside (node_path path (codes "edits")) k) r)
       (λ k r e is. edit_is nodes (inside (node_path path (codes "edits")) k) r e is) 0 given.edits edits.first edits.is)
 
-  pub takes_are : (given : List RawTake) (takes : List TakeShown) → takes_of nodes given ≡ Ok takes → AreEdits nodes takes
+  takes_are : (given : List RawTake) (takes : List TakeShown) → takes_of nodes given ≡ Ok takes → All AreAll takes
   takes_are given takes h =
       each_is AreAll (λ k r. take_of nodes (inside (codes "takes") k) r)
       (λ k r t is. take_is (inside (codes "takes") k) r t is) 0 given takes h
+
+  each_edit : (es : List Edit) → All IsOne (map edit_shown es) → AllByRecursion (IsEdit nodes) es
+  each_edit [] all = tt
+  each_edit (e ∷ es) all =
+      (All-head IsOne (edit_shown e) (map edit_shown es) all, each_edit es (All-tail IsOne (edit_shown e) (map edit_shown es) all))
+
+  each_take : (takes : List Take) → All AreAll (map take_shown takes) → AreEdits nodes (scene.edits_of takes)
+  each_take [] all k = tt
+  each_take (t ∷ takes) all zero = each_edit t.edits.items (All-head AreAll (take_shown t) (map take_shown takes) all)
+  each_take (t ∷ takes) all (suc k) = each_take takes (All-tail AreAll (take_shown t) (map take_shown takes) all) k
+
+  pub edits_are : (given : List RawTake) (takes : List Take) → takes_of nodes given ≡ Ok (map take_shown takes)
+      → AreEdits nodes (scene.edits_of takes)
+  edits_are given takes h = each_take takes (takes_are given (map take_shown takes) h)

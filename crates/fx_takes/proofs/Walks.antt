@@ -1,5 +1,5 @@
 -- Items that are accepted one by one.
-use Rattle.std.proofs.Common.{◌≡◌, refl, ap, sym, ◌∙◌, subst, ℕ, ◌+◌, ◌<◌, ◌≤◌, arith, List, [], ◌∷◌, ◌++◌, length, map, drop, get_or, append_assoc, append-nil, Result, Ok, Err}
+use Rattle.std.proofs.Common.{◌≡◌, refl, ap, sym, ◌∙◌, ℕ, ◌+◌, ◌<◌, ◌≤◌, List, [], ◌∷◌, ◌++◌, length, drop, get_or, append_assoc, append-nil, Result, Ok, Err}
 use Rattle.std.proofs.lemmas.List.{at_drop_more, at_drop_all}
 use Rattle.fx_text.specs.Fault.{Fault, told}
 use Rattle.std.specs.Prelude.{codes, decimal}
@@ -8,7 +8,7 @@ use Rattle.fx_graph.specs.Refusal.{node_path}
 use Rattle.fx_text.specs.Json.{after}
 use Rattle.fx_text.specs.declared.fault.GraphFault.{GraphFault}
 use Rattle.fx_text.specs.declared.fault.GraphFault.TheVariants as fault
-use Rattle.fx_graph.specs.Refusal.{TellsErr, refused_or}
+use Rattle.fx_graph.specs.Refusal.{TellsErr}
 use Rattle.fx_takes.specs.Accepted.{each_of}
 
 -- what was made before, and then this

@@ -1,6 +1,6 @@
 -- The takes that a graph's raw takes stand for, or the first refusal: take by take, of each first its file and then its
 -- edits in order, and of an edit first the node, then the parameter and then the value.
-use Rattle.std.specs.Prelude.{◌≡◌, ℕ, ◌+◌, not, List, [], ◌∷◌, All, codes, length, Result, Ok}
+use Rattle.std.specs.Prelude.{ℕ, ◌+◌, not, List, [], ◌∷◌, codes, Result, Ok}
 use Rattle.fx_params.specs.declared.def.ParamDef.{ParamDef}
 use Rattle.fx_params.specs.Parameter.{made}
 use Rattle.fx_text.specs.Fault.{Fault}
@@ -10,7 +10,6 @@ use Rattle.fx_text.specs.Takes.{Take as RawTake}
 use Rattle.fx_text.specs.declared.raw.RawEdit.{RawEdit}
 use Rattle.fx_text.specs.declared.value.RawValue.{RawValue}
 use Rattle.fx_text.specs.declared.fault.GraphCode.TheVariants.{EditOfNoEffect, PatternWrong, UnknownParam}
-use Rattle.fx_graph.specs.Edits.{IsEditOf}
 use Rattle.fx_graph.specs.Graphs.{is_output}
 use Rattle.fx_graph.specs.Named.{effect_named, params_at, param_named}
 use Rattle.fx_graph.specs.Params.{value_fault, valued}
@@ -52,7 +51,3 @@ take_of nodes path raw =
 
 abbrev pub takes_of : {E : Type 0} → List (Shown E) → List RawTake → Result (List TakeShown) Fault
 takes_of nodes raws = each_of (λ k raw. take_of nodes (inside (codes "takes") k) raw) 0 raws
-
--- each edit of each take is of a parameter of these nodes that has the definition of the edit's value
-abbrev pub AreEdits : {E : Type 0} → List (Shown E) → List TakeShown → Type 0
-AreEdits nodes takes = All (λ t. All (λ e. IsEditOf nodes e.node e.param e.value) t.edits) takes

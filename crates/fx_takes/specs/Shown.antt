@@ -1,8 +1,8 @@
 -- Takes as contracts see them.
 use Rattle.std.specs.Prelude.{ℕ, List, map}
 use Rattle.fx_params.specs.Parameter.{Parameter}
-use Rattle.fx_takes.specs.declared.take.Edit.{Edit}
-use Rattle.fx_takes.specs.declared.take.Take.{Take}
+use Rattle.fx_scene.specs.declared.take.Edit.{Edit}
+use Rattle.fx_scene.specs.declared.take.Take.{Take}
 
 -- the places of a node and of one of its parameters, and what that is from there on
 pub record EditShown : Type 0 where

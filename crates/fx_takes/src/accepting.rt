@@ -7,16 +7,18 @@ ghost use Rattle.fx_text.specs.declared.fault.GraphCode.TheVariants as code;
 ghost use Rattle.fx_graph.specs.Graphs.{is_output};
 ghost use Rattle.fx_graph.specs.Refusal.{Tells, TellsErr, node_path, where_so};
 ghost use Rattle.fx_graph.specs.Shown.{shown};
+ghost use Rattle.fx_scene.specs.Takes.{AreEdits};
+ghost use Rattle.fx_scene.specs.Takes as scene;
 ghost use Rattle.fx_takes.specs.Shown.{edit_shown, take_shown};
-ghost use Rattle.fx_takes.specs.Accepted.{param_edit, node_edit, edit_of, edits_of, take_of, takes_of, AreEdits};
+ghost use Rattle.fx_takes.specs.Accepted.{param_edit, node_edit, edit_of, edits_of, take_of, takes_of};
 ghost use Rattle.std.specs.Prelude.{not};
 
-use crate::take::{Edit, Take, Takes};
 use fx_base::Pattern;
 use fx_effect::Catalogue;
 use fx_graph::refuse::refuse;
 use fx_graph::{Graph, effect_named, param_given, param_named, value_fault};
 use fx_params::{Param, ParamDef};
+use fx_scene::{Edit, Take, Takes};
 use fx_text::{GraphCode, GraphFault, RawEdit, RawTake, RawValue};
 use std::alloc::Global;
 
@@ -31,7 +33,7 @@ pub fn accept_takes<E: Catalogue>(
     ensures accepted { let wanted = takes_of (map shown graph.now.nodes.items) raw.items in
         IfOk result (λ takes. wanted ≡ Ok (map take_shown takes.list.items)) }
     ensures edits { let nodes = map shown graph.now.nodes.items in
-        IfOk result (λ takes. AreEdits nodes (map take_shown takes.list.items)) }
+        IfOk result (λ takes. AreEdits nodes (scene.edits_of takes.list.items)) }
     ensures refused { Refuses result (takes_of (map shown graph.now.nodes.items) raw.items) }
 {
     let list = takes_of(alloc, graph, &raw)?;

@@ -1,18 +1,22 @@
-use Rattle.std.proofs.Common.{rules, ◌≡◌, ℕ, ℤ, pos, subst, w64}
-use Rattle.std.proofs.lemmas.Int.{to_z-of_z}
-use mir.Val.{SFits}
-use Rattle.fx_scene.specs.Reach.{IsReach, has}
+use Rattle.std.proofs.Common.{List, pos, refl, ap, ◌∙◌, subst, IfOk}
+use Rattle.fx_graph.specs.Shown.{Shown}
+use Rattle.fx_scene.specs.Rows.{rows_in}
 use Rattle.fx_scene.specs.Scenes.{graph_nodes, graph_shown, no_images}
+use Rattle.fx_scene.specs.Wants.{AreWanted}
+use Rattle.fx_scene.proofs.RowLemmas.{own_are, own_same}
 use Rattle.fx_scene.proofs.wanting.wants.Goals as goal
+
+pub wants_with-requires-clause-rows : goal.wants_with-requires-clause-rows
+wants_with-requires-clause-rows g c =
+    let graph = c.args.graph.now in
+    own_are g.E.ImageEffect.meaning (graph_shown graph) graph.nodes.items refl (rows_in c.as_slice.result.now)
+    (ap rows_in c.as_slice.ensures.value ∙ c.in_ok-rows.ensures) graph.kept
 
 pub returns-clause-exact : goal.returns-clause-exact
 returns-clause-exact g c =
-    let nodes = graph_nodes g.E.ImageEffect.meaning (graph_shown c.args.graph.now) no_images in
-    let output = c.args.graph.now.output in
-    let node_frames = c.in_ok-node_frames.node_frames in
-    let f1 : SFits w64 c.from.result = search rules in
-    let f2 : SFits w64 c.from-2.result = search rules in
-    let least = simp to_z-of_z at c.in_ok-node_frames.ensures.least in
-    c.wants_at.ensures.exact output (pos c.args.first) (pos c.args.last)
-    (subst (λ (z : ℤ). IsReach nodes output z (pos c.args.last) (has node_frames)) c.from.ensures
-    (subst (λ (z : ℤ). IsReach nodes output c.from.result z (has node_frames)) c.from-2.ensures least))
+    let graph = c.args.graph.now in
+    let over = graph_shown graph in
+    let m = g.E.ImageEffect.meaning in
+    subst (λ (ns : List (Shown _)). IfOk c.wants_with.result (λ w. AreWanted (graph_nodes m (record over { nodes = ns }) no_images) graph.output (pos c.args.first) (pos c.args.last) w.items))
+    (own_same m over graph.nodes.items refl (rows_in c.as_slice.result.now) (ap rows_in c.as_slice.ensures.value ∙ c.in_ok-rows.ensures))
+    c.wants_with.ensures.exact

@@ -1,4 +1,4 @@
-use Rattle.std.proofs.Common.{rules, ◌≡◌, ◌<◌, ℕ, ℤ, List, [], ◌∷◌, map, length, sym, subst, refl, arith, inl}
+use Rattle.std.proofs.Common.{List, sym, subst, refl, arith, inl}
 use Rattle.std.proofs.lemmas.List.{length-map}
 use Rattle.std.proofs.lemmas.Map.Iter.{rest_all, rest_more}
 use Rattle.std.specs.Map.Iter.{deref}
@@ -47,12 +47,12 @@ loop-node_frame-preserved g c =
 
 -- src/wanting.rt:39:1
 pub returns-clause-exact : goal.returns-clause-exact
-returns-clause-exact g c = λ output first last reach.
+returns-clause-exact g c = λ nodes same output first last reach.
     let m = g.E.ImageEffect.meaning in
     let graph = graph_shown c.args.graph.now in
     let node_frames = c.args.node_frames.now in
     let step = rest_all deref c.loop-node_frame.node_frame-iterator c.next.new.self c.next.result c.in-None.is c.next.ensures.steps in
-    wanting_end m graph node_frames c.loop-node_frame.wanted.items output first last reach
+    wanting_end m graph nodes same node_frames c.loop-node_frame.wanted.items output first last reach
     (subst (λ (rest : List NodeFrame). IsWanting m graph node_frames rest c.loop-node_frame.wanted.items) step c.loop-node_frame.invariant)
 
 -- src/wanting.rt:39:1

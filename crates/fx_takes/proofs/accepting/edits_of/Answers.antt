@@ -1,12 +1,12 @@
-use Rattle.std.proofs.Common.{◌≡◌, ◌∙◌, ◌<◌, ◌∷◌, [], ◌++◌, ap, sym, subst, arith, length, map, codes, ℕ}
+use Rattle.std.proofs.Common.{◌≡◌, ◌∙◌, ◌<◌, ◌∷◌, [], ◌++◌, ap, arith, length, map, ℕ}
 use Rattle.std.proofs.lemmas.List.{map-append}
 use Rattle.std.proofs.lemmas.Result.{err_from_is_err_and}
 use Rattle.fx_text.specs.Paths.{inside}
 use Rattle.fx_text.specs.declared.raw.RawEdit.{RawEdit}
 use Rattle.fx_graph.specs.Shown.{shown}
 use Rattle.fx_takes.specs.Shown.{edit_shown}
-use Rattle.fx_takes.specs.Accepted.{each_of, edit_of, edits_of}
-use Rattle.fx_takes.proofs.Walks.{before, next_made, next_told}
+use Rattle.fx_takes.specs.Accepted.{edit_of, edits_of}
+use Rattle.fx_takes.proofs.Walks.{next_made, next_told}
 use Rattle.fx_takes.proofs.accepting.edits_of.Goals as goal
 
 pub returns-in_err-edit-clause-err : goal.returns-in_err-edit-clause-err

@@ -1,4 +1,4 @@
-use Rattle.std.proofs.Common.{◌≡◌, map, drop, codes}
+use Rattle.std.proofs.Common.{◌≡◌, map, drop}
 use Rattle.fx_text.specs.Paths.{inside}
 use Rattle.fx_graph.specs.Shown.{shown}
 use Rattle.fx_takes.specs.Shown.{edit_shown}

@@ -1,4 +1,4 @@
-use Rattle.std.proofs.Common.{◌≡◌, ◌∙◌, sym, ap, subst, map, IfErr, Some, codes}
+use Rattle.std.proofs.Common.{◌≡◌, sym, subst, map, IfErr, Some, codes}
 use Rattle.std.specs.Prelude.{Option, ℕ}
 use Rattle.fx_params.specs.declared.def.ParamDef.{ParamDef}
 use Rattle.fx_text.specs.declared.fault.GraphCode.TheVariants.{UnknownParam}
