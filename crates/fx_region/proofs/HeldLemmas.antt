@@ -18,8 +18,8 @@ use Rattle.fx_graph.specs.Kept as kept
 use Rattle.fx_scene.specs.Areas.{area}
 use Rattle.fx_scene.specs.Depends.{AgreeOnWanted, AreImages}
 use Rattle.fx_scene.specs.Frames.{clip_frames, frames_of, in_some}
-use Rattle.fx_scene.specs.Nodes.{AreNodes, Effect, EffectNode, IsEffectNode, IsNode, Node, Nodes, Source, clip_node}
-use Rattle.fx_scene.specs.Reach.{IsReached, IsReadBy}
+use Rattle.fx_scene.specs.Nodes.{AreNodes, Effect, EffectNode, IsEffectNode, IsNode, Node, Nodes, Source, SourceFrames, clip_node}
+use Rattle.fx_scene.specs.Reach.{IsReached, IsReadBy, NodeFrames}
 use Rattle.fx_scene.specs.Scenes.{Images, effect_node, graph_nodes, no_images, node_in, node_of, nodes_of, shown_frame, source_node}
 use Rattle.fx_scene.proofs.Members.{In}
 use Rattle.fx_scene.proofs.NearLemmas.{listed_frames}
@@ -33,7 +33,8 @@ use Rattle.fx_region.proofs.FollowLemmas.{same_read}
 use Rattle.fx_scene.specs.Right.{HasGrown, HasWanted}
 use Rattle.fx_scene.proofs.HeldLemmas.{area_same, is_listed}
 use Rattle.fx_scene.proofs.RightLemmas.{none_are, same_some}
-use Rattle.fx_region.specs.Held.{EndsStay}
+use Rattle.fx_effect.specs.declared.steps.Step.{Step}
+use Rattle.fx_region.specs.Held.{EndIn, EndsReached, EndsStay}
 
 flat_same : {X Y : Type 0} (f g : X → List Y) (xs : List X) → ((x : X) → In xs x → f x ≡ g x) → flat_map f xs ≡ flat_map g xs
 flat_same f g [] h = refl
@@ -210,6 +211,71 @@ module _ {E : Type 0} (meaning : E → Meaning) (g : GraphShown E) where
             closed.reads k t (reached s closed) m f (subst (λ (node : Node). IsReadBy node t m f) (sym (here no_images k o e)) h))
             ∙ sym (ap (λ (node : Node). node_needs (end_of (over b)) (area (over b)) side node t r) (here b k o e))
 
+  -- ---- where regions of what is in a set end
+
+  module _ (a : Images) (are_a : AreNodes (over a)) (are_none : AreNodes (over no_images)) (s : NodeFrames)
+      (reads : (n : ℕ) (t : ℤ) → s n t ≡ true → (m : ℕ) (f : ℤ) → IsReadBy (over no_images n) t m f → s m f ≡ true) where
+    onward_in : (step : Step) (e : EndShown) → EndIn s e → EndIn s (onward step e)
+    onward_in step Void h = h
+    onward_in step (Frame n f r through) h = h
+    onward_in step (Render n f r cut through) h = h
+
+    clip_in : (e : Ends) (o : Option ℕ) (f : ℤ) (r : Bounds) → ((m : ℕ) → o ≡ Some m → EndIn s (e m f r))
+        → EndIn s (clip_end e o f r)
+    clip_in e None f r h = tt
+    clip_in e (Some m) f r h = h m refl
+
+    effect_in : (c : Choice) (e : Ends) (k : ℕ) (o : EffectNode) (t : ℤ) (r : Bounds) (p : Identity) → s k t ≡ true
+        → ((clip : ℕ) (f : ℤ) → p ≡ Same clip f → (m : ℕ) → clip_node o clip ≡ Some m → EndIn s (e m f r))
+        → EndIn s (effect_end c e k o t r p)
+    effect_in c e k o t r No there h = there
+    effect_in c e k o t r (Same clip f) there h =
+        onward_in (effect_step o) (clip_end e (clip_node o clip) f r) (clip_in e (clip_node o clip) f r (h clip f refl))
+
+    source_in : (n : ℕ) (source : SourceFrames) (named : Option ℤ) (r : Bounds) → EndIn s (source_end n source named r)
+    source_in n source None r = tt
+    source_in n source (Some f) r = tt
+
+    work_in : (k : ℕ) (e : Ends) (n : Shown E) (work : Does E) (t : ℤ) (r : Bounds) → is_empty r ≡ false → s k t ≡ true
+        → IsNode k (node_of meaning g.project (a k) n.depth n.components work)
+        → ((m : ℕ) (f : ℤ) → IsReadBy (node_of meaning g.project (no_images k) n.depth n.components work) t m f → EndIn s (e m f r))
+        → EndIn s (cut_end (chosen (over a)) e k (node_of meaning g.project (a k) n.depth n.components work) t r)
+    work_in k e n (does.Source pattern first last hold) t r some there i before =
+        source_in k (source_node (a k) n.depth n.components first last hold) (shown_frame first last hold t) r
+    work_in k e n (does.Effect x context clips names optional masks params) t r some there i before =
+        let o = effect_node (meaning x) g.project n.depth n.components context clips params in
+        effect_in (chosen (over a)) e k o t r (o.meaning.same (o.values t) r) there
+        (λ clip f is m at. before m f (goes_to o t (clip_node o clip) f m at (same_read k o i t r clip f some is)))
+
+    node_in_set : (k : ℕ) (e : Ends) (o : Option (Shown E)) (t : ℤ) (r : Bounds) → is_empty r ≡ false → s k t ≡ true
+        → IsNode k (node_in meaning g.project (a k) o)
+        → ((m : ℕ) (f : ℤ) → IsReadBy (node_in meaning g.project (no_images k) o) t m f → EndIn s (e m f r))
+        → EndIn s (cut_end (chosen (over a)) e k (node_in meaning g.project (a k) o) t r)
+    node_in_set k e None t r some there i before = tt
+    node_in_set k e (Some n) t r some there i before = work_in k e n n.does t r some there i before
+
+    sooner : (k m : ℕ) (t f : ℤ) (node : Node) → IsNode k node → IsReadBy node t m f → m < k
+    sooner k m t f (Source source) i h = absurd h
+    sooner k m t f (Effect o) i h = i.earlier h.clip m h.node
+
+    pub ends_in : (k : ℕ) (t : ℤ) (r : Bounds) → s k t ≡ true → EndIn s (end_of (over a) k t r)
+    ends_in = by_place (λ k. (t : ℤ) (r : Bounds) → s k t ≡ true → EndIn s (end_of (over a) k t r)) (λ k before t r there.
+        subst (λ (e : EndShown). EndIn s e) (sym (end_is (chosen (over a)) (over a) are_a k t r))
+        (by k before t there (meet r (area (over a) k t)) (is_empty (meet r (area (over a) k t))) refl (slice_get g.nodes k) refl))
+      where
+        by : (k : ℕ) → ((m : ℕ) → m < k → (t : ℤ) (r : Bounds) → s m t ≡ true → EndIn s (end_of (over a) m t r))
+            → (t : ℤ) → s k t ≡ true → (q : Bounds) (b : Bool) → is_empty q ≡ b → (o : Option (Shown E)) → slice_get g.nodes k ≡ o
+            → EndIn s (node_end (chosen (over a)) (end_of (over a)) k (over a k) t q)
+        by k before t there q true none o e = rw none tt
+        by k before t there q false some o e =
+            let here_none = here no_images k o e in
+            rw some
+            (subst (λ (node : Node). EndIn s (cut_end (chosen (over a)) (end_of (over a)) k node t q)) (sym (here a k o e))
+            (node_in_set k (end_of (over a)) o t q some there (subst (λ (node : Node). IsNode k node) (here a k o e) (are_a k))
+            (λ m f h.
+            let read = subst (λ (node : Node). IsReadBy node t m f) (sym here_none) h in
+            before m (sooner k m t f (over no_images k) (are_none k) read) f q (reads k t there m f read))))
+
   module _ (form : Form) (laws : (e : E) → Laws (meaning e)) (is : IsProject g.project) (few : length g.nodes ≤ MOST_NODES)
       (are : kept.AreNodes meaning form g.nodes) where
     are_over : (images : Images) → AreImages images → AreNodes (over images)
@@ -221,3 +287,7 @@ module _ {E : Type 0} (meaning : E → Meaning) (g : GraphShown E) where
           ends_same held all g.output t t (are_over held is_held) (are_over all is_all) (are_over no_images none_are) agree n u r reached,
           (λ side. needs_same held all g.output t t (are_over held is_held) (are_over all is_all) (are_over no_images none_are) agree side n u r reached),
         )
+
+    pub ends_reached : EndsReached meaning g
+    ends_reached held t is_held n u r reached s closed =
+        ends_in held (are_over held is_held) (are_over no_images none_are) s closed.reads n u r (reached s closed)
