@@ -9,7 +9,16 @@ use Rattle.fx_image.specs.Stored.{Stored}
 use Rattle.fx_effect.specs.Meaning.{Meaning}
 use Rattle.fx_scene.specs.declared.key.Key.{Key}
 use Rattle.fx_scene.specs.Nodes.{Nodes}
-use Rattle.fx_scene.specs.Scenes.{Shot}
+use Rattle.fx_graph.specs.Shown.{GraphShown}
+use Rattle.fx_scene.specs.Scenes.{Shot, fetched_in, graph_nodes, images_in, no_images, node_values}
+use Rattle.fx_scene.specs.Holds.{IsHeldAt}
+use Rattle.fx_scene.specs.Reach.{IsReached}
+use Rattle.fx_scene.specs.Right.{HasWanted, IsTile}
+use Rattle.fx_scene.specs.Scripts.{IsRightFor, era_of}
+use Rattle.fx_scene.specs.Takes.{graph_of_take}
+use Rattle.fx_scene.proofs.SiteLemmas.{reads_same}
+use Rattle.fx_region.specs.Tables.{Has}
+use Rattle.fx_region.proofs.TableLemmas.{reached_same}
 use Rattle.fx_region.specs.Counts.{is_asked}
 use Rattle.fx_region.specs.Ends.{end_shown}
 use Rattle.fx_scene.specs.Sites.{scene_nodes}
@@ -17,27 +26,66 @@ use Rattle.fx_region.specs.declared.ends.End.{End}
 use Rattle.fx_region.specs.declared.ends.End.TheVariants as code
 use Rattle.fx_region.specs.declared.ends.Need.{Need}
 use Rattle.fx_tile.specs.Counts.{AskedOnce, Fetched, Follows, IsUnasked, Lands, Met, Within, one_if_some}
-use Rattle.fx_tile.specs.Setups.{IsFound, IsKeyOf, IsTileOf, MayBeTileOf, renders_of}
-use Rattle.fx_tile.specs.Tiles.{IsRightTile, IsTile}
+use Rattle.fx_tile.specs.Setups.{IsFound, IsKeyOf, IsSetup, IsTileOf, MayBeTileOf, renders_of}
 use Rattle.fx_tile.specs.declared.count.RenderCount.{RenderCount}
 use Rattle.fx_tile.specs.declared.setup.Setup.{Setup}
 
 -- ---- keys
 
--- the image of a key's region is right under it
-pub right_of : {E : Type 0} (meaning : E → Meaning) (name scene : Shot E) (node : ℕ) (frame : ℤ) (region : Bounds) (key : Key) (image : Stored)
-    → name ≡ scene → IsKeyOf scene node frame region key → IsTile (scene_nodes meaning scene) node frame region image
-    → IsRightTile meaning name key image
-right_of meaning name scene node frame region key image named is tile =
-    subst (λ (s : Shot _). IsRightTile meaning s key image) (sym named)
-    (subst (λ (k : Key). IsRightTile meaning scene k image) (sym is) (record { values = refl; era = refl; tile = tile }))
+module _ {E : Type 0} {c e : _} (meaning : E → Meaning) (number : E → ℕ) (setup : Setup E c e) (is : IsSetup meaning number setup) where
+  abbrev scene : Shot E
+  scene = setup.scene.now
 
--- and what is right under the key is the image of its region
-pub tile_of : {E : Type 0} (meaning : E → Meaning) (name scene : Shot E) (node : ℕ) (frame : ℤ) (region : Bounds) (key : Key) (image : Stored)
-    → name ≡ scene → IsKeyOf scene node frame region key → IsRightTile meaning name key image
-    → IsTile (scene_nodes meaning scene) node frame region image
-tile_of meaning name scene node frame region key image named is right =
-    (subst (λ (k : Key). IsRightTile meaning scene k image) is (subst (λ (s : Shot _). IsRightTile meaning s key image) named right)).tile
+  abbrev taken : GraphShown E
+  taken = graph_of_take scene.script.written scene.script.takes scene.script.take
+
+  same : scene.graph ≡ taken
+  same = is.keeps.is.played.graph_is
+
+  -- what the scene's frame wants is held of all that was fetched
+  held_at : IsHeldAt meaning scene.script.written scene.script.takes (images_in scene.store) (fetched_in scene.store) scene.script.take is.regions.at
+  held_at =
+      record {
+        few = is.keeps.is.played.among;
+        held_are = is.keeps.is.held;
+        all_are = is.keeps.is.fetched;
+        among = is.keeps.is.among;
+        holds = subst (λ (g : GraphShown E). HasWanted meaning g (images_in scene.store) g.output is.regions.at) same is.holds;
+      }
+
+  reached_at : (node : ℕ) (frame : ℤ) → Has setup.regions.now node frame
+      → IsReached (graph_nodes meaning taken no_images) taken.output is.regions.at is.regions.at node frame
+  reached_at node frame has =
+      subst (λ (g : GraphShown E). IsReached (graph_nodes meaning g no_images) g.output is.regions.at is.regions.at node frame) same
+      (reached_same (scene_nodes meaning scene) (graph_nodes meaning scene.graph no_images) scene.graph.output is.regions.at is.regions.at node frame
+      (λ n t m f. reads_same meaning scene.graph (images_in scene.store) no_images n t m f) (is.regions.are.only node frame has))
+
+  -- the image of a key's region is right under it
+  pub right_of : (node : ℕ) (frame : ℤ) (region : Bounds) (key : Key) (image : Stored) → Has setup.regions.now node frame
+      → IsKeyOf scene node frame region key → IsTile (scene_nodes meaning scene) node frame region image
+      → IsRightFor meaning setup.shared.now.directory.name.scene.value key image
+  right_of node frame region key image has of tile =
+      subst (λ (s : Shot E). IsRightFor meaning s key image) (sym is.name)
+      (subst (λ (k : Key). IsRightFor meaning scene k image) (sym of)
+      (is.keeps.made (images_in scene.store) (fetched_in scene.store) scene.script.take is.regions.at own image held_at (reached_at node frame has) refl
+      (ap (λ (g : GraphShown E). node_values g node frame) same)
+      (subst (λ (g : GraphShown E). IsTile (graph_nodes meaning g (images_in scene.store)) node frame region image) same tile)))
+    where
+      own : Key
+      own = record { node = node; frame = frame; region = region; values = node_values scene.graph node frame; era = era_of scene.script node }
+
+  -- and what is right under the key is the image of its region
+  pub tile_of : (node : ℕ) (frame : ℤ) (region : Bounds) (key : Key) (image : Stored) → Has setup.regions.now node frame
+      → IsKeyOf scene node frame region key → IsRightFor meaning setup.shared.now.directory.name.scene.value key image
+      → IsTile (scene_nodes meaning scene) node frame region image
+  tile_of node frame region key image has of right =
+      subst (λ (g : GraphShown E). IsTile (graph_nodes meaning g (images_in scene.store)) node frame region image) (sym same)
+      (is.keeps.right (images_in scene.store) (fetched_in scene.store) scene.script.take is.regions.at own image held_at (reached_at node frame has) refl
+      (subst (λ (k : Key). IsRightFor meaning scene k image) of
+      (subst (λ (s : Shot E). IsRightFor meaning s key image) is.name right)))
+    where
+      own : Key
+      own = record { node = node; frame = frame; region = region; values = node_values scene.graph node frame; era = era_of scene.script node }
 
 -- ---- the flight that joined stands among the seat's
 

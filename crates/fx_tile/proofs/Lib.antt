@@ -16,3 +16,4 @@ pub mod WriteLemmas
 pub mod CountLemmas
 pub mod FoundTileLemmas
 pub mod SeatLemmas
+pub mod FilledLemmas

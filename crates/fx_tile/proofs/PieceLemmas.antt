@@ -17,6 +17,7 @@ use Rattle.fx_image.specs.Stored.{Stored, image_of, shown}
 use Rattle.fx_effect.specs.Tap.{Tap}
 use Rattle.fx_effect.specs.Given.{Given, GivenPiece, converted, first_pixel, holds_tap, piece_pixel}
 use Rattle.fx_effect.specs.declared.steps.Step.{Step}
+use Rattle.fx_scene.specs.Right.{IsTile}
 use Rattle.fx_scene.specs.Nodes.{Node, Nodes, Source, SourceFrames, depth_at}
 use Rattle.fx_scene.specs.Value.{value}
 use Rattle.fx_region.specs.declared.ends.End.{End}
@@ -28,7 +29,6 @@ use Rattle.std.proofs.Common.{map}
 use Rattle.fx_tile.specs.Inputs.{AddsPiece, AreInputs, ArePiecesOf, IsPieceOf, piece_of}
 use Rattle.fx_tile.specs.Counts.{one_if_some}
 use Rattle.fx_tile.specs.Setups.{EachTile}
-use Rattle.fx_tile.specs.Tiles.{IsTile}
 
 -- ---- the piece of a need
 

@@ -27,6 +27,7 @@ use Rattle.fx_graph.specs.Nodes.{Form}
 use Rattle.fx_graph.specs.Shown.{GraphShown}
 use Rattle.fx_life.specs.Filled.{IsFilled}
 use Rattle.fx_life.specs.Posts.{HasLife, Lives, Plays, used_by}
+use Rattle.fx_scene.specs.Right.{IsTile}
 use Rattle.fx_scene.specs.Nodes.{AreNodes, Effect, EffectNode as Effects, IsEffectNode, IsNode, Node, Nodes, depth_at, node_components, node_depth, seen}
 use Rattle.fx_scene.specs.Scenes.{Images, graph_nodes}
 use Rattle.fx_scene.specs.Value.{Pixels, node_value, tap_value, value}
@@ -40,7 +41,6 @@ use Rattle.fx_scene.specs.Sites.{StandsIn}
 use Rattle.fx_scene.specs.Windows.{IsWindowOf}
 use Rattle.fx_region.specs.Suffice.{ShowsTaps}
 use Rattle.fx_tile.specs.Inputs.{AreInputs}
-use Rattle.fx_tile.specs.Tiles.{IsTile}
 use Rattle.fx_tile.proofs.PieceLemmas.{pieces_pixel}
 
 -- its instance is in the life

@@ -1,4 +1,5 @@
--- Equal keys are the same, and so what may be kept under the one may be kept under the other.
+-- Equal keys are the same, and so what may be kept under the one may be kept under the other; and what may be kept stays
+-- so where a scene has grown.
 use Rattle.std.proofs.Common.{◌≡◌, ℕ, ℤ, List, Bool, true, ◌&&◌, nat_eq, refl, sym, subst, arith}
 use Rattle.std.specs.Bool.{beq}
 use Rattle.std.specs.Cmp.{booleans_Decides, signed_Decides}
@@ -14,8 +15,12 @@ use Rattle.fx_effect.specs.declared.values.Values.{Values}
 use Rattle.fx_effect.specs.contracts.values.ValuesPartialEq.TheImpl as values
 use Rattle.fx_scene.specs.declared.key.Key.{Key}
 use Rattle.fx_scene.specs.contracts.key.KeyPartialEq.TheImpl.{eq-value}
-use Rattle.fx_scene.specs.Scenes.{Shot}
-use Rattle.fx_tile.specs.Tiles.{IsRightTile}
+use Rattle.fx_graph.specs.Shown.{GraphShown}
+use Rattle.fx_scene.specs.declared.take.Edit.{Edit}
+use Rattle.fx_scene.specs.Depends.{AreImages}
+use Rattle.fx_scene.specs.Right.{HasGrown, IsRightTile, RightStays}
+use Rattle.fx_scene.specs.Scenes.{Images, Shot, fetched_in}
+use Rattle.fx_scene.specs.Scripts.{HasGrownTo, IsRightFor}
 
 nat_same : (a b : ℕ) → nat_eq a b ≡ true → a ≡ b
 nat_same a b e = grind (arith, nat_tests)
@@ -68,10 +73,28 @@ same_key j k e =
     (values_same j.values k.values t.0) (nat_same j.era k.era t.1)
 
 pub right_under : {E : Type 0} (meaning : E → Meaning) (scene : Shot E) (j k : Key) (image : Stored)
-    → eq-value.it j k ≡ true → IsRightTile meaning scene j image → IsRightTile meaning scene k image
+    → eq-value.it j k ≡ true → IsRightFor meaning scene j image → IsRightFor meaning scene k image
 right_under meaning scene j k image same right =
-    subst (λ (i : Key). IsRightTile meaning scene i image) (same_key j k same) right
+    subst (λ (i : Key). IsRightFor meaning scene i image) (same_key j k same) right
+
+-- ---- names that grow
+
+-- the second scene is one that the first has grown to, and what is right of it stays right
+pub record MayGrow {E : Type 0} (meaning : E → Meaning) (old new : Shot E) : Type 0 where
+  pub grown : HasGrownTo old new
+  pub images : AreImages (fetched_in new.store)
+  pub stays : RightStays meaning new.script.written new.script.takes
+
+-- what the first one fetched are images of frames too
+among_images : (old new : Images) → HasGrown old new → AreImages new → AreImages old
+among_images old new grown are n f image is = are n f image (grown n f image is)
 
 pub right_still : {E : Type 0} (meaning : E → Meaning) (old new : Shot E) (k : Key) (image : Stored)
-    → new ≡ old → IsRightTile meaning old k image → IsRightTile meaning new k image
-right_still meaning old new k image same right = subst (λ s. IsRightTile meaning s k image) (sym same) right
+    → MayGrow meaning old new → IsRightFor meaning old k image → IsRightFor meaning new k image
+right_still {E} meaning old new k image may right =
+    may.stays (fetched_in old.store) (fetched_in new.store) k image
+    (among_images (fetched_in old.store) (fetched_in new.store) may.grown.among may.images) may.images may.grown.among
+    (subst (λ (takes : List (List Edit)). IsRightTile meaning new.script.written takes (fetched_in old.store) k image)
+    (sym may.grown.takes)
+    (subst (λ (g : GraphShown E). IsRightTile meaning g old.script.takes (fetched_in old.store) k image)
+    (sym may.grown.written) right))

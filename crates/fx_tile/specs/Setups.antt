@@ -11,14 +11,18 @@ use Rattle.fx_effect.specs.Meaning.{Meaning}
 use Rattle.fx_seq.specs.Held.{held}
 use Rattle.fx_directory.specs.Seats.{Made}
 use Rattle.fx_gate.specs.Gates.{GateSeatState}
+use Rattle.fx_scene.specs.Right.{HasWanted, IsTile}
 use Rattle.fx_scene.specs.declared.key.Key.{Key}
 use Rattle.fx_scene.specs.Areas.{area}
 use Rattle.fx_scene.specs.Nodes.{AreNodes, EffectNode, Effect, Nodes, Source, SourceFrames}
 use Rattle.fx_life.specs.Posts.{HasLife}
-use Rattle.fx_scene.specs.Scenes.{Shot, graph_shown, node_values}
+use Rattle.fx_scene.specs.Scenes.{Shot, graph_shown, images_in, node_values}
+use Rattle.fx_scene.specs.Scripts.{IsScene, era_of}
+use Rattle.fx_scene.specs.Holds.{MadeIsRight, RightIsMade}
 use Rattle.fx_region.specs.declared.ends.End.{End}
 use Rattle.fx_region.specs.declared.ends.End.TheVariants as code
 use Rattle.fx_region.specs.declared.ends.Need.{Need}
+use Rattle.fx_region.specs.declared.regions.Regions.{Regions}
 use Rattle.fx_region.specs.Counts.{is_asked}
 use Rattle.fx_region.specs.Ends.{EndShown, Frame, Render, Void, end_shown}
 use Rattle.fx_region.specs.Needs.{need_shown, needs_of}
@@ -28,16 +32,33 @@ use Rattle.fx_region.specs.Tables.{Has, IsMadeOf}
 use Rattle.fx_tile.specs.declared.share.TileSeat.{TileSeat}
 use Rattle.fx_tile.specs.declared.setup.Setup.{Setup}
 use Rattle.fx_tile.specs.Counts.{Fetched, IsUnasked}
-use Rattle.fx_tile.specs.Tiles.{IsRegion, IsTile}
+use Rattle.fx_tile.specs.Tiles.{IsRegion}
+
+-- the scene holds what its output wants at a frame
+abbrev pub HoldsAt : {E : Type 0} → (E → Meaning) → Shot E → ℤ → Type 0
+HoldsAt meaning scene t = HasWanted meaning scene.graph (images_in scene.store) scene.graph.output t
+
+-- what is known of the scene, and of what may be kept of it
+pub record KeepsTiles {E : Type 0} (meaning : E → Meaning) (scene : Shot E) : Type 0 where
+  pub is : IsScene meaning scene
+  pub made : MadeIsRight meaning scene.script.written scene.script.takes
+  pub right : RightIsMade meaning scene.script.written scene.script.takes
+
+-- the regions were made of this scene at a frame of which it holds what is wanted
+pub record AreHeld {E : Type 0} (meaning : E → Meaning) (scene : Shot E) (regions : Regions) : Type 0 where
+  pub made : IsMadeOf meaning scene regions
+  pub holds : HoldsAt meaning scene made.at
 
 -- the graph and the frames are the scene's, its effects keep their laws, of it are the instances, the regions and what
--- is kept, and there are gates for all plug-ins and nodes
+-- is kept, it holds what the regions' frame wants, and there are gates for all plug-ins and nodes
 pub record IsSetup {E : Type 0} {c e : _} (meaning : E → Meaning) (number : E → ℕ) (setup : Setup E c e) : Type 0 where
   pub graph : setup.scene.now.graph ≡ graph_shown setup.graph.now
   pub store : setup.scene.now.store ≡ setup.store.now
   pub nodes : AreNodes (scene_nodes meaning setup.scene.now)
   pub life : HasLife number setup.scene.now.graph setup.life.now
   pub regions : IsMadeOf meaning setup.scene.now setup.regions.now
+  pub holds : HoldsAt meaning setup.scene.now regions.at
+  pub keeps : KeepsTiles meaning setup.scene.now
   pub name : setup.shared.now.directory.name.scene.value ≡ setup.scene.now
   pub gates : 64 + length setup.scene.now.graph.nodes ≤ setup.shared.now.gates.gates
 
@@ -69,7 +90,7 @@ IsKeyOf scene node frame region key =
       frame = frame;
       region = region;
       values = node_values scene.graph node frame;
-      era = 0;
+      era = era_of scene.script node;
     }
 
 -- ---- what has to be there

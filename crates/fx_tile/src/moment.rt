@@ -9,6 +9,7 @@ ghost use Rattle.fx_pool.specs.Weights.{plus, weigh};
 ghost use Rattle.fx_region.specs.Counts.{window_ends};
 ghost use Rattle.fx_region.specs.Ends.{end_of};
 ghost use Rattle.fx_region.specs.Tables.{Has};
+ghost use Rattle.fx_scene.specs.Right.{HasWanted};
 ghost use Rattle.fx_scene.specs.Sites.{scene_nodes};
 ghost use Rattle.fx_scene.specs.Scenes.{images_in, picture};
 ghost use Rattle.fx_tile.specs.Counts.{CanCount};
@@ -46,8 +47,9 @@ pub struct Rendered<E: Catalogue> {
 /// grid cut to the project's extent: each of these, as `window_tile` does, in one draw. Then they write its bands, which
 /// are the rows of the grid cut so: each band in one draw, with the rows of its tiles. There are 1 to 64 seats, each
 /// with one part of the directory and of the gates, no flight and no gate; they come back so, as many, at `Memory` too,
-/// once all workers have ended. The life is that of the scene's graph, the directory's name is that of the scene, and
-/// there are gates for 64 plug-ins and each node. Each worker calls `pace.before_draw` with its number before each draw.
+/// once all workers have ended. The scene holds what the frame wants, the life is that of its graph, the directory's name
+/// is that of the scene, and there are gates for 64 plug-ins and each node. Each worker calls `pace.before_draw` with its
+/// number before each draw.
 /// `Memory` comes where memory is wanting, or where a count would pass the greatest number that it can be.
 pub fn render_moment<R: Threads + Wait + Clock + Sync, E: Catalogue + Send + Sync + Drop, P: Pace>(
     rt: &R,
@@ -60,6 +62,7 @@ pub fn render_moment<R: Threads + Wait + Clock + Sync, E: Catalogue + Send + Syn
     frame: i64,
 ) -> Result<Rendered<E>, (Vec<TileSeat<E>>, Memory)>
     requires life { HasLife E.number_of scene.now.graph life.now }
+    requires holds { HasWanted E.meaning scene.now.graph (images_in scene.now.store) scene.now.graph.output frame }
     requires name { shared.now.directory.name.scene.value ≡ scene.now }
     requires gates { 64 + length scene.now.graph.nodes ≤ shared.now.gates.gates }
     requires workers { (1 ≤ vec_len seats) × (vec_len seats ≤ 64) }

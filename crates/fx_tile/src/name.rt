@@ -25,13 +25,12 @@ impl<E: Catalogue> SceneName<E> {
 }
 
 impl<E: Catalogue> Suits<SceneName<E>, Key> for Image {
-    ghost use Rattle.std.specs.Prelude.{◌≡◌};
-    ghost use Rattle.fx_tile.specs.Tiles.{IsRightTile};
-    ghost use Rattle.fx_tile.specs.KeyLaws.{right_under, right_still};
+    ghost use Rattle.fx_scene.specs.Scripts.{IsRightFor};
+    ghost use Rattle.fx_tile.specs.KeyLaws.{MayGrow, right_under, right_still};
 
-    ghost suits = { λ name key image. IsRightTile E.meaning name.scene.value key image };
+    ghost suits = { λ name key image. IsRightFor E.meaning name.scene.value key image };
 
-    ghost grown = { λ old new. new.scene.value ≡ old.scene.value };
+    ghost grown = { λ old new. MayGrow E.meaning old.scene.value new.scene.value };
 
     ghost same_key = { λ name j k image same right. right_under E.meaning name.scene.value j k image same right };
 

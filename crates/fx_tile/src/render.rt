@@ -4,10 +4,11 @@ ghost use Rattle.std.specs.Arc.{arc_value};
 ghost use Rattle.fx_base.specs.declared.limits.TheConstants.{MOST_SIDE};
 ghost use Rattle.fx_base.specs.Rect.{IsNear, columns};
 ghost use Rattle.fx_image.specs.Stored.{pixel_size};
+ghost use Rattle.fx_scene.specs.Right.{IsTile};
 ghost use Rattle.fx_scene.specs.Scenes.{graph_shown};
 ghost use Rattle.fx_scene.specs.Sites.{IsAsked, StandsIn, scene_nodes};
 ghost use Rattle.fx_scene.specs.Windows.{IsWindowOf};
-ghost use Rattle.fx_tile.specs.Tiles.{IsRegion, IsTile};
+ghost use Rattle.fx_tile.specs.Tiles.{IsRegion};
 ghost use Rattle.fx_tile.specs.Setups.{AreNeeds, AreTilesOf, IsGateSeat, IsReady, IsRenderable, IsSetup};
 
 use crate::inputs::inputs_of;

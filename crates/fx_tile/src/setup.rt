@@ -1,8 +1,7 @@
 //! What renders are made from.
 ghost use Rattle.std.specs.Prelude.{◌≡◌, ◌≤◌, ◌+◌, length};
 ghost use Rattle.fx_life.specs.Posts.{HasLife};
-ghost use Rattle.fx_region.specs.Tables.{IsMadeOf};
-ghost use Rattle.fx_tile.specs.Setups.{IsSetup};
+ghost use Rattle.fx_tile.specs.Setups.{AreHeld, IsSetup};
 
 use crate::share::Shared;
 use fx_effect::Catalogue;
@@ -10,6 +9,8 @@ use fx_graph::Graph;
 use fx_life::Life;
 use fx_region::Regions;
 use fx_scene::Scene;
+use fx_scene::laws::scene_is;
+use fx_scene::take_laws::scene_tiles;
 use fx_seq::Store;
 
 /// A scene with its graph and the frames of its sources that were fetched, the regions of its nodes, the instances
@@ -32,7 +33,7 @@ impl<'a, E: Catalogue> Setup<'a, E> {
         shared: &'a Shared<E>,
     ) -> Setup<'a, E>
         requires life { HasLife E.number_of scene.now.graph life.now }
-        requires regions { IsMadeOf E.meaning scene.now regions.now }
+        requires regions { AreHeld E.meaning scene.now regions.now }
         requires name { shared.now.directory.name.scene.value ≡ scene.now }
         requires gates { 64 + length scene.now.graph.nodes ≤ shared.now.gates.gates }
         ensures setup { IsSetup E.meaning E.number_of result }
@@ -40,6 +41,8 @@ impl<'a, E: Catalogue> Setup<'a, E> {
         ensures regions { result.regions.now ≡ regions.now }
         ensures shared { result.shared.now ≡ shared.now }
     {
+        scene_is(scene);
+        scene_tiles(scene);
         Setup {
             scene,
             graph: scene.graph(),

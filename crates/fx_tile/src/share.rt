@@ -1,8 +1,9 @@
 //! What those who render tiles share, and what each has for himself.
-ghost use Rattle.std.specs.Prelude.{◌≡◌, ◌≤◌, ◌<◌, ◌+◌, ◌-◌, [], All, IfOk, OnErr, OnOk, length, vec_len};
+ghost use Rattle.std.specs.Prelude.{◌≡◌, ◌≤◌, ◌<◌, ◌+◌, ◌-◌, [], All, IfErr, IfOk, OnErr, OnOk, length, vec_len};
 ghost use Rattle.fx_directory.specs.Seats.{both_made, nothing_made, totals_of};
 ghost use Rattle.fx_pool.specs.Weights.{plus, weigh};
 ghost use Rattle.fx_turn.specs.Seats.{all_parts};
+ghost use Rattle.fx_scene.specs.Scripts.{HasGrownTo};
 ghost use Rattle.fx_tile.specs.Moments.{IsFree, IsIdle, seat_weight};
 ghost use Rattle.fx_tile.specs.Seats.{AreAll};
 ghost use Rattle.fx_tile.specs.Setups.{made_of};
@@ -14,6 +15,8 @@ use fx_directory::{DirSeat, Directory};
 use fx_effect::Catalogue;
 use fx_gate::{GateSeat, Gates};
 use fx_image::Image;
+use fx_scene::laws::scene_is;
+use fx_scene::take_laws::scene_tiles;
 use fx_scene::{Key, Scene};
 use std::alloc::Global;
 
@@ -105,6 +108,62 @@ impl<E: Catalogue + Drop> Shared<E> {
     {
         while let Some(seat) = seats.pop() {
             self.join_one(first, seat);
+        }
+    }
+
+    /// The same under the name of a scene that the one of the name has grown to: what is kept stays, and so do the
+    /// gates, the grid and the counts. At `Memory` all is as before.
+    pub fn renew(
+        self,
+        alloc: Global,
+        first: TileSeat<E>,
+        scene: &Scene<E>,
+    ) -> Result<(Shared<E>, TileSeat<E>), (Shared<E>, TileSeat<E>, Memory)>
+        requires first { AreAll self first [] }
+        requires grown { HasGrownTo self.directory.name.scene.value scene.now }
+        ensures name { IfOk result (λ r. r.0.directory.name.scene.value ≡ scene.now) }
+        ensures capacity { IfOk result (λ r. r.0.directory.capacity ≡ self.directory.capacity) }
+        ensures gates { IfOk result (λ r. r.0.gates ≡ self.gates) }
+        ensures grid { IfOk result (λ r. r.0.grid ≡ self.grid) }
+        ensures first { IfOk result (λ r. AreAll r.0 r.1 []) }
+        ensures made { IfOk result (λ r. made_of r.1 ≡ made_of first) }
+        ensures back { IfErr result (λ r. (r.0 ≡ self) × (r.1 ≡ first)) }
+    {
+        scene_is(scene);
+        scene_tiles(scene);
+        let Shared {
+            directory,
+            gates,
+            grid,
+        } = self;
+        let TileSeat {
+            directory: seat,
+            gates: gate_seat,
+        } = first;
+        match directory.renew(alloc, seat, SceneName::of(scene)) {
+            Ok((directory, seat)) => Ok((
+                Shared {
+                    directory,
+                    gates,
+                    grid,
+                },
+                TileSeat {
+                    directory: seat,
+                    gates: gate_seat,
+                },
+            )),
+            Err((directory, seat, _, memory)) => Err((
+                Shared {
+                    directory,
+                    gates,
+                    grid,
+                },
+                TileSeat {
+                    directory: seat,
+                    gates: gate_seat,
+                },
+                memory,
+            )),
         }
     }
 

@@ -4,9 +4,10 @@ ghost use Rattle.std.specs.Arc.{arc_value};
 ghost use Rattle.fx_base.specs.declared.limits.TheConstants.{MOST_TILE_SIDE};
 ghost use Rattle.fx_core.specs.Flight.{Stands};
 ghost use Rattle.fx_directory.specs.Seats.{LeavesAlone};
+ghost use Rattle.fx_scene.specs.Right.{IsTile};
+ghost use Rattle.fx_scene.specs.Scripts.{IsRightFor};
 ghost use Rattle.fx_scene.specs.Sites.{scene_nodes};
 ghost use Rattle.fx_scene.specs.Scenes.{node_values};
-ghost use Rattle.fx_tile.specs.Tiles.{IsRightTile, IsTile};
 ghost use Rattle.fx_tile.specs.Setups.{AreNeeds, AreTilesOf, IsFound, IsKeyOf, IsReady, IsRenderable, IsSeat, IsSetup, IsTileOf, KeepsSeat, MayBeTileOf, MayBeTilesOf, made_of, renders_needed, renders_of};
 ghost use Rattle.fx_tile.specs.Counts.{AskedOnce, Fetched, Follows, Lands, Met, Within, one_if_some};
 
@@ -182,7 +183,7 @@ fn landed<R: Wait + Clock, E: Catalogue + Drop>(
     requires own { Stands seat.old.directory.aloft flight }
     requires stamped { IsTrue flight.ticket.stamped }
     requires right { let scene = setup.now.shared.now.directory.name.scene.value in
-        IsRightTile E.meaning scene (arc_value flight.key) (arc_value image) }
+        IsRightFor E.meaning scene (arc_value flight.key) (arc_value image) }
     ensures same { IfOk result (λ tile. arc_value tile ≡ arc_value image) }
     ensures row { IsSeat setup.now seat.new }
     ensures parts { seat.new.directory.parts ≡ seat.old.directory.parts }

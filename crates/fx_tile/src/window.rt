@@ -7,6 +7,7 @@ ghost use Rattle.fx_image.specs.Image.{pixel_at};
 ghost use Rattle.fx_effect.specs.Given.{row_pixel};
 ghost use Rattle.fx_pam.specs.Laws.{components_for};
 ghost use Rattle.fx_region.specs.Ends.{end_of, end_pixel, end_shown};
+ghost use Rattle.fx_scene.specs.Right.{HasWanted};
 ghost use Rattle.fx_scene.specs.Sites.{scene_nodes};
 ghost use Rattle.fx_region.specs.Tables.{AreRegions};
 ghost use Rattle.fx_scene.specs.Scenes.{images_in, picture};
@@ -34,11 +35,11 @@ use std::sync::{Arc, Wait};
 
 /// Writes the pixels of a tile of the picture of a frame into a part, and no others. The tile lies within the
 /// project's extent and the part, which has the picture's depth and components; the regions are those of the scene at
-/// that frame; the life is that of its graph, and the directory's name is that of the scene; there are gates for 64
-/// plug-ins and each node. The seat is one of the directory and of the gates, and has no flight and no gate, before and
-/// after. `Memory` comes where memory is wanting: then the pixels of the tile may be anything, and each flight of the
-/// call was dropped. Where another renders what is needed it is waited for. A render holds the gate of its node, once
-/// what it reads is there, and releases it before it lands.
+/// that frame, and it holds what the frame wants; the life is that of its graph, and the directory's name is that of the
+/// scene; there are gates for 64 plug-ins and each node. The seat is one of the directory and of the gates, and has no
+/// flight and no gate, before and after. `Memory` comes where memory is wanting: then the pixels of the tile may be
+/// anything, and each flight of the call was dropped. Where another renders what is needed it is waited for. A render
+/// holds the gate of its node, once what it reads is there, and releases it before it lands.
 pub fn window_tile<R: Wait + Clock, E: Catalogue + Drop>(
     rt: &R,
     alloc: Global,
@@ -54,6 +55,7 @@ pub fn window_tile<R: Wait + Clock, E: Catalogue + Drop>(
     requires life { HasLife E.number_of scene.now.graph life.now }
     requires regions { let nodes = scene_nodes E.meaning scene.now in let g = scene.now.graph in
         AreRegions nodes (length g.nodes) g.output frame regions.now }
+    requires holds { HasWanted E.meaning scene.now.graph (images_in scene.now.store) scene.now.graph.output frame }
     requires name { shared.now.directory.name.scene.value ≡ scene.now }
     requires seat { seat.old.directory.row ≡ shared.now.directory }
     requires free { seat.old.directory.aloft ≡ [] }

@@ -1,4 +1,6 @@
 use Rattle.std.proofs.Common.{◌≡◌, ◌∙◌, ℕ, ℤ, List, All, length, sym, subst, w64, to_z, of_z}
+use Rattle.std.proofs.lemmas.Int.{to_z-of_z}
+use mir.Val.{SFits}
 use Rattle.fx_base.specs.Bounds.{Bounds}
 use Rattle.fx_region.specs.declared.regions.Regions.{Regions}
 use Rattle.fx_region.specs.Tables.{Has}
@@ -7,9 +9,18 @@ use Rattle.fx_scene.specs.Sites.{scene_nodes}
 use Rattle.fx_tile.specs.declared.found.FoundTile.{FoundTile}
 use Rattle.fx_tile.specs.declared.share.Shared.{Shared}
 use Rattle.fx_tile.specs.Moments.{IsFoundTile, IsFree, IsWindowTile}
+use Rattle.fx_tile.specs.Setups.{HoldsAt}
 use Rattle.fx_tile.proofs.SeatLemmas.{nothing_kept}
 use Rattle.fx_tile.proofs.SetupLemmas.{has_output}
 use Rattle.fx_tile.proofs.moment.render_moment.Goals as goal
+
+pub of-setup-requires-clause-regions : goal.of-setup-requires-clause-regions
+of-setup-requires-clause-regions g c =
+    let fits : SFits w64 c.args.frame = c.ranges.frame in
+    record {
+      made = record { at = to_z w64 (of_z w64 c.args.frame); are = c.in-Ok.ensures.regions };
+      holds = subst (λ (t : ℤ). HoldsAt g.E.ImageEffect.meaning c.args.scene.now t) (sym (to_z-of_z w64 _ fits)) c.requires.holds;
+    }
 
 pub find_all-requires-clause-reached : goal.find_all-requires-clause-reached
 find_all-requires-clause-reached g c κs within =

@@ -5,13 +5,13 @@ use Rattle.std.specs.Arc.{arc_value}
 use Rattle.fx_image.specs.Stored.{Stored}
 use Rattle.fx_effect.specs.declared.values.Values.{Values}
 use Rattle.fx_graph.specs.Kept.{use_values}
+use Rattle.fx_scene.specs.Right.{IsTile}
 use Rattle.fx_scene.specs.Reach.{IsNearFrame}
 use Rattle.fx_scene.specs.Scenes.{graph_shown}
 use Rattle.fx_region.specs.declared.ends.Need.{Need}
 use Rattle.fx_scene.specs.Sites.{effect_at, scene_nodes, seen_in}
 use Rattle.fx_scene.specs.Windows.{IsWindowOf}
 use Rattle.fx_scene.proofs.SiteLemmas.{masks_counted, sees}
-use Rattle.fx_tile.specs.Tiles.{IsTile}
 use Rattle.fx_tile.proofs.RenderLemmas.{window_tile}
 use Rattle.fx_tile.proofs.SetupLemmas.{effect_there, place_of}
 use Rattle.fx_tile.proofs.render.effect_rendered.Goals as goal

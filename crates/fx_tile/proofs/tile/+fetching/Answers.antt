@@ -13,7 +13,7 @@ use Rattle.fx_scene.specs.Sites.{scene_nodes}
 use Rattle.fx_region.specs.declared.ends.Need.{Need}
 use Rattle.fx_tile.specs.Counts.{AskedOnce, one_if_some}
 use Rattle.fx_tile.specs.Setups.{EachTile, IsFound, IsTileOf, MayBeTileOf, renders_needed}
-use Rattle.fx_tile.proofs.FlightLemmas.{fetched_after, follows_more, joined, met_both, met_same, right_of, within_later}
+use Rattle.fx_tile.proofs.FlightLemmas.{fetched_after, follows_more, joined, met_both, met_same, right_of, tile_of, within_later}
 use Rattle.fx_tile.proofs.GatherLemmas.{gathers_early, gathers_now}
 use Rattle.fx_tile.proofs.PieceLemmas.{tiles_long, tiles_more}
 use Rattle.fx_tile.proofs.tile.+fetching.Goals as goal
@@ -40,8 +40,14 @@ pub made-landed-requires-clause-right : goal.made-landed-requires-clause-right
 made-landed-requires-clause-right g t c =
     let fits : SFits w64 c.args.frame = c.ranges.frame in
     let tile = simp to_z-of_z at c.in-Ok.ensures.tile in
-    right_of g.E.ImageEffect.meaning c.args.setup.now.shared.now.directory.name.scene.value c.args.setup.now.scene.now c.args.node c.args.frame c.args.region (arc_value c.args.flight.key)
-    (arc_value c.in-Ok.image) c.requires.setup.name c.requires.key tile
+    right_of g.E.ImageEffect.meaning g.E.Catalogue.number_of c.args.setup.now c.requires.setup c.args.node c.args.frame c.args.region (arc_value c.args.flight.key)
+    (arc_value c.in-Ok.image) c.requires.renderable.reached c.requires.key tile
+
+pub fetch_unless_busy-returns-in-Here-clause-tile : goal.fetch_unless_busy-returns-in-Here-clause-tile
+fetch_unless_busy-returns-in-Here-clause-tile g t c =
+    let here = rw c.in-Here.is at c.in_ok-image.ensures.here in
+    tile_of g.E.ImageEffect.meaning g.E.Catalogue.number_of c.args.setup.now c.requires.setup c.args.node c.args.frame c.args.region (arc_value c.args.key)
+    (arc_value c.in-Here.image) c.requires.renderable.reached c.requires.key here
 
 pub fetch_unless_busy-made-requires : goal.fetch_unless_busy-made-requires
 fetch_unless_busy-made-requires g t c κs within =

@@ -9,6 +9,10 @@ use Rattle.fx_scene.specs.Sites.{scene_nodes}
 use Rattle.fx_tile.proofs.SetupLemmas.{has_output}
 use Rattle.fx_tile.proofs.window.window_tile.Goals as goal
 
+pub of-setup-requires-clause-regions : goal.of-setup-requires-clause-regions
+of-setup-requires-clause-regions g c =
+    record { made = record { at = c.args.frame; are = c.requires.regions }; holds = c.requires.holds }
+
 pub found_tile-requires-clause-reached : goal.found_tile-requires-clause-reached
 found_tile-requires-clause-reached g c =
     let fits : SFits w64 c.args.frame = c.ranges.frame in

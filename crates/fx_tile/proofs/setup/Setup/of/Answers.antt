@@ -23,7 +23,9 @@ returns-clause-setup g c =
       store = sym c.store.ensures;
       nodes = subst AreNodes (same_nodes m (graph_shown graph) c.args.scene.now.graph store c.args.scene.now.store c.graph.ensures.shown c.store.ensures) nodes;
       life = c.requires.life;
-      regions = c.requires.regions;
+      regions = c.requires.regions.made;
+      holds = c.requires.regions.holds;
+      keeps = record { is = c.scene_is.ensures; made = c.scene_tiles.ensures.made; right = c.scene_tiles.ensures.right };
       name = c.requires.name;
       gates = c.requires.gates;
     }
