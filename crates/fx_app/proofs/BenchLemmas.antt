@@ -1,5 +1,5 @@
 -- What a bench has put, file by file.
-use Rattle.std.proofs.Common.{◌≡◌, ◌≤◌, ◌<◌, ◌≤ℤ◌, ◌+◌, ◌^◌, ℕ, zero, suc, ℤ, pos, Bool, true, false, List, [], ◌++◌, length, sum, map, inl, inr, Ok, Err, Some, None, refl, sym, ap, subst, ◌∙◌, arith}
+use Rattle.std.proofs.Common.{◌≡◌, ◌≢◌, ◌≤◌, ◌<◌, ◌≤ℤ◌, ◌+◌, ◌^◌, ℕ, zero, suc, ℤ, pos, Bool, true, false, List, [], ◌++◌, length, sum, map, inl, inr, Ok, Err, Option, Some, None, refl, sym, ap, subst, ◌∙◌, arith}
 use mathlib.Core.Path.{fun_ext}
 use Rattle.std.specs.Prelude.{unwrap_or}
 use Rattle.std.specs.List.{flat_map, range_with_len}
@@ -12,20 +12,25 @@ use Rattle.fx_base.proofs.PatternLaws.{name_of-apart}
 use Rattle.fx_outside.specs.Outside.{Files, HasRisen}
 use Rattle.fx_scene.specs.Scenes.{Images, picture}
 use Rattle.fx_shipped.specs.Shipped.{meaning_of}
-use Rattle.fx_app.specs.Graphs.{Graph, graph_under, first_of, last_of, frame_count}
-use Rattle.fx_app.specs.Files.{HasGained, file_name, file_text, with_frames}
+use Rattle.fx_tile.specs.declared.count.TileCount.{TileCount}
 use Rattle.fx_graph.specs.Refusal.{refusal}
 use Rattle.fx_words.specs.Ordered.{Ordered}
 use Rattle.fx_words.specs.Texts.{bench_text}
+use Rattle.fx_words.specs.declared.order.Mode.TheVariants as mode
+use Rattle.fx_words.specs.declared.fault.RunFault.{RunFault}
+use Rattle.fx_words.specs.declared.fault.RunFault.TheVariants as run
 use Rattle.fx_app.specs.declared.graph.GraphFailure.{GraphFailure}
 use Rattle.fx_app.specs.declared.graph.GraphFailure.TheVariants as graph
-use Rattle.fx_words.specs.declared.fault.RunFault.TheVariants as run
-use Rattle.fx_app.specs.declared.sources.SourceFailure.{SourceFailure}
-use Rattle.fx_app.specs.declared.sources.SourceFailure.TheVariants as source
-use Rattle.fx_app.specs.Run.{Cause}
-use Rattle.fx_app.specs.Bench.{bytes_of, made_of, IsBenchReport}
-use Rattle.fx_app.specs.Steps.{graph_fault, source_fault, GraphCause, GraphFetch, SourceCause, SourceFetch, HasSources, HasFiles, IsMakingFault, bytes_under, AreShort}
-use Rattle.fx_app.proofs.StepsLemmas.{accepted_of, both, source_cause}
+use Rattle.fx_app.specs.declared.report.ReportFailure.{ReportFailure}
+use Rattle.fx_app.specs.declared.report.ReportFailure.TheVariants as report
+use Rattle.fx_app.specs.Graphs.{Graph, graph_under, first_of, last_of, frame_count}
+use Rattle.fx_app.specs.Files.{AreImages, HasGained, file_name, file_text, wanted_of, with_frames}
+use Rattle.fx_app.specs.Run.{Cause, IsAccepted, LeavesDepot, LeavesLibrary, Rose, count_in, first_in}
+use Rattle.fx_app.specs.Bench.{BenchCause, LeavesBenchReport, bytes_of, made_of, IsBenchReport}
+use Rattle.fx_app.specs.Ended.{Ended, calls}
+use Rattle.fx_app.specs.Moments.{HasRendered, Stops}
+use Rattle.fx_app.specs.Steps.{graph_fault, report_fault, BeginsReport, GraphCause, GraphFetch, HasFiles, IsMakingFault, ReportRose, bytes_under, AreShort}
+use Rattle.fx_app.proofs.StepsLemmas.{both, count_is, first_is, graph_is, no_call, same_out, untouched}
 use Rattle.fx_app.proofs.LengthLemmas.{short_text}
 
 abbrev no_files : Files
@@ -105,54 +110,164 @@ module _ (g : Graph) (images : Images) (a n : ℕ) (old new : Files) (has : HasF
       (λ j below. ap (λ o. unwrap_or o []) (gained (file_name g (a + j))
       ∙ found g images a n j old (λ k m small_k small_m same. name_of-apart g.file k m has.one_run small_k small_m same) (omega (arith, low)) below))
 
--- ---- the report
+-- ---- how it ends
 
 -- a count that stands still has not risen
 never : HasRisen 0 0 → ⊥
 never (inl low) = omega (arith, low)
 never (inr high) = omega (arith, high)
 
+-- want of memory
+pub bench_memory : (order : Ordered) → IsMakingFault (Some order) run.Memory
+bench_memory order = record { moment = 0; cause = tt; words = λ is. cc; no_report = λ is. cc }
+
 pub bench_graph : (order : Ordered) (library : Files) (e : GraphFailure) → library ≡ made_of order.graph
     → GraphCause library order.graph e → GraphFetch order.graph 0 0 [] [] e → IsMakingFault (Some order) (graph_fault e)
-bench_graph order library (graph.Read name) made cause fetch = never fetch.0
+bench_graph order library (graph.Read name) made cause fetch = absurd (never fetch.0)
 bench_graph order library (graph.Refused code path) made cause fetch =
     record {
-      order = order;
-      ordered = refl;
-      refused = subst (λ (f : Files). graph_under f order.graph ≡ Some (Err (refusal code path))) made cause;
+      moment = 0;
+      cause = record {
+        order = order;
+        ordered = refl;
+        refused = subst (λ (f : Files). graph_under f order.graph ≡ Some (Err (refusal code path))) made cause;
+      };
+      words = λ is. cc;
+      no_report = λ is. cc;
     }
-bench_graph order library graph.Memory made cause fetch = tt
+bench_graph order library graph.Memory made cause fetch = bench_memory order
 
-pub bench_store : (order : Ordered) (library : Files) (g : Graph) (a b : ℕ) (e : SourceFailure) → library ≡ made_of order.graph
-    → graph_under library order.graph ≡ Some (Ok g) → a ≡ first_of g order → b ≡ last_of g order
-    → SourceCause library g a b e → SourceFetch 0 0 [] [] e → IsMakingFault (Some order) (source_fault e)
-bench_store order library g a b (source.Read name) made there first last cause fetch = never fetch.0
-bench_store order library g a b (source.Refused name t why) made there first last cause fetch =
-    subst (λ (f : Files). Cause (Some order) f (run.Frame name t why)) made
-    (source_cause (Some order) library order g a b (source.Refused name t why) refl there first last cause)
-bench_store order library g a b source.Memory made there first last cause fetch = tt
-
-pub bench_is : (order : Ordered) (library : Files) (g : Graph) (images : Images) (a b frames size total : ℕ) → library ≡ made_of order.graph
-    → graph_under library order.graph ≡ Some (Ok g) → (first : a ≡ first_of g order) → (last : b ≡ last_of g order)
-    → HasSources library g a b images → frames ≡ frame_count a b → size ≡ length (bytes_of g images a (frame_count a b))
-    → total ≡ sum (bytes_of g images a (frame_count a b)) → IsBenchReport (Some order) (bench_text frames size total)
-bench_is order library g images a b frames size total made there first last sources many long adds =
-    subst (λ (f : Files). graph_under f order.graph ≡ Some (Ok g) → HasSources f g a b images → IsBenchReport (Some order) (bench_text frames size total))
-    (sym made) is there sources
+pub bench_stops : (order : Ordered) (library old new : Files) (e : RunFault) → library ≡ made_of order.graph
+    → Stops (Unit {0}) (Unit {0}) (Some order) library (calls 0 0 [] []) (calls 0 0 [] []) old new e → IsMakingFault (Some order) e
+bench_stops order library old new e made s =
+    record {
+      moment = s.moment;
+      cause = by e s.rose (subst (λ (f : Files). Cause (Some order) f s.moment e) made (s.cause tt));
+      words = s.ordered;
+      no_report = s.no_report;
+    }
   where
-    is : graph_under (made_of order.graph) order.graph ≡ Some (Ok g) → HasSources (made_of order.graph) g a b images
-        → IsBenchReport (Some order) (bench_text frames size total)
-    is at have =
+    by : (f : RunFault) → Rose (0, 0, []) (0, 0, []) (0, 0) f → Cause (Some order) (made_of order.graph) s.moment f → BenchCause (Some order) s.moment f
+    by run.Usage rose cause = cause
+    by (run.Graph code path) rose cause = cause
+    by (run.Frame node t why) rose cause = cause
+    by (run.Read name) rose cause = absurd (never rose.0)
+    by (run.Write name) rose cause = absurd (never rose.0)
+    by run.Memory rose cause = cause
+    by run.Report rose cause = cause
+
+-- what is told of these images
+abbrev told_of : {order : Ordered} {library : Files} → Images → IsAccepted (Some order) library → List ℕ
+told_of images known =
+    let bytes = bytes_of known.job.graph images (first_in known.job) (count_in known.job) in
+    bench_text (count_in known.job) (length bytes) (sum bytes)
+
+pub bench_is : {tells : Type 0} (order : Ordered) (library old new : Files) (g : Graph) (count : TileCount) (a b frames size total : ℕ)
+    → library ≡ made_of order.graph → graph_under library order.graph ≡ Some (Ok g) → a ≡ first_of g order → b ≡ last_of g order
+    → (r : HasRendered tells (Some order) library old new count) → frames ≡ frame_count a b
+    → size ≡ length (bytes_of g r.images a (frame_count a b)) → total ≡ sum (bytes_of g r.images a (frame_count a b))
+    → IsBenchReport (Some order) (bench_text frames size total)
+bench_is order library old new g count a b frames size total made there first last r many long adds =
+    subst (λ (f : Files). (known : IsAccepted (Some order) f) → AreImages f (wanted_of known.job.uses) r.images
+    → bench_text frames size total ≡ told_of r.images known → IsBenchReport (Some order) (bench_text frames size total)) (sym made)
+    (λ known are told. record { known = known; images = r.images; are = are; told = told }) r.known r.are is
+  where
+    is : bench_text frames size total ≡ told_of r.images r.known
+    is =
+        let job = r.known.job in
         let m = first_of g order in
         let n = last_of g order in
-        let same : bytes_of g images a (frame_count a b) ≡ bytes_of g images m (frame_count m n) =
-        both (λ x y. bytes_of g images a (frame_count a b) ≡ bytes_of g images x (frame_count x y)) a b m n first last refl in
-        record {
-          known = accepted_of (Some order) (made_of order.graph) order g a b images refl at first last have;
-          images = images;
-          are = have.shown;
-          told =
-              ap (λ k. bench_text k size total) (many ∙ both (λ x y. frame_count a b ≡ frame_count x y) a b m n first last refl)
-              ∙ ap (λ k. bench_text (frame_count m n) k total) (long ∙ ap length same)
-              ∙ ap (λ k. bench_text (frame_count m n) (length (bytes_of g images m (frame_count m n))) k) (adds ∙ ap sum same);
-        }
+        let graph = graph_is order library g job there in
+        let start = first_is order library g job there in
+        let moments = count_is order library g job there in
+        let bytes : bytes_of g r.images a (frame_count a b) ≡ bytes_of job.graph r.images (first_in job) (count_in job) =
+        both (λ x y. bytes_of g r.images a (frame_count a b) ≡ bytes_of g r.images x (frame_count x y)) a b m n first last refl
+        ∙ ap (λ (k : ℕ). bytes_of g r.images m k) (sym moments) ∙ ap (λ (k : ℕ). bytes_of g r.images k (count_in job)) (sym start)
+        ∙ ap (λ (h : Graph). bytes_of h r.images (first_in job) (count_in job)) (sym graph) in
+        let of : frames ≡ count_in job = many ∙ both (λ x y. frame_count a b ≡ frame_count x y) a b m n first last refl ∙ sym moments in
+        ap (λ k. bench_text k size total) of
+        ∙ ap (λ k. bench_text (count_in job) k total) (long ∙ ap length bytes)
+        ∙ ap (λ k. bench_text (count_in job) (length (bytes_of job.graph r.images (first_in job) (count_in job))) k) (adds ∙ ap sum bytes)
+
+-- nothing was read, put or written
+module _ (a : ℕ) (x : List ℕ) where
+  no_fetch : (e : RunFault) → LeavesLibrary e a a x x
+  no_fetch run.Usage = no_call a x
+  no_fetch (run.Graph code path) = no_call a x
+  no_fetch (run.Frame node t why) = no_call a x
+  no_fetch (run.Read name) = tt
+  no_fetch (run.Write name) = no_call a x
+  no_fetch run.Memory = tt
+  no_fetch run.Report = no_call a x
+
+  no_put : (e : RunFault) → LeavesDepot e a a x x
+  no_put run.Usage = no_call a x
+  no_put (run.Graph code path) = no_call a x
+  no_put (run.Frame node t why) = no_call a x
+  no_put (run.Read name) = no_call a x
+  no_put (run.Write name) = tt
+  no_put run.Memory = no_call a x
+  no_put run.Report = no_call a x
+
+no_rise : (asked : Option Ordered) (j : ℕ) (library depot : ℕ × ℕ × List ℕ) (out : ℕ × ℕ) (e : RunFault) → BenchCause asked j e
+    → e ≢ run.Report → Rose library depot out e
+no_rise asked j library depot out run.Usage cause other = tt
+no_rise asked j library depot out (run.Graph code path) cause other = tt
+no_rise asked j library depot out (run.Frame node t why) cause other = tt
+no_rise asked j library depot out (run.Read name) cause other = absurd cause
+no_rise asked j library depot out (run.Write name) cause other = absurd cause
+no_rise asked j library depot out run.Memory cause other = tt
+no_rise asked j library depot out run.Report cause other = absurd (other refl)
+
+not_told : (asked : Option Ordered) (text : List ℕ) (e : RunFault) → e ≢ run.Report → LeavesBenchReport asked e text text
+not_told asked text run.Usage other = refl
+not_told asked text (run.Graph code path) other = refl
+not_told asked text (run.Frame node t why) other = refl
+not_told asked text (run.Read name) other = refl
+not_told asked text (run.Write name) other = refl
+not_told asked text run.Memory other = refl
+not_told asked text run.Report other = absurd (other refl)
+
+module _ {o : Type 0} (order : Ordered) (library depot : Files) (a p : ℕ) (x q : List ℕ) where
+  pub making_ended : (w : ℕ) (out : List ℕ) (e : RunFault) → IsMakingFault (Some order) e
+      → Ended (Some mode.Bench) (Unit {0}) (Unit {0}) o (Some order) library (calls a a x x) (calls p p q q) (w, w) (depot, depot) (out, out) e
+  making_ended w out e m =
+      record {
+        moment = m.moment;
+        rose = no_rise (Some order) m.moment (a, a, x) (p, p, q) (w, w) e m.cause m.no_report;
+        cause = m.cause;
+        leaves = λ one two. untouched depot;
+        tells = λ one. not_told (Some order) out e m.no_report;
+        fetched = no_fetch a x e;
+        put = no_put p q e;
+        wrote = same_out w e;
+        usage = λ is. absurd (m.words is);
+      }
+
+  pub report_ended : (text : List ℕ) (w z : ℕ) (out more : List ℕ) (e : ReportFailure) → IsBenchReport (Some order) text → ReportRose w z e
+      → (o → BeginsReport text e out more)
+      → Ended (Some mode.Bench) (Unit {0}) (Unit {0}) o (Some order) library (calls a a x x) (calls p p q q) (w, z) (depot, depot) (out, more) (report_fault e)
+  report_ended text w z out more report.Report is rose begins =
+      record {
+        moment = 0;
+        rose = rose;
+        cause = is.known;
+        leaves = λ one two. untouched depot;
+        tells = λ one. (text, is, begins one);
+        fetched = no_call a x;
+        put = no_call p q;
+        wrote = tt;
+        usage = λ same. absurd cc;
+      }
+  report_ended text w z out more report.Memory is rose begins =
+      record {
+        moment = 0;
+        rose = tt;
+        cause = tt;
+        leaves = λ one two. untouched depot;
+        tells = λ one. begins one;
+        fetched = tt;
+        put = no_call p q;
+        wrote = rose;
+        usage = λ same. absurd cc;
+      }

@@ -22,10 +22,10 @@ use Rattle.fx_words.specs.Texts.{render_text, report_text}
 use Rattle.fx_app.specs.declared.crew.Crew.{Crew}
 use Rattle.fx_app.specs.Crews.{KeepsCrew}
 use Rattle.fx_app.specs.Graphs.{Graph, graph_under, first_of, last_of, frame_count}
-use Rattle.fx_app.specs.Run.{IsRenderReport}
-use Rattle.fx_app.specs.Steps.{HasSources}
+use Rattle.fx_app.specs.Run.{IsRenderReport, count_in, tile_ends}
+use Rattle.fx_app.specs.Moments.{HasRendered}
 use Rattle.fx_app.specs.Tiles.{HasCounted, ends_in, report_of}
-use Rattle.fx_app.proofs.StepsLemmas.{accepted_of, both}
+use Rattle.fx_app.proofs.StepsLemmas.{count_is}
 
 -- ---- lists of frames
 
@@ -118,26 +118,23 @@ closed_count crew count landed hits old now none more told =
 report_as : (frames m n t v p a l h : ℕ) → frames ≡ n → t ≡ m → render_text frames t v p a l h ≡ render_text n m v p a l h
 report_as frames m n t v p a l h many tiles = ap (λ k. render_text k t v p a l h) many ∙ ap (λ k. render_text n k v p a l h) tiles
 
-pub render_is : (order : Ordered) (library : Files) (g : Graph) (images : Images) (a b frames : ℕ) (count : TileCount)
-    → graph_under library order.graph ≡ Some (Ok g) → (first : a ≡ first_of g order) → (last : b ≡ last_of g order)
-    → HasSources library g a b images → frames ≡ frame_count a b → HasCounted g images order.tile order.cache a (frame_count a b) count
-    → IsRenderReport (Some order) library (report_text (report_of frames count))
-render_is order library g images a b frames count there first last sources many counted =
-    let m = first_of g order in
-    let n = frame_count m (last_of g order) in
-    let nodes = graph_nodes meaning_of g images in
-    let ends = ends_in g images order.tile m n in
-    let here : HasCounted g images order.tile order.cache m n count =
-    both (λ x y. HasCounted g images order.tile order.cache x (frame_count x y) count) a b m (last_of g order) first last counted in
-    let of : frames ≡ n = many ∙ both (λ x y. frame_count a b ≡ frame_count x y) a b m (last_of g order) first last refl in
+pub render_is : {tells : Type 0} (order : Ordered) (library old new : Files) (g : Graph) (frames : ℕ) (count : TileCount)
+    → graph_under library order.graph ≡ Some (Ok g) → frames ≡ frame_count (first_of g order) (last_of g order)
+    → HasRendered tells (Some order) library old new count → IsRenderReport (Some order) library (report_text (report_of frames count))
+render_is order library old new g frames count there many r =
+    let job = r.known.job in
+    let n = count_in job in
+    let ends = tile_ends job r.images in
+    let of : frames ≡ n = many ∙ sym (count_is order library g job there) in
+    let tiles = r.counted.tiles in
     let kinds = sum_of_kinds ends in
-    let v = here.tiles.void_tiles in let p = here.tiles.passed in let q = here.tiles.asked in
-    let enough = here.tiles.enough in
+    let v = tiles.void_tiles in let p = tiles.passed in let q = tiles.asked in
+    let enough = tiles.enough in
     let e = count_ends ends in
     record {
-      known = accepted_of (Some order) library order g a b images refl there first last sources;
-      images = images;
-      are = sources.shown;
+      known = r.known;
+      images = r.images;
+      are = r.are;
       landed = count.landed;
       hits = count.hits;
       told =
@@ -148,8 +145,8 @@ render_is order library g images a b frames count there first last sources many 
           ∙ ap (λ k. render_text n e.tiles e.void_tiles e.passed k count.landed count.hits) q;
       enough = omega (arith, enough, q);
       none_kept = λ nothing.
-          let none = here.none_kept nothing in
-          let all = here.tiles.none_kept none in
+          let none = r.counted.none_kept nothing in
+          let all = tiles.none_kept none in
           (none, omega (arith, all, q));
     }
 

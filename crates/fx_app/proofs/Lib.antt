@@ -1,7 +1,7 @@
 pub mod WordLemmas
 pub mod GraphLemmas
-pub mod WantedLemmas
-pub mod FilesLemmas
+pub mod ReadLemmas
+pub mod UsesLemmas
 pub mod StepsLemmas
 pub mod CountLemmas
 pub mod MadeLemmas
@@ -10,3 +10,10 @@ pub mod BenchLemmas
 pub mod MigrateLemmas
 pub mod ModeLemmas
 pub mod EndedLemmas
+pub mod RenderLemmas
+pub mod CheckLemmas
+pub mod GrownLemmas
+pub mod EndsLemmas
+pub mod MakingLemmas
+pub mod TurnLemmas
+pub mod StartLemmas

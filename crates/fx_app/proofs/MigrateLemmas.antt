@@ -153,9 +153,10 @@ report_is order library nodes made m = ap migrate_text m.many
 module _ {l d o : Type 0} (order : Ordered) (library : Files) where
   pub graph_ended : (a b : ℕ) (x y : List ℕ) (p : ℕ) (q : List ℕ) (w : ℕ) (files : Files) (out : List ℕ) (e : GraphFailure)
       → (l → MigrationCause library order.graph e) → GraphFetch order.graph a b x y e
-      → Ended mode.Migrate l d o (Some order) library (calls a b x y) (calls p p q q) (w, w) (files, files) (out, out) (graph_fault e)
+      → Ended (Some mode.Migrate) l d o (Some order) library (calls a b x y) (calls p p q q) (w, w) (files, files) (out, out) (graph_fault e)
   graph_ended a b x y p q w files out (graph.Read other) cause fetch =
       record {
+        moment = 0;
         rose = (fetch.0, fetch.1);
         cause = (order, refl, fetch.2);
         leaves = λ one two. untouched files;
@@ -163,10 +164,11 @@ module _ {l d o : Type 0} (order : Ordered) (library : Files) where
         fetched = tt;
         put = no_call p q;
         wrote = refl;
-        ordered = λ is. cc;
+        usage = λ is. absurd cc;
       }
   graph_ended a b x y p q w files out (graph.Refused code path) cause fetch =
       record {
+        moment = 0;
         rose = tt;
         cause = λ one. by (cause one);
         leaves = λ one two. untouched files;
@@ -174,7 +176,7 @@ module _ {l d o : Type 0} (order : Ordered) (library : Files) where
         fetched = fetch;
         put = no_call p q;
         wrote = refl;
-        ordered = λ is. cc;
+        usage = λ is. absurd cc;
       }
     where
       by : MigrationCause library order.graph (graph.Refused code path) → IsRefused (Some order) library code path ⊎ HasSlash (Some order) library code path
@@ -182,6 +184,7 @@ module _ {l d o : Type 0} (order : Ordered) (library : Files) where
       by (inr s) = inr (record { order = order; ordered = refl; slashed = s })
   graph_ended a b x y p q w files out graph.Memory cause fetch =
       record {
+        moment = 0;
         rose = tt;
         cause = tt;
         leaves = λ one two. inl (untouched files);
@@ -189,15 +192,16 @@ module _ {l d o : Type 0} (order : Ordered) (library : Files) where
         fetched = tt;
         put = no_call p q;
         wrote = refl;
-        ordered = λ is. cc;
+        usage = λ is. absurd cc;
       }
 
   pub put_ended : (nodes : ℕ) (made : List ℕ) (a b : ℕ) (x y : List ℕ) (p q : ℕ) (u v : List ℕ) (w : ℕ) (old new : Files) (out : List ℕ)
       (e : PutFailure) → (l → IsMigrationOf library order.graph nodes made) → IsQuiet a b x y
       → FilePut (migrated_name order.graph) p q u v e → (d → LeavesFile (migrated_name order.graph) e old new)
-      → Ended mode.Migrate l d o (Some order) library (calls a b x y) (calls p q u v) (w, w) (old, new) (out, out) (put_fault e)
+      → Ended (Some mode.Migrate) l d o (Some order) library (calls a b x y) (calls p q u v) (w, w) (old, new) (out, out) (put_fault e)
   put_ended nodes made a b x y p q u v w old new out (put.Write name) m quiet failed leaves =
       record {
+        moment = 0;
         rose = (failed.0, failed.1);
         cause = (order, refl, failed.2, λ one. ordered_migration order library nodes made (m one));
         leaves = λ one two. subst (λ (n : List ℕ). SameBut n old new) failed.2 (leaves two);
@@ -205,10 +209,11 @@ module _ {l d o : Type 0} (order : Ordered) (library : Files) where
         fetched = quiet;
         put = tt;
         wrote = refl;
-        ordered = λ is. cc;
+        usage = λ is. absurd cc;
       }
   put_ended nodes made a b x y p q u v w old new out put.Memory m quiet failed leaves =
       record {
+        moment = 0;
         rose = tt;
         cause = tt;
         leaves = λ one two. inl (leaves two);
@@ -216,16 +221,17 @@ module _ {l d o : Type 0} (order : Ordered) (library : Files) where
         fetched = tt;
         put = failed;
         wrote = refl;
-        ordered = λ is. cc;
+        usage = λ is. absurd cc;
       }
 
   pub report_ended : (nodes : ℕ) (made : List ℕ) (a b : ℕ) (x y : List ℕ) (p q : ℕ) (u v : List ℕ) (w z : ℕ) (old new : Files)
       (out more : List ℕ) (e : ReportFailure) → (l → IsMigrationOf library order.graph nodes made) → IsQuiet a b x y → IsQuiet p q u v
       → (d → SameFiles (with_file (migrated_name order.graph) made old) new) → ReportRose w z e
       → (o → BeginsReport (report_text (Migrate nodes)) e out more)
-      → Ended mode.Migrate l d o (Some order) library (calls a b x y) (calls p q u v) (w, z) (old, new) (out, more) (report_fault e)
+      → Ended (Some mode.Migrate) l d o (Some order) library (calls a b x y) (calls p q u v) (w, z) (old, new) (out, more) (report_fault e)
   report_ended nodes made a b x y p q u v w z old new out more report.Report m quiet puts gained rose begins =
       record {
+        moment = 0;
         rose = rose;
         cause = λ one. ordered_migration order library nodes made (m one);
         leaves = λ one two. has_migrated order library old new nodes made (m one) (gained two);
@@ -233,10 +239,11 @@ module _ {l d o : Type 0} (order : Ordered) (library : Files) where
         fetched = quiet;
         put = puts;
         wrote = tt;
-        ordered = λ is. cc;
+        usage = λ is. absurd cc;
       }
   report_ended nodes made a b x y p q u v w z old new out more report.Memory m quiet puts gained rose begins =
       record {
+        moment = 0;
         rose = tt;
         cause = tt;
         leaves = λ one two. inr (has_migrated order library old new nodes made (m one) (gained two));
@@ -244,7 +251,7 @@ module _ {l d o : Type 0} (order : Ordered) (library : Files) where
         fetched = tt;
         put = puts;
         wrote = rose;
-        ordered = λ is. cc;
+        usage = λ is. absurd cc;
       }
 
 -- ---- from the clause to the status

@@ -14,7 +14,7 @@ use Rattle.fx_words.specs.Texts.{bench_text}
 use Rattle.fx_words.specs.declared.fault.RunFault.{RunFault}
 use Rattle.fx_words.specs.declared.fault.RunFault.TheVariants as run
 use Rattle.fx_app.specs.Graphs.{Graph}
-use Rattle.fx_app.specs.Files.{AreImages, file_text}
+use Rattle.fx_app.specs.Files.{AreImages, file_text, wanted_of}
 use Rattle.fx_app.specs.Run.{IsAccepted, Cause, count_in, first_in}
 
 -- ---- what is rendered
@@ -51,7 +51,7 @@ bytes_of g images a n = flat_map (file_text g images) (range_with_len a n)
 pub record IsBenchReport (asked : Option Ordered) (text : List ℕ) : Type 0 where
   pub known : IsAccepted asked (made_for asked)
   pub images : Images
-  pub are : AreImages (made_for asked) known.job.wanted images
+  pub are : AreImages (made_for asked) (wanted_of known.job.uses) images
   pub told :
       let bytes = bytes_of known.job.graph images (first_in known.job) (count_in known.job) in
       text ≡ bench_text (count_in known.job) (length bytes) (sum bytes)
@@ -62,11 +62,11 @@ HasBenched asked old new = (text : List ℕ) × IsBenchReport asked text × (new
 
 -- ---- why it ends early
 
--- the cause of a fault: that of a render of what is made; nothing is read or written outside
-abbrev pub BenchCause : Option Ordered → RunFault → Type 0
-BenchCause asked (run.Read name) = ⊥
-BenchCause asked (run.Write name) = ⊥
-BenchCause asked fault = Cause asked (made_for asked) fault
+-- the cause of a fault at moment j: that of a render of what is made; nothing is read or written outside
+abbrev pub BenchCause : Option Ordered → ℕ → RunFault → Type 0
+BenchCause asked j (run.Read name) = ⊥
+BenchCause asked j (run.Write name) = ⊥
+BenchCause asked j fault = Cause asked (made_for asked) j fault
 
 -- a fault of the report leaves a front of it, and each other fault nothing
 abbrev pub LeavesBenchReport : Option Ordered → RunFault → List ℕ → List ℕ → Type 0

@@ -2,6 +2,7 @@
 use Rattle.std.specs.Prelude.{◌≡◌, ◌≤◌, ◌+◌, [], length}
 use Rattle.fx_pool.specs.Weights.{plus}
 use Rattle.fx_scene.specs.Scenes.{Shot}
+use Rattle.fx_scene.specs.Scripts.{HasGrownTo}
 use Rattle.fx_shipped.specs.declared.shipped.Shipped.{Shipped}
 use Rattle.fx_tile.specs.declared.count.TileCount.{TileCount}
 use Rattle.fx_tile.specs.Moments.{count_weight, seat_weight}
@@ -28,3 +29,18 @@ pub record IsNewCrew (order : Ordered) (crew : Crew) : Type 0 where
 pub record KeepsCrew (old new : Crew) (count : TileCount) : Type 0 where
   pub shared : new.shared ≡ old.shared
   pub weight : seat_weight new.seat ≡ plus (seat_weight old.seat) (count_weight count)
+
+-- those who rendered a scene of which this one has grown
+pub record KnewScene (scene : Shot Shipped) (crew : Crew) : Type 0 where
+  pub was : Shot Shipped
+  pub is : IsCrew was crew
+  pub graph : scene.graph ≡ was.graph
+  pub grown : HasGrownTo was scene
+
+-- they render this scene over the same grid, with a directory of as many, and what landed and was found kept through
+-- them is as before
+pub record IsRenewed (scene : Shot Shipped) (old new : Crew) : Type 0 where
+  pub is : IsCrew scene new
+  pub grid : new.shared.grid ≡ old.shared.grid
+  pub capacity : new.shared.directory.capacity ≡ old.shared.directory.capacity
+  pub weight : seat_weight new.seat ≡ seat_weight old.seat

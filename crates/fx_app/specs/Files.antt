@@ -1,5 +1,5 @@
 -- The source frames that a run reads, and the files that it puts.
-use Rattle.std.specs.Prelude.{◌≡◌, ℕ, zero, suc, ℤ, pos, ◌+◌, List, All, Contains, Option, Some, None, if◌then◌else◌}
+use Rattle.std.specs.Prelude.{◌≡◌, ℕ, zero, suc, ℤ, pos, ◌+◌, List, [], map, All, Contains, Option, Some, None, if◌then◌else◌}
 use Rattle.std.specs.Str.{bytes_eq}
 use Rattle.fx_base.specs.declared.limits.TheConstants.{MOST_SIDE}
 use Rattle.fx_base.specs.Pattern.{name_of}
@@ -7,25 +7,43 @@ use Rattle.fx_outside.specs.Outside.{Files, SameFiles, SameBut}
 use Rattle.fx_image.specs.Image.{Image}
 use Rattle.fx_pam.specs.Text.{pam_text}
 use Rattle.fx_pam.specs.Reading.{IsPam}
+use Rattle.fx_seq.specs.declared.used.Use.{Use}
 use Rattle.fx_seq.specs.declared.wanted.Wanted.{Wanted}
 use Rattle.fx_seq.specs.declared.fault.SeqFault.{SeqFault}
-use Rattle.fx_seq.specs.Filling.{first_refused}
-use Rattle.fx_scene.specs.Scenes.{Images, graph_nodes, no_images, picture}
-use Rattle.fx_scene.specs.Wants.{AreWanted, IsNamedIn, Lists}
+use Rattle.fx_seq.specs.Filling.{ComesTo}
+use Rattle.fx_seq.specs.Moments as seq
+use Rattle.fx_seq.specs.Moments.{due_at, held_bytes}
+use Rattle.fx_scene.specs.Scenes.{Images, picture}
+use Rattle.fx_scene.specs.Uses.{AreUses, wanting}
+use Rattle.fx_scene.specs.Wants.{IsNamedIn, Lists}
 use Rattle.fx_shipped.specs.Shipped.{meaning_of}
 use Rattle.fx_app.specs.Graphs.{Graph}
 use Rattle.fx_app.specs.declared.sources.TheConstants.{MOST_BYTES}
 
 -- ---- source frames
 
--- the source frames that the frames from a to b want, by node and then frame, under the names of their files
-pub record AreWantedBy (g : Graph) (a b : ℕ) (wanted : List Wanted) : Type 0 where
-  pub frames : AreWanted (graph_nodes meaning_of g no_images) g.output (pos a) (pos b) wanted
-  pub names : All (IsNamedIn g) wanted
+-- the source frames that n frames from a on want, by node and then frame, with the first and the last of these frames
+-- that wants each, under the names of their files
+pub record AreUsesOf (g : Graph) (a n : ℕ) (uses : List Use) : Type 0 where
+  pub moments : AreUses (wanting meaning_of g [] a n) n uses
+  pub names : All (λ u. IsNamedIn g u.wanted) uses
 
--- the first of them that is refused: sides go up to 8,192, and the pixels of all frames together up to 2^31 bytes
-abbrev pub frame_refused : Files → List Wanted → Option SeqFault
-frame_refused library wanted = first_refused library MOST_SIDE MOST_BYTES 0 wanted
+abbrev pub wanted_of : List Use → List Wanted
+wanted_of uses = map (λ u. u.wanted) uses
+
+-- none of the source frames that the first n moments are the first to want is refused: sides go up to 8,192, and what is
+-- held with what is due up to 2^31 bytes
+abbrev pub AreAccepted : Files → List Use → ℕ → Type 0
+AreAccepted library uses n = seq.AreAccepted library MOST_SIDE MOST_BYTES uses n
+
+-- the first of those of moment j is refused for this, and none of the moments before
+abbrev pub IsRefusedAt : Files → List Use → ℕ → SeqFault → Type 0
+IsRefusedAt library uses j e = seq.IsRefusedAt library MOST_SIDE MOST_BYTES uses j e
+
+-- the fetch of this one of those of moment j was reached: none before it is refused
+pub record IsReachedAt (library : Files) (uses : List Use) (j : ℕ) (w : Wanted) : Type 0 where
+  pub before : AreAccepted library uses j
+  pub here : ComesTo library MOST_SIDE MOST_BYTES (held_bytes library uses j) (due_at uses j) w
 
 -- the bytes under the name are a file of this image
 pub record IsFileOf (library : Files) (name : List ℕ) (image : Image) : Type 0 where

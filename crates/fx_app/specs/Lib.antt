@@ -9,5 +9,8 @@ pub mod Bench
 pub mod Migrate
 pub mod Modes
 pub mod Ended
+pub mod Moments
+pub mod Turns
+pub mod Making
 pub mod Steps
 pub mod Crews

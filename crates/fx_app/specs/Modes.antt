@@ -10,19 +10,19 @@ use Rattle.fx_app.specs.Check.{CheckCause, LeavesCheckReport}
 use Rattle.fx_app.specs.Bench.{BenchCause, LeavesBenchReport}
 use Rattle.fx_app.specs.Migrate.{MigrateCause, LeavesMigrate, LeavesMigrateReport}
 
--- the cause of a fault, where `tells` says that the library tells its files
-abbrev pub CauseIn : Option Mode → Type 0 → Option Ordered → Files → RunFault → Type 0
-CauseIn (Some Check) tells asked library fault = CheckCause tells asked library fault
-CauseIn (Some Bench) tells asked library fault = BenchCause asked fault
-CauseIn (Some Migrate) tells asked library fault = MigrateCause tells asked library fault
-CauseIn _ tells asked library fault = tells → Cause asked library fault
+-- the cause of a fault at moment j, where `tells` says that the library tells its files
+abbrev pub CauseIn : Option Mode → Type 0 → Option Ordered → Files → ℕ → RunFault → Type 0
+CauseIn (Some Check) tells asked library j fault = CheckCause tells asked library fault
+CauseIn (Some Bench) tells asked library j fault = BenchCause asked j fault
+CauseIn (Some Migrate) tells asked library j fault = MigrateCause tells asked library fault
+CauseIn _ tells asked library j fault = tells → Cause asked library j fault
 
--- what a fault leaves in the depot: a check and a bench put nothing there
-abbrev pub LeavesIn : Option Mode → Option Ordered → Files → RunFault → Files → Files → Type 0
-LeavesIn (Some Check) asked library fault old new = SameFiles old new
-LeavesIn (Some Bench) asked library fault old new = SameFiles old new
-LeavesIn (Some Migrate) asked library fault old new = LeavesMigrate asked library fault old new
-LeavesIn _ asked library fault old new = Leaves asked library fault old new
+-- what a fault at moment j leaves in the depot: a check and a bench put nothing there
+abbrev pub LeavesIn : Option Mode → Option Ordered → Files → ℕ → RunFault → Files → Files → Type 0
+LeavesIn (Some Check) asked library j fault old new = SameFiles old new
+LeavesIn (Some Bench) asked library j fault old new = SameFiles old new
+LeavesIn (Some Migrate) asked library j fault old new = LeavesMigrate asked library fault old new
+LeavesIn _ asked library j fault old new = Leaves asked library j fault old new
 
 -- what a fault leaves of the report
 abbrev pub LeavesReportIn : Option Mode → Type 0 → Option Ordered → Files → RunFault → List ℕ → List ℕ → Type 0

@@ -2,14 +2,15 @@
 use Rattle.std.specs.Prelude.{◌≡◌, ℕ, ◌+◌, ◌≤◌, ◌<◌, ◌⊎◌, Bool, ◌==◌, List, [], ◌∷◌, ◌++◌, ℤ, Some, None, Ok, Err}
 use Rattle.std.specs.Prelude.{Option}
 use Rattle.std.specs.List.{list_any}
-use Rattle.fx_base.specs.declared.limits.TheConstants.{MOST_SIDE}
 use Rattle.fx_outside.specs.Outside.{Files, HasRisen, SameFiles, AddsPrefix}
 use Rattle.fx_pam.specs.declared.fault.PamFault.{PamFault}
 use Rattle.fx_pam.specs.declared.fault.PamFault.TheVariants as pam
+use Rattle.fx_seq.specs.declared.used.Use.{Use}
 use Rattle.fx_seq.specs.declared.wanted.Wanted.{Wanted}
 use Rattle.fx_seq.specs.declared.fault.SeqFault.{SeqFault}
 use Rattle.fx_seq.specs.declared.fault.SeqFault.TheVariants as seq
-use Rattle.fx_seq.specs.Filling.{ComesTo, IsQuiet}
+use Rattle.fx_seq.specs.Filling.{IsQuiet}
+use Rattle.fx_seq.specs.Moments.{due_until}
 use Rattle.fx_text.specs.declared.fault.GraphCode.{GraphCode}
 use Rattle.fx_graph.specs.Refusal.{refusal}
 use Rattle.fx_region.specs.Counts.{count_ends}
@@ -25,32 +26,33 @@ use Rattle.fx_words.specs.declared.fault.FrameFault.TheVariants as fault
 use Rattle.fx_words.specs.declared.fault.RunFault.{RunFault}
 use Rattle.fx_words.specs.declared.fault.RunFault.TheVariants as run
 use Rattle.fx_app.specs.Graphs.{Graph, graph_under, name_at, first_of, last_of, frame_count}
-use Rattle.fx_app.specs.Files.{AreWantedBy, AreImages, frame_refused, file_name, HasGained, HasGainedBut}
+use Rattle.fx_app.specs.Files.{AreAccepted, AreImages, AreUsesOf, HasGained, HasGainedBut, IsReachedAt, IsRefusedAt, file_name, wanted_of}
 use Rattle.fx_app.specs.Tiles.{ends_in}
-use Rattle.fx_app.specs.declared.sources.TheConstants.{MOST_BYTES}
 
 -- ---- what is asked for
 
--- an order of a graph that the library tells, whose frames want these source frames
+-- an order of a graph that the library tells, whose frames use these source frames
 pub record Job (asked : Option Ordered) (library : Files) : Type 0 where
   pub order : Ordered
   pub ordered : asked ≡ Some order
   pub graph : Graph
   pub there : graph_under library order.graph ≡ Some (Ok graph)
-  pub wanted : List Wanted
-  pub are : AreWantedBy graph (first_of graph order) (last_of graph order) wanted
+  pub uses : List Use
+  pub are :
+      let a = first_of graph order in
+      AreUsesOf graph a (frame_count a (last_of graph order)) uses
 
--- the first frame of the job, and how many it has
+-- the first frame of the job, and how many it has, which are its moments
 abbrev pub first_in : {asked : Option Ordered} {library : Files} → Job asked library → ℕ
 first_in job = first_of job.graph job.order
 
 abbrev pub count_in : {asked : Option Ordered} {library : Files} → Job asked library → ℕ
 count_in job = frame_count (first_of job.graph job.order) (last_of job.graph job.order)
 
--- an order of a graph that the library tells, and none of its wanted source frames is refused
+-- an order of a graph that the library tells, and at no moment a source frame is refused
 pub record IsAccepted (asked : Option Ordered) (library : Files) : Type 0 where
   pub job : Job asked library
-  pub accepted : frame_refused library job.wanted ≡ None
+  pub accepted : AreAccepted library job.uses (count_in job)
 
 -- an order of bytes that the library tells and that are no graph
 pub record IsRefused (asked : Option Ordered) (library : Files) (code : GraphCode) (path : List ℕ) : Type 0 where
@@ -63,29 +65,30 @@ NamesNoGraph asked library = (code : GraphCode) × (path : List ℕ) × IsRefuse
 
 -- ---- what a run leaves in the depot
 
--- the files of n frames were put, and nothing else
+-- the files of n moments were put, over the source frames that they want, and nothing else
 pub record HasPut (asked : Option Ordered) (library : Files) (n : ℕ) (old new : Files) : Type 0 where
-  pub known : IsAccepted asked library
+  pub job : Job asked library
+  pub few : n ≤ count_in job
+  pub accepted : AreAccepted library job.uses n
   pub images : Images
-  pub are : AreImages library known.job.wanted images
-  pub few : n ≤ count_in known.job
-  pub gained : HasGained known.job.graph images (first_in known.job) n old new
+  pub are : AreImages library (due_until job.uses n) images
+  pub gained : HasGained job.graph images (first_in job) n old new
 
--- the same of some frames, but the file of the frame behind them, which has this name, holds anything or is absent
-pub record HasPutBut (asked : Option Ordered) (library : Files) (file : List ℕ) (old new : Files) : Type 0 where
-  pub known : IsAccepted asked library
+-- the same of n moments, but the file of the moment behind them, which has this name, holds anything or is absent
+pub record HasPutBut (asked : Option Ordered) (library : Files) (n : ℕ) (file : List ℕ) (old new : Files) : Type 0 where
+  pub job : Job asked library
+  pub few : n < count_in job
+  pub accepted : AreAccepted library job.uses (n + 1)
   pub images : Images
-  pub are : AreImages library known.job.wanted images
-  pub n : ℕ
-  pub few : n < count_in known.job
-  pub file_is : file ≡ file_name known.job.graph (first_in known.job + n)
-  pub gained : HasGainedBut known.job.graph images (first_in known.job) n old new
+  pub are : AreImages library (due_until job.uses n) images
+  pub file_is : file ≡ file_name job.graph (first_in job + n)
+  pub gained : HasGainedBut job.graph images (first_in job) n old new
 
--- the file of every frame was put, and nothing else
+-- the file of every moment was put, and nothing else
 pub record HasPutAll (asked : Option Ordered) (library : Files) (old new : Files) : Type 0 where
   pub known : IsAccepted asked library
   pub images : Images
-  pub are : AreImages library known.job.wanted images
+  pub are : AreImages library (wanted_of known.job.uses) images
   pub gained : HasGained known.job.graph images (first_in known.job) (count_in known.job) old new
 
 -- ---- what it reports
@@ -106,7 +109,7 @@ renders_in job images =
 pub record IsRenderReport (asked : Option Ordered) (library : Files) (text : List ℕ) : Type 0 where
   pub known : IsAccepted asked library
   pub images : Images
-  pub are : AreImages library known.job.wanted images
+  pub are : AreImages library (wanted_of known.job.uses) images
   pub landed : ℕ
   pub hits : ℕ
   pub told :
@@ -147,25 +150,26 @@ IsToldAs g (seq.TooLarge node frame sum) name t why =
 IsToldAs g (seq.Fetch node frame file) name t why = ⊥
 IsToldAs g seq.Memory name t why = ⊥
 
--- the name is that of the graph, or of a wanted source frame before which none is refused
-abbrev pub IsReadName : Option Ordered → Files → List ℕ → Type 0
-IsReadName asked library name =
-    ((order : Ordered) × (asked ≡ Some order) × (order.graph ≡ name))
-    ⊎ ((job : Job asked library) × (w : Wanted) × ComesTo library MOST_SIDE MOST_BYTES 0 job.wanted w × (w.name ≡ name))
+-- the name is that of the graph, or of a source frame that moment j is the first to want, and its fetch was reached
+abbrev pub IsReadName : Option Ordered → Files → ℕ → List ℕ → Type 0
+IsReadName asked library j name =
+    ((order : Ordered) × (asked ≡ Some order) × (order.graph ≡ name) × (j ≡ 0))
+    ⊎ ((job : Job asked library) × (j < count_in job) × (w : Wanted) × IsReachedAt library job.uses j w
+    × (w.name ≡ name))
 
--- the cause of a fault, by what the library tells
-abbrev pub Cause : Option Ordered → Files → RunFault → Type 0
-Cause asked library run.Usage = asked ≡ None
-Cause asked library (run.Graph code path) = IsRefused asked library code path
-Cause asked library (run.Frame node t why) =
-    (job : Job asked library) × (first : SeqFault) × (frame_refused library job.wanted ≡ Some first)
+-- the cause of a fault at moment j, by what the library tells
+abbrev pub Cause : Option Ordered → Files → ℕ → RunFault → Type 0
+Cause asked library j run.Usage = asked ≡ None
+Cause asked library j (run.Graph code path) = IsRefused asked library code path
+Cause asked library j (run.Frame node t why) =
+    (job : Job asked library) × (j < count_in job) × (first : SeqFault) × IsRefusedAt library job.uses j first
     × IsToldAs job.graph first node t why
-Cause asked library (run.Read name) = IsReadName asked library name
-Cause asked library (run.Write name) =
-    (known : IsAccepted asked library) × (k : ℕ) × (k < count_in known.job)
-    × (file_name known.job.graph (first_in known.job + k) ≡ name)
-Cause asked library run.Memory = Unit {0}
-Cause asked library run.Report = IsAccepted asked library
+Cause asked library j (run.Read name) = IsReadName asked library j name
+Cause asked library j (run.Write name) =
+    (job : Job asked library) × (j < count_in job) × AreAccepted library job.uses (j + 1)
+    × (file_name job.graph (first_in job + j) ≡ name)
+Cause asked library j run.Memory = Unit {0}
+Cause asked library j run.Report = IsAccepted asked library
 
 -- What a fault shows of the outside: of the library and the depot the count of faults before and now and the last name
 -- that failed, of the report the count. It rose, and the name is the fault's.
@@ -175,12 +179,14 @@ Rose library depot out (run.Write name) = HasRisen depot.0 depot.1 × (depot.2 �
 Rose library depot out run.Report = HasRisen out.0 out.1
 Rose library depot out other = Unit {0}
 
--- what a fault leaves in the depot
-abbrev pub Leaves : Option Ordered → Files → RunFault → Files → Files → Type 0
-Leaves asked library (run.Write name) old new = HasPutBut asked library name old new
-Leaves asked library run.Memory old new = SameFiles old new ⊎ ((n : ℕ) × HasPut asked library n old new)
-Leaves asked library run.Report old new = HasPutAll asked library old new
-Leaves asked library other old new = SameFiles old new
+-- what a fault at moment j leaves in the depot: the files of the moments before it
+abbrev pub Leaves : Option Ordered → Files → ℕ → RunFault → Files → Files → Type 0
+Leaves asked library j (run.Frame node t why) old new = HasPut asked library j old new
+Leaves asked library j (run.Read name) old new = ((j ≡ 0) × SameFiles old new) ⊎ HasPut asked library j old new
+Leaves asked library j (run.Write name) old new = HasPutBut asked library j name old new
+Leaves asked library j run.Memory old new = SameFiles old new ⊎ ((n : ℕ) × HasPut asked library n old new)
+Leaves asked library j run.Report old new = HasPutAll asked library old new
+Leaves asked library j other old new = SameFiles old new
 
 -- a fault of the report leaves a front of a report, and each other fault nothing
 abbrev pub LeavesReport : RunFault → List ℕ → List ℕ → Type 0

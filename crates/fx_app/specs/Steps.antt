@@ -1,26 +1,21 @@
 -- The failures of a run's steps: which fault of the run each is, what it shows of the outside, and what it leaves.
-use Rattle.std.specs.Prelude.{◌≡◌, ◌⊎◌, ℕ, ◌+◌, ◌≤◌, ◌<◌, List, [], length, Option, Some, None, unwrap_or, Ok, Err}
-use Rattle.fx_base.specs.declared.limits.TheConstants.{MOST_SIDE}
+use Rattle.std.specs.Prelude.{◌≡◌, ◌≢◌, ◌⊎◌, ℕ, ◌≤◌, List, [], length, Option, Some, None, unwrap_or, Ok, Err}
 use Rattle.fx_outside.specs.Outside.{Files, HasRisen, SameFiles, SameBut, AddsPrefix}
-use Rattle.fx_seq.specs.declared.wanted.Wanted.{Wanted}
+use Rattle.fx_seq.specs.declared.used.Use.{Use}
 use Rattle.fx_seq.specs.declared.fault.SeqFault.{SeqFault}
 use Rattle.fx_seq.specs.declared.fault.SeqFault.TheVariants as seq
-use Rattle.fx_seq.specs.Filling.{ComesTo, IsQuiet}
+use Rattle.fx_seq.specs.Filling.{IsQuiet}
 use Rattle.fx_graph.specs.Refusal.{refusal}
-use Rattle.fx_scene.specs.Scenes.{Images}
 use Rattle.fx_words.specs.declared.fault.RunFault.{RunFault}
 use Rattle.fx_words.specs.declared.fault.RunFault.TheVariants as run
 use Rattle.fx_app.specs.declared.graph.GraphFailure.{GraphFailure}
 use Rattle.fx_app.specs.declared.graph.GraphFailure.TheVariants as graph
-use Rattle.fx_app.specs.declared.sources.SourceFailure.{SourceFailure}
-use Rattle.fx_app.specs.declared.sources.SourceFailure.TheVariants as source
-use Rattle.fx_app.specs.declared.sources.TheConstants.{MOST_BYTES}
 use Rattle.fx_app.specs.declared.frames.PutFailure.{PutFailure}
 use Rattle.fx_app.specs.declared.frames.PutFailure.TheVariants as put
 use Rattle.fx_app.specs.declared.report.ReportFailure.{ReportFailure}
 use Rattle.fx_app.specs.declared.report.ReportFailure.TheVariants as report
-use Rattle.fx_app.specs.Graphs.{Graph, graph_of, graph_under}
-use Rattle.fx_app.specs.Files.{AreWantedBy, AreImages, frame_refused, file_name, HasGained, HasGainedBut}
+use Rattle.fx_app.specs.Graphs.{Graph, graph_of, graph_under, frame_count}
+use Rattle.fx_app.specs.Files.{AreUsesOf}
 use Rattle.fx_app.specs.Run.{IsToldAs}
 use Rattle.fx_app.specs.Migrate.{slash_in, IsSlashed}
 use Rattle.fx_text.specs.Migrated.{IsMigrated, IsSameGraph}
@@ -38,11 +33,6 @@ abbrev pub graph_fault : GraphFailure → RunFault
 graph_fault (graph.Read name) = run.Read name
 graph_fault (graph.Refused code path) = run.Graph code path
 graph_fault graph.Memory = run.Memory
-
-abbrev pub source_fault : SourceFailure → RunFault
-source_fault (source.Read name) = run.Read name
-source_fault (source.Refused node t why) = run.Frame node t why
-source_fault source.Memory = run.Memory
 
 abbrev pub put_fault : PutFailure → RunFault
 put_fault (put.Write name) = run.Write name
@@ -67,44 +57,22 @@ GraphCause library name graph.Memory = Unit {0}
 
 -- ---- the source frames
 
--- none of the frames that are wanted from a to b is refused, and the images are those of their files
-pub record HasSources (library : Files) (g : Graph) (a b : ℕ) (images : Images) : Type 0 where
-  pub wanted : List Wanted
-  pub are : AreWantedBy g a b wanted
-  pub accepted : frame_refused library wanted ≡ None
-  pub shown : AreImages library wanted images
-
--- that many frames are wanted from a to b
+-- the frames from a to b want that many source frames
 abbrev pub WantsAsMany : Graph → ℕ → ℕ → ℕ → Type 0
-WantsAsMany g a b count = (wanted : List Wanted) × AreWantedBy g a b wanted × (count ≡ length wanted)
-
-abbrev pub SourceFetch : (before now : ℕ) (was last : List ℕ) → SourceFailure → Type 0
-SourceFetch before now was last (source.Read name) = HasRisen before now × (last ≡ name)
-SourceFetch before now was last (source.Refused node t why) = IsQuiet before now was last
-SourceFetch before now was last source.Memory = Unit {0}
-
--- the frame of this name is wanted, and none before it is refused; or the first refusal is this one
-abbrev pub SourceCause : Files → Graph → ℕ → ℕ → SourceFailure → Type 0
-SourceCause library g a b (source.Read name) =
-    (wanted : List Wanted) × AreWantedBy g a b wanted
-    × (w : Wanted) × ComesTo library MOST_SIDE MOST_BYTES 0 wanted w × (w.name ≡ name)
-SourceCause library g a b (source.Refused node t why) =
-    (wanted : List Wanted) × AreWantedBy g a b wanted
-    × (first : SeqFault) × (frame_refused library wanted ≡ Some first) × IsToldAs g first node t why
-SourceCause library g a b source.Memory = Unit {0}
+WantsAsMany g a b count = (uses : List Use) × AreUsesOf g a (frame_count a b) uses × (count ≡ length uses)
 
 -- the refusal of a frame by the name of its node, where memory is there for that
-abbrev pub IsRefusedAs : Graph → SeqFault → SourceFailure → Type 0
-IsRefusedAs g first (source.Refused node t why) = IsToldAs g first node t why
-IsRefusedAs g first (source.Read name) = ⊥
-IsRefusedAs g first source.Memory = Unit {0}
+abbrev pub IsRefusedAs : Graph → SeqFault → RunFault → Type 0
+IsRefusedAs g first (run.Frame node t why) = IsToldAs g first node t why
+IsRefusedAs g first run.Memory = Unit {0}
+IsRefusedAs g first other = ⊥
 
--- how the source frames failed, by how their store did
-abbrev pub IsSourceFailure : Graph → SeqFault → SourceFailure → Type 0
-IsSourceFailure g (seq.Fetch node t name) failure = failure ≡ source.Read name
-IsSourceFailure g (seq.Frame node t fault) failure = IsRefusedAs g (seq.Frame node t fault) failure
-IsSourceFailure g (seq.TooLarge node t sum) failure = IsRefusedAs g (seq.TooLarge node t sum) failure
-IsSourceFailure g seq.Memory failure = failure ≡ source.Memory
+-- the fault of a run whose source frames failed so
+abbrev pub IsSourceFault : Graph → SeqFault → RunFault → Type 0
+IsSourceFault g (seq.Fetch node t name) e = e ≡ run.Read name
+IsSourceFault g (seq.Frame node t fault) e = IsRefusedAs g (seq.Frame node t fault) e
+IsSourceFault g (seq.TooLarge node t sum) e = IsRefusedAs g (seq.TooLarge node t sum) e
+IsSourceFault g seq.Memory e = e ≡ run.Memory
 
 -- ---- the files
 
@@ -116,18 +84,6 @@ FilePut file before now was last put.Memory = IsQuiet before now was last
 abbrev pub LeavesFile : List ℕ → PutFailure → Files → Files → Type 0
 LeavesFile file (put.Write name) old new = SameBut file old new
 LeavesFile file put.Memory old new = SameFiles old new
-
--- the same of one of the files of n frames from a on
-abbrev pub FilesPut : Graph → ℕ → ℕ → (before now : ℕ) (was last : List ℕ) → PutFailure → Type 0
-FilesPut g a n before now was last (put.Write name) =
-    HasRisen before now × (last ≡ name) × (k : ℕ) × (k < n) × (file_name g (a + k) ≡ name)
-FilesPut g a n before now was last put.Memory = IsQuiet before now was last
-
--- the files of the frames before it were put
-abbrev pub LeavesFiles : Graph → Images → ℕ → ℕ → PutFailure → Files → Files → Type 0
-LeavesFiles g images a n (put.Write name) old new =
-    (k : ℕ) × (k < n) × (name ≡ file_name g (a + k)) × HasGainedBut g images a k old new
-LeavesFiles g images a n put.Memory old new = (k : ℕ) × (k ≤ n) × HasGained g images a k old new
 
 -- ---- the report
 
@@ -143,11 +99,12 @@ BeginsReport text report.Memory old new = new ≡ old
 
 -- ---- what a bench makes
 
--- a fault before the report
-abbrev pub IsMakingFault : Option Ordered → RunFault → Type 0
-IsMakingFault asked run.Usage = ⊥
-IsMakingFault asked run.Report = ⊥
-IsMakingFault asked other = BenchCause asked other
+-- a fault before the report, at some moment
+pub record IsMakingFault (asked : Option Ordered) (fault : RunFault) : Type 0 where
+  pub moment : ℕ
+  pub cause : BenchCause asked moment fault
+  pub words : fault ≢ run.Usage
+  pub no_report : fault ≢ run.Report
 
 -- the project's sides are in range, and different frames have different files
 pub record HasFiles (g : Graph) : Type 0 where

@@ -1,27 +1,28 @@
 //! The mode `bench`: what is made of a number is rendered in memory, and what its files come to is told.
-ghost use Rattle.std.specs.Prelude.{◌≡◌, ◌≢◌, ◌≤◌, ◌+◌, ◌*◌, ℕ, List, map, length, sum, Some, IsTrue, IfOk, IfErr, OnOk};
+ghost use Rattle.std.specs.Prelude.{◌≡◌, ◌≤◌, ◌+◌, ◌*◌, ℕ, List, map, length, sum, Some, IsTrue, IfOk, IfErr, OnOk};
 ghost use Rattle.std.specs.List.{flat_map, range_with_len};
 ghost use Rattle.fx_base.specs.Pattern.{name_of};
 ghost use Rattle.fx_base.specs.declared.limits.TheConstants.{LAST_FRAME};
+ghost use Rattle.fx_outside.specs.Outside.{Files};
 ghost use Rattle.fx_outside.specs.Sure.{sure_library_files, sure_depot_files};
 ghost use Rattle.fx_bench.specs.Frames.{file_of};
 ghost use Rattle.fx_scene.specs.Scenes.{graph_shown};
 ghost use Rattle.fx_words.specs.Order.{is_bench_number};
 ghost use Rattle.fx_words.specs.Texts.{report_text};
-ghost use Rattle.fx_words.specs.declared.fault.RunFault.TheVariants.{Usage as OtherWords};
+ghost use Rattle.fx_words.specs.declared.order.Mode.TheVariants as mode;
+ghost use Rattle.fx_words.specs.declared.fault.RunFault.TheVariants.{Memory as OutOfMemory};
 ghost use Rattle.fx_app.specs.Graphs.{frame_count};
 ghost use Rattle.fx_app.specs.Files.{file_name};
-ghost use Rattle.fx_app.specs.Bench.{number_of, made_files, made_of, IsBenchReport, HasBenched, BenchCause, LeavesBenchReport};
-ghost use Rattle.fx_app.specs.Run.{IsAccepted, Rose, LeavesOut};
+ghost use Rattle.fx_app.specs.Bench.{number_of, made_files, made_of, IsBenchReport, HasBenched};
+ghost use Rattle.fx_app.specs.Ended.{calls, Ended};
+ghost use Rattle.fx_app.specs.Run.{IsAccepted};
 ghost use Rattle.fx_app.specs.Steps.{HasFiles, IsMakingFault, bytes_under, AreShort};
-ghost use Rattle.fx_app.specs.declared.frames.PutFailure.TheVariants.{Memory as NotPut};
 ghost use Rattle.fx_app.specs.declared.graph.GraphFailure.TheVariants.{Memory as NoGraph};
 
-use crate::frames::{PutFailure, put_frames};
 use crate::graph::{GraphFailure, graph_of};
+use crate::moments::put_moments;
 use crate::order::{first_of, frame_count, last_of};
 use crate::report::report_lines;
-use crate::sources::sources_of;
 use fx_base::{Memory, Name, Pattern};
 use fx_bench::make;
 use fx_graph::Graph;
@@ -47,14 +48,14 @@ pub(crate) fn bench<R: Threads + Wait + Clock + Sync, O: Sink, P: Pace>(
     requires { IsTrue (is_bench_number order.now.graph) }
     ensures benched { OnOk result (IsAccepted (Some order.now) (made_of order.now.graph)) }
     ensures told { O.tells → OnOk result (HasBenched (Some order.now) (O.written out.old) (O.written out.new)) }
-    ensures rose { (library depot : ℕ × ℕ × List ℕ) → IfErr result
-        (λ e. Rose library depot (O.faults out.old, O.faults out.new) e) }
-    ensures cause { IfErr result (λ e. BenchCause (Some order.now) e) }
-    ensures report { O.tells
-        → IfErr result (λ e. LeavesBenchReport (Some order.now) e (O.written out.old) (O.written out.new)) }
-    ensures words { IfErr result (λ e. e ≢ OtherWords) }
-    ensures out { IfErr result (λ e. LeavesOut e (O.faults out.old) (O.faults out.new)) }
     ensures quiet_out { OnOk result (O.faults out.new ≡ O.faults out.old) }
+    // Whatever library and depot there are, a bench leaves them.
+    ensures ended { (library depot : Files) (reads puts : ℕ) (read put : List ℕ) →
+        let writes : ℕ × ℕ = (O.faults out.old, O.faults out.new) in
+        let files : Files × Files = (depot, depot) in
+        let texts : List ℕ × List ℕ = (O.written out.old, O.written out.new) in
+        IfErr result (λ e. Ended (Some mode.Bench) (Unit {0}) (Unit {0}) O.tells (Some order.now) library
+        (calls reads reads read read) (calls puts puts put put) writes files texts e) }
 {
     let report = bench_report(rt, alloc, pace, order)?;
     report_lines(alloc, out, &report)?;
@@ -78,10 +79,7 @@ fn bench_report<R: Threads + Wait + Clock + Sync, P: Pace>(
     let first = first_of(&graph, order);
     let last = last_of(&graph, order);
     let names = file_names(alloc, &graph, first, last)?;
-    let store = sources_of(alloc, &graph, first, last, &mut library)?;
-    put_frames(
-        rt, alloc, pace, order, graph, store, first, last, &mut depot,
-    )?;
+    put_moments(rt, alloc, pace, order, graph, &mut library, &mut depot)?;
     let totals = totals_of(&names, &depot);
     Ok(Report::Bench {
         frames: frame_count(first, last),
@@ -125,14 +123,17 @@ fn file_names(
     graph: &Graph<Shipped>,
     first: u32,
     last: u32,
-) -> Result<Vec<Name>, PutFailure>
+) -> Result<Vec<Name>, RunFault>
     requires { last ≤ LAST_FRAME }
     ensures names { let n = frame_count first last in
         IfOk result (λ names. names.items ≡ map (file_name (graph_shown graph.now)) (range_with_len first n)) }
     ensures files { HasFiles (graph_shown graph.now) }
-    ensures err { IfErr result (λ e. e ≡ NotPut) }
+    ensures err { IfErr result (λ e. e ≡ OutOfMemory) }
 {
-    Ok(names_of(alloc, &graph.file, first, last)?)
+    match names_of(alloc, &graph.file, first, last) {
+        Ok(names) => Ok(names),
+        Err(Memory) => Err(RunFault::Memory),
+    }
 }
 
 fn names_of(alloc: Global, file: &Pattern, first: u32, last: u32) -> Result<Vec<Name>, Memory>

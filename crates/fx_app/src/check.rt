@@ -1,10 +1,11 @@
 //! The mode `check`: a graph is accepted, and what a render of it takes is told.
-ghost use Rattle.std.specs.Prelude.{◌≡◌, ◌≢◌, ℕ, List, Some, IfErr, OnOk};
+ghost use Rattle.std.specs.Prelude.{◌≡◌, ℕ, List, Some, IfErr, OnOk};
+ghost use Rattle.fx_outside.specs.Outside.{Files};
 ghost use Rattle.fx_seq.specs.Filling.{IsQuiet};
-ghost use Rattle.fx_words.specs.declared.fault.RunFault.TheVariants.{Usage as OtherWords};
+ghost use Rattle.fx_words.specs.declared.order.Mode.TheVariants as mode;
 ghost use Rattle.fx_app.specs.Run.{Job};
-ghost use Rattle.fx_app.specs.Run.{Rose, LeavesLibrary, LeavesOut};
-ghost use Rattle.fx_app.specs.Check.{HasChecked, CheckCause, LeavesCheckReport};
+ghost use Rattle.fx_app.specs.Check.{HasChecked};
+ghost use Rattle.fx_app.specs.Ended.{calls, Ended};
 
 use crate::graph::{graph_of, node_count};
 use crate::order::{first_of, frame_count, last_of};
@@ -26,18 +27,17 @@ pub(crate) fn check<L: Library, O: Sink>(
         → OnOk result (HasChecked (Some order.now) (L.file library.old) (O.written out.old) (O.written out.new)) }
     ensures quiet { OnOk result
         (IsQuiet (L.faults library.old) (L.faults library.new) (L.last library.old) (L.last library.new)) }
-    ensures rose { (depot : ℕ × ℕ × List ℕ) → IfErr result
-        (λ e. Rose (L.faults library.old, L.faults library.new, L.last library.new) depot
-        (O.faults out.old, O.faults out.new) e) }
-    ensures cause { IfErr result (λ e. CheckCause L.tells (Some order.now) (L.file library.old) e) }
-    ensures report { O.tells
-        → IfErr result (λ e. LeavesCheckReport L.tells (Some order.now) (L.file library.old) e
-        (O.written out.old) (O.written out.new)) }
-    ensures library { let last = L.last library.new in
-        IfErr result (λ e. LeavesLibrary e (L.faults library.old) (L.faults library.new) (L.last library.old) last) }
-    ensures words { IfErr result (λ e. e ≢ OtherWords) }
-    ensures out { IfErr result (λ e. LeavesOut e (O.faults out.old) (O.faults out.new)) }
     ensures quiet_out { OnOk result (O.faults out.new ≡ O.faults out.old) }
+    // Whatever depot there is, a check leaves it.
+    ensures ended { (depot : Files) (faults : ℕ) (name : List ℕ) →
+        let last = L.last library.new in
+        let fetches = calls (L.faults library.old) (L.faults library.new) (L.last library.old) last in
+        let puts = calls faults faults name name in
+        let writes : ℕ × ℕ = (O.faults out.old, O.faults out.new) in
+        let files : Files × Files = (depot, depot) in
+        let texts : List ℕ × List ℕ = (O.written out.old, O.written out.new) in
+        IfErr result (λ e. Ended (Some mode.Check) L.tells (Unit {0}) O.tells (Some order.now) (L.file library.old)
+        fetches puts writes files texts e) }
 {
     let graph = graph_of(alloc, &order.graph, library)?;
     let first = first_of(&graph, order);

@@ -1,16 +1,17 @@
 //! Those who render: what they share, and the seat from which each worker's is split.
-ghost use Rattle.std.specs.Prelude.{◌≡◌, ◌≤◌, [], pos, IfOk};
+ghost use Rattle.std.specs.Prelude.{◌≡◌, ◌≤◌, [], pos, IfErr, IfOk};
 ghost use Rattle.fx_base.specs.declared.limits.TheConstants.{LAST_FRAME};
 ghost use Rattle.fx_image.specs.Image.{SameImage};
 ghost use Rattle.fx_image.specs.Stored.{image_of};
 ghost use Rattle.fx_life.specs.Posts.{HasLife};
 ghost use Rattle.fx_region.specs.Counts.{window_ends};
+ghost use Rattle.fx_scene.specs.Right.{HasWanted};
 ghost use Rattle.fx_scene.specs.Scenes.{images_in, picture};
 ghost use Rattle.fx_scene.specs.Sites.{scene_nodes};
 ghost use Rattle.fx_shipped.specs.Shipped.{meaning_of, number_of};
 ghost use Rattle.fx_tile.specs.Moments.{CountsTiles, seat_weight};
 ghost use Rattle.fx_tile.specs.Seats.{AreAll};
-ghost use Rattle.fx_app.specs.Crews.{IsCrew, IsNewCrew, KeepsCrew};
+ghost use Rattle.fx_app.specs.Crews.{IsCrew, IsNewCrew, IsRenewed, KeepsCrew, KnewScene};
 
 use fx_base::{Grid, Memory};
 use fx_core::{Permit, Totals};
@@ -69,6 +70,8 @@ impl Crew {
         requires life { HasLife number_of scene.now.graph life.now }
         requires crew { IsCrew scene.now self.old }
         requires frame { frame ≤ LAST_FRAME }
+        requires holds { let g = scene.now.graph in
+            HasWanted meaning_of g (images_in scene.now.store) g.output (pos frame) }
         ensures crew { IsCrew scene.now self.new }
         ensures picture { let picture = picture meaning_of scene.now.graph (images_in scene.now.store) (pos frame) in
             IfOk result (λ r. SameImage (image_of r.0) picture) }
@@ -94,6 +97,39 @@ impl Crew {
                 self.shared.join(&mut self.seat, seats);
                 Err(memory)
             }
+        }
+    }
+
+    /// The same who render, for the scene as it is now: the one that they rendered, with more source frames. What is
+    /// kept stays. At `Memory` they are as before.
+    pub(crate) fn renewed(
+        self,
+        alloc: Global,
+        scene: &Scene<Shipped>,
+    ) -> Result<Crew, (Crew, Memory)>
+        requires knew { KnewScene scene.now self }
+        ensures renewed { IfOk result (IsRenewed scene.now self) }
+        ensures back { IfErr result (λ e. e.0 ≡ self) }
+    {
+        let Crew {
+            shared,
+            seat,
+            workers,
+        } = self;
+        match shared.renew(alloc, seat, scene) {
+            Ok((shared, seat)) => Ok(Crew {
+                shared,
+                seat,
+                workers,
+            }),
+            Err((shared, seat, memory)) => Err((
+                Crew {
+                    shared,
+                    seat,
+                    workers,
+                },
+                memory,
+            )),
         }
     }
 

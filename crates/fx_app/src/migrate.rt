@@ -53,7 +53,7 @@ pub(crate) fn migrate<L: Library, D: Depot, O: Sink>(
         let writes : ℕ × ℕ = (O.faults out.old, O.faults out.new) in
         let files : Files × Files = (D.file depot.old, D.file depot.new) in
         let texts : List ℕ × List ℕ = (O.written out.old, O.written out.new) in
-        IfErr result (λ e. Ended mode.Migrate L.tells D.tells O.tells (Some order.now) (L.file library.old)
+        IfErr result (λ e. Ended (Some mode.Migrate) L.tells D.tells O.tells (Some order.now) (L.file library.old)
         fetches puts writes files texts e) }
 {
     let migration = read_migration(alloc, &order.graph, library)?;

@@ -1,6 +1,6 @@
 //! The top call: words, and then the steps of what they order.
-ghost use Rattle.std.specs.Prelude.{◌≡◌, ◌≢◌, ◌⊎◌, Some, None, IsTrue, map, string_bytes, IfOk, IfErr, OnOk};
-ghost use Rattle.fx_outside.specs.Outside.{HasRisen, AddsPrefix};
+ghost use Rattle.std.specs.Prelude.{◌≡◌, ◌≢◌, ◌⊎◌, ℕ, List, Some, None, IsTrue, map, string_bytes, IfOk, IfErr, OnOk};
+ghost use Rattle.fx_outside.specs.Outside.{AddsPrefix, Files, HasRisen};
 ghost use Rattle.fx_seq.specs.Filling.{IsQuiet};
 ghost use Rattle.fx_words.specs.Ordered.{Ordered};
 ghost use Rattle.fx_words.specs.Texts.{fault_text};
@@ -11,11 +11,10 @@ ghost use Rattle.fx_words.specs.Order.{order_of};
 ghost use Rattle.fx_app.specs.Words.{mode_in, Orders};
 ghost use Rattle.fx_app.specs.Texts.{status_of, GainsLine};
 ghost use Rattle.fx_app.specs.Run.{is_status, Job, IsAccepted, NamesNoGraph, HasPutAll, HasTold};
-ghost use Rattle.fx_app.specs.Run.{Rose, LeavesLibrary, LeavesDepot, LeavesOut};
 ghost use Rattle.fx_app.specs.Check.{HasChecked};
 ghost use Rattle.fx_app.specs.Bench.{made_for, HasBenched};
 ghost use Rattle.fx_app.specs.Migrate.{Migration, HasMigrated, HasToldNodes, NamesSlash};
-ghost use Rattle.fx_app.specs.Modes.{CauseIn, LeavesIn, LeavesReportIn};
+ghost use Rattle.fx_app.specs.Ended.{calls, Ended};
 
 use crate::bench::bench;
 use crate::check::check;
@@ -121,20 +120,16 @@ pub fn run<R: Threads + Wait + Clock + Sync, L: Library, D: Depot, O: Sink, F: S
     // At status 0 no line is written. Each other status has a fault, which the outside shows, which has its cause,
     // leaves what it leaves, and is told on `err`. No count of faults rose but where the fault tells of it, at 6 too.
     ensures silent { result ≡ 0 → F.written err.new ≡ F.written err.old }
-    ensures ends { let asked = order_of (map string_bytes words.now) in result ≢ 0 → (fault : RunFault)
-        × ((result ≡ status_of fault) ⊎ (result ≡ 6))
-        × Rose (L.faults library.old, L.faults library.new, L.last library.new)
-        (D.faults depot.old, D.faults depot.new, D.last depot.new) (O.faults out.old, O.faults out.new) fault
-        × CauseIn (mode_in asked) L.tells asked (L.file library.old) fault
-        × (L.tells → D.tells
-        → LeavesIn (mode_in asked) asked (L.file library.old) fault (D.file depot.old) (D.file depot.new))
-        × (O.tells → LeavesReportIn (mode_in asked) L.tells asked (L.file library.old) fault
-        (O.written out.old) (O.written out.new))
+    ensures ends { let asked = order_of (map string_bytes words.now) in let last = L.last library.new in
+        let fetches = calls (L.faults library.old) (L.faults library.new) (L.last library.old) last in
+        let puts = calls (D.faults depot.old) (D.faults depot.new) (D.last depot.old) (D.last depot.new) in
+        let writes : ℕ × ℕ = (O.faults out.old, O.faults out.new) in
+        let files : Files × Files = (D.file depot.old, D.file depot.new) in
+        let texts : List ℕ × List ℕ = (O.written out.old, O.written out.new) in
+        result ≢ 0 → (fault : RunFault) × ((result ≡ status_of fault) ⊎ (result ≡ 6))
+        × Ended (mode_in asked) L.tells D.tells O.tells asked (L.file library.old) fetches puts writes files texts fault
         × (F.tells → result ≢ 6
-        → GainsLine (fault_text fault) (F.written err.old) (F.written err.new) (F.faults err.old) (F.faults err.new))
-        × LeavesLibrary fault (L.faults library.old) (L.faults library.new) (L.last library.old) (L.last library.new)
-        × LeavesDepot fault (D.faults depot.old) (D.faults depot.new) (D.last depot.old) (D.last depot.new)
-        × LeavesOut fault (O.faults out.old) (O.faults out.new) }
+        → GainsLine (fault_text fault) (F.written err.old) (F.written err.new) (F.faults err.old) (F.faults err.new)) }
     ensures memory_line { F.tells → result ≡ 6
         → AddsPrefix (fault_text OutOfMemory) (F.written err.old) (F.written err.new) }
     // But at 4 and 6 no fetch failed, and but at 5 and 6 no put.
@@ -203,24 +198,15 @@ fn outcome<R: Threads + Wait + Clock + Sync, L: Library, D: Depot, O: Sink, P: P
         (IsQuiet (L.faults library.old) (L.faults library.new) (L.last library.old) (L.last library.new)) }
     ensures quiet_depot { OnOk result
         (IsQuiet (D.faults depot.old) (D.faults depot.new) (D.last depot.old) (D.last depot.new)) }
-    ensures rose { IfErr result
-        (λ e. Rose (L.faults library.old, L.faults library.new, L.last library.new)
-        (D.faults depot.old, D.faults depot.new, D.last depot.new) (O.faults out.old, O.faults out.new) e) }
-    ensures cause { let asked = order_of (map string_bytes words.now) in
-        IfErr result (λ e. CauseIn (mode_in asked) L.tells asked (L.file library.old) e) }
-    ensures leaves { let asked = order_of (map string_bytes words.now) in L.tells → D.tells
-        → IfErr result
-        (λ e. LeavesIn (mode_in asked) asked (L.file library.old) e (D.file depot.old) (D.file depot.new)) }
-    ensures report { let asked = order_of (map string_bytes words.now) in O.tells
-        → IfErr result (λ e. LeavesReportIn (mode_in asked) L.tells asked (L.file library.old) e
-        (O.written out.old) (O.written out.new)) }
-    ensures library { let last = L.last library.new in
-        IfErr result (λ e. LeavesLibrary e (L.faults library.old) (L.faults library.new) (L.last library.old) last) }
-    ensures depot { let last = D.last depot.new in
-        IfErr result (λ e. LeavesDepot e (D.faults depot.old) (D.faults depot.new) (D.last depot.old) last) }
-    ensures out { IfErr result (λ e. LeavesOut e (O.faults out.old) (O.faults out.new)) }
     ensures quiet_out { OnOk result (O.faults out.new ≡ O.faults out.old) }
-    ensures usage { IfErr result (λ e. e ≡ OtherWords → order_of (map string_bytes words.now) ≡ None) }
+    ensures ended { let asked = order_of (map string_bytes words.now) in let last = L.last library.new in
+        let fetches = calls (L.faults library.old) (L.faults library.new) (L.last library.old) last in
+        let puts = calls (D.faults depot.old) (D.faults depot.new) (D.last depot.old) (D.last depot.new) in
+        let writes : ℕ × ℕ = (O.faults out.old, O.faults out.new) in
+        let files : Files × Files = (D.file depot.old, D.file depot.new) in
+        let texts : List ℕ × List ℕ = (O.written out.old, O.written out.new) in
+        IfErr result (λ e. Ended (mode_in asked) L.tells D.tells O.tells asked (L.file library.old)
+        fetches puts writes files texts e) }
     ensures other_words { order_of (map string_bytes words.now) ≡ None
         → IfErr result (λ e. (e ≡ OtherWords) ⊎ (e ≡ OutOfMemory)) × OnOk result ⊥ }
 {

@@ -1,5 +1,5 @@
 -- A range of frames that is rendered in stretches.
-use Rattle.std.proofs.Common.{◌≡◌, ◌≤◌, inl, inr, ◌⊎◌, ℕ, ℤ, pos, negsuc, ◌≤ℤ◌, Bool, true, false, nat_eq, List, [], ◌∷◌, Option, Some, refl, sym, ap, subst, ◌∙◌, arith}
+use Rattle.std.proofs.Common.{◌≡◌, ◌≤◌, ◌<◌, ◌+◌, ◌-◌, inl, inr, ◌⊎◌, ℕ, ℤ, pos, Bool, true, false, nat_eq, List, [], ◌∷◌, Option, Some, refl, sym, ap, subst, ◌∙◌, arith}
 use Rattle.std.specs.Ordering.{int_eq}
 use Rattle.std.proofs.lemmas.Bool.{and_parts, false≢true}
 use Rattle.std.proofs.lemmas.Bool.Decides.{nat_tests, Decides-int_eq}
@@ -11,57 +11,65 @@ use Rattle.fx_base.specs.Pattern.{is_pattern, runs}
 use Rattle.fx_graph.specs.Graphs.{is_output}
 use Rattle.fx_base.specs.declared.limits.TheConstants.{LAST_FRAME}
 use Rattle.fx_base.proofs.PatternLaws.{name_of-apart}
+use Rattle.fx_base.proofs.RunLaws.{Contains-map}
 use Rattle.fx_outside.specs.Outside.{Files, SameFiles}
 use Rattle.fx_image.specs.Image.{Image}
 use Rattle.fx_pam.specs.Text.{pam_text}
 use Rattle.fx_pam.specs.Reading.{IsPam}
+use Rattle.fx_seq.specs.declared.used.Use.{Use}
 use Rattle.fx_seq.specs.declared.wanted.Wanted.{Wanted}
 use Rattle.fx_scene.specs.Depends as scene
 use Rattle.fx_scene.specs.Depends.{PicturesDependOnWanted}
-use Rattle.fx_scene.specs.Nodes.{IsFrameImage, Nodes}
-use Rattle.fx_scene.specs.Reach.{IsReached}
+use Rattle.fx_scene.specs.Nodes.{IsFrameImage}
 use Rattle.fx_scene.specs.Scenes.{Images, graph_nodes, no_images}
-use Rattle.fx_scene.specs.Wants.{IsNamedIn, IsWanted, Lists}
+use Rattle.fx_scene.specs.Uses.{ListsUse}
+use Rattle.fx_scene.specs.Wants.{IsNamedIn, IsWanted, Lists, Shows}
 use Rattle.fx_scene.proofs.Members.{In, in_of}
 use Rattle.fx_scene.proofs.WantLemmas.{contains_of}
 use Rattle.fx_shipped.specs.Shipped.{meaning_of}
 use Rattle.fx_app.specs.Graphs.{Graph, frame_count}
-use Rattle.fx_app.specs.Files.{AreImages, IsFileOf, file_name, file_text}
+use Rattle.fx_app.specs.Files.{AreImages, AreUsesOf, IsFileOf, file_name, file_text, wanted_of}
 use Rattle.fx_runs.specs.Stretches.{AreStretches, HasRun, HaveRun, IsIn, Stretch, StretchesMakeWhole, StretchesWantNoMore}
 use Rattle.fx_base.specs.declared.limits.TheConstants.{MOST_SIDE}
 use Rattle.fx_runs.proofs.SplitFiles.{IsOf, hit, miss, seek}
 use Rattle.fx_runs.proofs.SplitImages.{frame_image, same_image}
-use Rattle.fx_app.proofs.WantedLemmas.{one_name}
+use Rattle.fx_app.proofs.ReadLemmas.{moment_wants, wants_of}
+use Rattle.fx_app.proofs.UsesLemmas.{from_wanted, one_name}
 
 -- ---- what is wanted
 
--- a whole number between two that are none below zero is none below zero
-natural : (a b : ℕ) (t : ℤ) → pos a ≤ℤ t → t ≤ℤ pos b → (k : ℕ) × (t ≡ pos k) × (a ≤ k) × (k ≤ b)
-natural a b (pos k) low high = (k, refl, omega (arith, ints, low), omega (arith, ints, high))
-natural a b (negsuc k) low high = absurd (omega (arith, ints, low))
+-- what a frame wants is used by a run over a stretch that has the frame
+used_at : (g : Graph) (p : Stretch) (uses : List Use) → AreUsesOf g p.first (frame_count p.first p.last) uses → (t : ℕ) → IsIn p t
+    → (k : ℕ) (f : ℤ) → IsWanted (graph_nodes meaning_of g no_images) g.output (pos t) (pos t) k f → ListsUse uses k f
+used_at g p uses are t is k f w =
+    let from = is.from in
+    let to = is.to in
+    let n = frame_count p.first p.last in
+    let at : p.first + (t - p.first) ≡ t = omega (arith, from) in
+    let low : t - p.first < n = omega (arith, from, to) in
+    are.moments.all (t - p.first) k f low
+    (moment_wants g p.first n (t - p.first) k f low (subst (λ (u : ℕ). IsWanted (graph_nodes meaning_of g no_images) g.output (pos u) (pos u) k f) (sym at) w))
 
-reached_more : (nodes : Nodes) (output : ℕ) (whole p : Stretch) → ((t : ℕ) → IsIn p t → IsIn whole t) → (n : ℕ) (t : ℤ)
-    → IsReached nodes output (pos p.first) (pos p.last) n t → IsReached nodes output (pos whole.first) (pos whole.last) n t
-reached_more nodes output whole p inside n t reached s closed =
-    reached s (record { start = λ u low high. start u low high; reads = closed.reads })
-  where
-    start : (u : ℤ) → pos p.first ≤ℤ u → u ≤ℤ pos p.last → s output u ≡ true
-    start u low high =
-        let k = natural p.first p.last u low high in
-        let is = inside k.0 (record { from = k.2; to = k.3 }) in
-        let from = is.from in
-        let to = is.to in
-        let same = k.1 in
-        closed.start u (omega (arith, ints, same, from)) (omega (arith, ints, same, to))
-
-pub wanted_more : (nodes : Nodes) (output : ℕ) (whole p : Stretch) → ((t : ℕ) → IsIn p t → IsIn whole t) → (n : ℕ) (f : ℤ)
-    → IsWanted nodes output (pos p.first) (pos p.last) n f → IsWanted nodes output (pos whole.first) (pos whole.last) n f
-wanted_more nodes output whole p inside n f wanted =
-    record { at = wanted.at; reached = reached_more nodes output whole p inside n wanted.at wanted.reached; shows = wanted.shows }
+lists_in : (uses : List Use) (n : ℕ) (f : ℤ) → ListsUse uses n f → Lists (wanted_of uses) n f
+lists_in uses n f l =
+    record {
+      entry = l.use_.wanted;
+      listed = Contains-map (λ (u : Use). u.wanted) uses l.use_ l.listed;
+      node = l.node;
+      frame = l.frame;
+    }
 
 pub want_no_more : (g : Graph) → StretchesWantNoMore g
-want_no_more g whole p wanted some inside all of w listed =
-    all.frames.all w.node w.frame (wanted_more (graph_nodes meaning_of g no_images) g.output whole p inside w.node w.frame (of.frames.only w listed))
+want_no_more g whole p uses some inside all of w listed =
+    let u = from_wanted some w listed in
+    let is = of.moments.each u.0 u.1 in
+    let order = is.order in
+    let end = is.end in
+    let n = frame_count p.first p.last in
+    let t = p.first + u.0.from in
+    let there = wants_of g p.first n u.0.from u.0.wanted.node u.0.wanted.frame (omega (arith, order, end)) is.first in
+    let l = used_at g whole uses all t (inside t (record { from = omega arith; to = omega (arith, order, end) })) u.0.wanted.node u.0.wanted.frame there in
+    subst (λ (v : Wanted). Lists (wanted_of uses) v.node v.frame) u.2 (lists_in uses u.0.wanted.node u.0.wanted.frame l)
 
 -- ---- whether a frame is listed
 
@@ -152,29 +160,29 @@ module _ (g : Graph) (one : runs g.file ≡ 1) (depend : PicturesDependOnWanted 
     text : ℕ → List ℕ
     text t = file_text g all.images t
 
-    agree : (p : Stretch) (old new : Files) (run : HasRun g library p old new) → ((t : ℕ) → IsIn p t → IsIn whole t)
-        → scene.AgreeOnWanted meaning_of g g.output (pos p.first) (pos p.last) run.images all.images
-    agree p old new run inside k f w =
-        let e = run.are.frames.all k f w in
-        let d = all.are.frames.all k f (wanted_more (graph_nodes meaning_of g no_images) g.output whole p inside k f w) in
-        let node : e.entry.node ≡ d.entry.node = e.node ∙ sym d.node in
-        let frame : e.entry.frame ≡ d.entry.frame = e.frame ∙ sym d.frame in
-        let v = run.are.frames.only e.entry e.listed in
-        let name = one_name g e.entry d.entry v.at node frame v.shows
-        (All-contains (IsNamedIn g) run.wanted e.entry run.are.names e.listed)
-        (All-contains (IsNamedIn g) all.wanted d.entry all.are.names d.listed) in
-        same_file library e.entry.name d.entry.name (run.images k f) (all.images k f) name
-        (has_file library run.wanted run.images run.shown k f e) (has_file library all.wanted all.images all.shown k f d)
+    agree : (p : Stretch) (old new : Files) (run : HasRun g library p old new) → ((t : ℕ) → IsIn p t → IsIn whole t) → (t : ℕ) → IsIn p t
+        → scene.AgreeOnWanted meaning_of g g.output (pos t) (pos t) run.images all.images
+    unfolding used_at lists_in
+    agree p old new run inside t is k f w =
+        let e = used_at g p run.uses run.are t is k f w in
+        let d = used_at g whole all.uses all.are t (inside t is) k f w in
+        let shows : Shows (graph_nodes meaning_of g no_images e.use_.wanted.node) w.at e.use_.wanted.frame =
+        subst (λ (n : ℕ). Shows (graph_nodes meaning_of g no_images n) w.at e.use_.wanted.frame) (sym e.node)
+        (subst (λ (h : ℤ). Shows (graph_nodes meaning_of g no_images k) w.at h) (sym e.frame) w.shows) in
+        let name = one_name g e.use_.wanted d.use_.wanted w.at (e.node ∙ sym d.node) (e.frame ∙ sym d.frame) shows
+        (All-contains (λ (u : Use). IsNamedIn g u.wanted) run.uses e.use_ run.are.names e.listed)
+        (All-contains (λ (u : Use). IsNamedIn g u.wanted) all.uses d.use_ all.are.names d.listed) in
+        same_file library e.use_.wanted.name d.use_.wanted.name (run.images k f) (all.images k f) name
+        (has_file library (wanted_of run.uses) run.images run.shown k f (lists_in run.uses k f e))
+        (has_file library (wanted_of all.uses) all.images all.shown k f (lists_in all.uses k f d))
 
     same_text : (p : Stretch) (old new : Files) (run : HasRun g library p old new) → ((t : ℕ) → IsIn p t → IsIn whole t) → (t : ℕ) → IsIn p t
         → file_text g run.images t ≡ text t
     unfolding file_text text
     same_text p old new run inside t is =
-        let from = is.from in
-        let to = is.to in
         ap (pam_text g.format)
-        (depend (pos p.first) (pos p.last) run.images all.images (images_are library run.wanted run.images run.shown)
-        (images_are library all.wanted all.images all.shown) (agree p old new run inside) (pos t) (omega (arith, ints, from)) (omega (arith, ints, to)))
+        (depend (pos t) (pos t) run.images all.images (images_are library (wanted_of run.uses) run.images run.shown)
+        (images_are library (wanted_of all.uses) all.images all.shown) (agree p old new run inside t is) (pos t) (omega (arith, ints)) (omega (arith, ints)))
 
     of_stretch : (p : Stretch) (t : ℕ) → IsIn p t → IsOf p.first (frame_count p.first p.last) t
     of_stretch p t is = let from = is.from in let to = is.to in record { from = from; below = omega (arith, from, to) }

@@ -2,12 +2,13 @@
 use Rattle.std.specs.Prelude.{◌≤◌, ℕ, List, [], ◌∷◌, Contains, Option}
 use Rattle.fx_base.specs.declared.limits.TheConstants.{LAST_FRAME}
 use Rattle.fx_outside.specs.Outside.{Files, SameFiles}
+use Rattle.fx_seq.specs.declared.used.Use.{Use}
 use Rattle.fx_seq.specs.declared.wanted.Wanted.{Wanted}
 use Rattle.fx_scene.specs.Scenes.{Images}
 use Rattle.fx_scene.specs.Wants.{Lists}
 use Rattle.fx_words.specs.Ordered.{Ordered}
 use Rattle.fx_app.specs.Graphs.{Graph, frame_count, last_of}
-use Rattle.fx_app.specs.Files.{AreImages, AreWantedBy, HasGained}
+use Rattle.fx_app.specs.Files.{AreImages, AreUsesOf, HasGained, wanted_of}
 use Rattle.fx_app.specs.Run.{HasPutAll, Job, first_in}
 
 -- the frames from a first one to a last one
@@ -22,10 +23,10 @@ pub record IsIn (p : Stretch) (t : ℕ) : Type 0 where
 -- A run over a stretch: each source frame that its frames want has the image of its file, and the files of its frames
 -- are put, and nothing else.
 pub record HasRun (g : Graph) (library : Files) (p : Stretch) (old new : Files) : Type 0 where
-  pub wanted : List Wanted
-  pub are : AreWantedBy g p.first p.last wanted
+  pub uses : List Use
+  pub are : AreUsesOf g p.first (frame_count p.first p.last) uses
   pub images : Images
-  pub shown : AreImages library wanted images
+  pub shown : AreImages library (wanted_of uses) images
   pub gained : HasGained g images p.first (frame_count p.first p.last) old new
 
 -- the frames that an order asks for
@@ -59,6 +60,7 @@ StretchesMakeWhole g =
 -- a source frame that a stretch of a range wants is wanted by the range
 abbrev pub StretchesWantNoMore : Graph → Type 0
 StretchesWantNoMore g =
-    (whole p : Stretch) (wanted some : List Wanted) → ((t : ℕ) → IsIn p t → IsIn whole t)
-    → AreWantedBy g whole.first whole.last wanted → AreWantedBy g p.first p.last some
-    → (w : Wanted) → Contains some w → Lists wanted w.node w.frame
+    (whole p : Stretch) (uses some : List Use) → ((t : ℕ) → IsIn p t → IsIn whole t)
+    → AreUsesOf g whole.first (frame_count whole.first whole.last) uses
+    → AreUsesOf g p.first (frame_count p.first p.last) some
+    → (w : Wanted) → Contains (wanted_of some) w → Lists (wanted_of uses) w.node w.frame

@@ -6,42 +6,74 @@ use Rattle.fx_words.specs.Texts.{check_text}
 use Rattle.fx_app.specs.Check.{check_report}
 use Rattle.fx_app.specs.Graphs.{graph_under}
 use Rattle.fx_app.specs.Run.{Job}
-use Rattle.fx_app.proofs.ModeLemmas as mode
+use Rattle.fx_app.specs.Steps.{GraphCause, GraphFetch}
+use Rattle.fx_app.proofs.CheckLemmas as end
 use Rattle.fx_app.proofs.check.check.Goals as goal
 
-pub returns-in_err-report_lines-clause-cause : goal.returns-in_err-report_lines-clause-cause
-returns-in_err-report_lines-clause-cause g c =
-    let job : g.L.Library.tells → Job (Some c.args.order.now) (g.L.Library.file c.args.library.now) = λ tells.
+pub returns-in_err-graph-clause-ended : goal.returns-in_err-graph-clause-ended
+returns-in_err-graph-clause-ended g c = λ depot faults name.
+    let L = g.L.Library in
+    let O = g.O.Sink in
     let at : c.order.inside.graph ≡ c.args.order.now.graph = ap (λ (o : Ordered). o.graph) c.order.view_is in
-    let there : graph_under (g.L.Library.file c.args.library.now) c.args.order.now.graph ≡ Some (Ok (graph_shown c.in_ok-graph.graph)) =
-    subst (λ (n : List ℕ). graph_under (g.L.Library.file c.args.library.now) n ≡ Some (Ok (graph_shown c.in_ok-graph.graph))) at (c.in_ok-graph.ensures.ok tells) in
-    mode.check_job (g.L.Library.file c.args.library.now) c.args.order.now (graph_shown c.in_ok-graph.graph) c.first_of-first.result c.last_of-last.result c.in_ok-count_wanted.field-0 there c.first_of-first.ensures.value c.last_of-last.ensures.value c.in_ok-count_wanted.ensures.ok in
-    let p = err_from_is_err_and c.from_residual-in_err-report_lines.result c.from_residual-in_err-report_lines.ensures.1 in
-    rw (p.1, p.2) (mode.check_cause g.L.Library.tells c.args.order.now (g.L.Library.file c.args.library.now) c.in_err-report_lines.field-0.0 job)
+    let e = c.in_err-graph.field-0.0 in
+    let cause : L.tells → GraphCause (L.file c.args.library.now) c.args.order.now.graph e = λ one.
+    subst (λ (n : List ℕ). GraphCause (L.file c.args.library.now) n e) at (c.in_err-graph.ensures.cause one) in
+    let fetch : GraphFetch c.args.order.now.graph (L.faults c.args.library.now) (L.faults c.graph_of.new.library) (L.last c.args.library.now) (L.last c.graph_of.new.library) e =
+    subst (λ (n : List ℕ). GraphFetch n (L.faults c.args.library.now) (L.faults c.graph_of.new.library) (L.last c.args.library.now) (L.last c.graph_of.new.library) e) at c.in_err-graph.ensures.fetch in
+    let p = err_from_is_err_and c.from_residual.result c.from_residual.ensures.1 in
+    rw (p.1, p.2) (end.graph_ended c.args.order.now (L.file c.args.library.now) depot faults name
+    (L.faults c.args.library.now) (L.faults c.graph_of.new.library) (L.last c.args.library.now) (L.last c.graph_of.new.library)
+    (O.faults c.args.out.now) (O.written c.args.out.now) e cause fetch)
 
-pub returns-in_err-report_lines-clause-report : goal.returns-in_err-report_lines-clause-report
-returns-in_err-report_lines-clause-report g c = λ told.
-    let own : g.L.Library.tells → (job : Job (Some c.args.order.now) (g.L.Library.file c.args.library.now)) × ((check_text c.node_count.result c.frame_count.result c.in_ok-count_wanted.field-0) ≡ check_report job) = λ tells.
+pub returns-in_err-count_wanted-clause-ended : goal.returns-in_err-count_wanted-clause-ended
+returns-in_err-count_wanted-clause-ended g c = λ depot faults name.
+    let L = g.L.Library in
+    let O = g.O.Sink in
+    let p = err_from_is_err_and c.from_residual-in_err-count_wanted.result c.from_residual-in_err-count_wanted.ensures.1 in
+    rw (p.1, p.2, c.in_err-count_wanted.ensures.err) (end.memory_ended c.args.order.now (L.file c.args.library.now) depot faults name
+    (L.faults c.args.library.now) (L.faults c.graph_of.new.library) (L.last c.args.library.now) (L.last c.graph_of.new.library)
+    (O.faults c.args.out.now) (O.written c.args.out.now))
+
+pub returns-in_err-report_lines-clause-ended : goal.returns-in_err-report_lines-clause-ended
+returns-in_err-report_lines-clause-ended g c = λ depot faults name.
+    let L = g.L.Library in
+    let O = g.O.Sink in
     let at : c.order.inside.graph ≡ c.args.order.now.graph = ap (λ (o : Ordered). o.graph) c.order.view_is in
-    let there : graph_under (g.L.Library.file c.args.library.now) c.args.order.now.graph ≡ Some (Ok (graph_shown c.in_ok-graph.graph)) =
-    subst (λ (n : List ℕ). graph_under (g.L.Library.file c.args.library.now) n ≡ Some (Ok (graph_shown c.in_ok-graph.graph))) at (c.in_ok-graph.ensures.ok tells) in
-    (mode.check_job (g.L.Library.file c.args.library.now) c.args.order.now (graph_shown c.in_ok-graph.graph) c.first_of-first.result c.last_of-last.result c.in_ok-count_wanted.field-0 there c.first_of-first.ensures.value c.last_of-last.ensures.value c.in_ok-count_wanted.ensures.ok, mode.check_is (g.L.Library.file c.args.library.now) c.args.order.now (graph_shown c.in_ok-graph.graph) c.first_of-first.result c.last_of-last.result c.node_count.result c.frame_count.result c.in_ok-count_wanted.field-0 there c.first_of-first.ensures.value c.last_of-last.ensures.value c.in_ok-count_wanted.ensures.ok c.node_count.ensures c.frame_count.ensures) in
+    let there : L.tells → graph_under (L.file c.args.library.now) c.args.order.now.graph ≡ Some (Ok (graph_shown c.in_ok-graph.graph)) = λ one.
+    subst (λ (n : List ℕ). graph_under (L.file c.args.library.now) n ≡ Some (Ok (graph_shown c.in_ok-graph.graph))) at (c.in_ok-graph.ensures.ok one) in
+    let own : L.tells → (job : Job (Some c.args.order.now) (L.file c.args.library.now)) × ((check_text c.node_count.result c.frame_count.result c.in_ok-count_wanted.field-0) ≡ check_report job) = λ one. (
+      end.check_job (L.file c.args.library.now) c.args.order.now (graph_shown c.in_ok-graph.graph) c.first_of-first.result c.last_of-last.result c.in_ok-count_wanted.field-0 (there one) c.first_of-first.ensures.value c.last_of-last.ensures.value c.in_ok-count_wanted.ensures.ok,
+      end.check_is (L.file c.args.library.now) c.args.order.now (graph_shown c.in_ok-graph.graph) c.first_of-first.result c.last_of-last.result c.node_count.result c.frame_count.result c.in_ok-count_wanted.field-0 (there one) c.first_of-first.ensures.value c.last_of-last.ensures.value c.in_ok-count_wanted.ensures.ok c.node_count.ensures c.frame_count.ensures,
+    ) in
     let p = err_from_is_err_and c.from_residual-in_err-report_lines.result c.from_residual-in_err-report_lines.ensures.1 in
-    rw (p.1, p.2) (mode.check_leaves g.L.Library.tells c.args.order.now (g.L.Library.file c.args.library.now) c.node_count.result c.frame_count.result c.in_ok-count_wanted.field-0
-    (g.O.Sink.written c.args.out.now) (g.O.Sink.written c.report_lines.new.out) c.in_err-report_lines.field-0.0 own (c.in_err-report_lines.ensures.leaves told))
+    rw (p.1, p.2) (end.report_ended c.args.order.now (L.file c.args.library.now) depot faults name
+    c.node_count.result c.frame_count.result c.in_ok-count_wanted.field-0
+    (L.faults c.args.library.now) (L.faults c.graph_of.new.library) (L.last c.args.library.now) (L.last c.graph_of.new.library)
+    (O.faults c.args.out.now) (O.faults c.report_lines.new.out) (O.written c.args.out.now) (O.written c.report_lines.new.out)
+    c.in_err-report_lines.field-0.0 own c.in_ok-graph.ensures.quiet c.in_err-report_lines.ensures.rose (λ told. c.in_err-report_lines.ensures.leaves told))
 
 pub returns-clause-checked : goal.returns-clause-checked
-returns-clause-checked g c = λ tells.
+returns-clause-checked g c = λ one.
+    let L = g.L.Library in
+    let O = g.O.Sink in
     let at : c.order.inside.graph ≡ c.args.order.now.graph = ap (λ (o : Ordered). o.graph) c.order.view_is in
-    let there : graph_under (g.L.Library.file c.args.library.now) c.args.order.now.graph ≡ Some (Ok (graph_shown c.in_ok-graph.graph)) =
-    subst (λ (n : List ℕ). graph_under (g.L.Library.file c.args.library.now) n ≡ Some (Ok (graph_shown c.in_ok-graph.graph))) at (c.in_ok-graph.ensures.ok tells) in
-    mode.check_job (g.L.Library.file c.args.library.now) c.args.order.now (graph_shown c.in_ok-graph.graph) c.first_of-first.result c.last_of-last.result c.in_ok-count_wanted.field-0 there c.first_of-first.ensures.value c.last_of-last.ensures.value c.in_ok-count_wanted.ensures.ok
+    let there : L.tells → graph_under (L.file c.args.library.now) c.args.order.now.graph ≡ Some (Ok (graph_shown c.in_ok-graph.graph)) = λ one.
+    subst (λ (n : List ℕ). graph_under (L.file c.args.library.now) n ≡ Some (Ok (graph_shown c.in_ok-graph.graph))) at (c.in_ok-graph.ensures.ok one) in
+    let own : L.tells → (job : Job (Some c.args.order.now) (L.file c.args.library.now)) × ((check_text c.node_count.result c.frame_count.result c.in_ok-count_wanted.field-0) ≡ check_report job) = λ one. (
+      end.check_job (L.file c.args.library.now) c.args.order.now (graph_shown c.in_ok-graph.graph) c.first_of-first.result c.last_of-last.result c.in_ok-count_wanted.field-0 (there one) c.first_of-first.ensures.value c.last_of-last.ensures.value c.in_ok-count_wanted.ensures.ok,
+      end.check_is (L.file c.args.library.now) c.args.order.now (graph_shown c.in_ok-graph.graph) c.first_of-first.result c.last_of-last.result c.node_count.result c.frame_count.result c.in_ok-count_wanted.field-0 (there one) c.first_of-first.ensures.value c.last_of-last.ensures.value c.in_ok-count_wanted.ensures.ok c.node_count.ensures c.frame_count.ensures,
+    ) in
+    (own one).0
 
 pub returns-clause-told : goal.returns-clause-told
-returns-clause-told g c = λ tells told.
+returns-clause-told g c = λ one told.
+    let L = g.L.Library in
+    let O = g.O.Sink in
     let at : c.order.inside.graph ≡ c.args.order.now.graph = ap (λ (o : Ordered). o.graph) c.order.view_is in
-    let there : graph_under (g.L.Library.file c.args.library.now) c.args.order.now.graph ≡ Some (Ok (graph_shown c.in_ok-graph.graph)) =
-    subst (λ (n : List ℕ). graph_under (g.L.Library.file c.args.library.now) n ≡ Some (Ok (graph_shown c.in_ok-graph.graph))) at (c.in_ok-graph.ensures.ok tells) in (
-      mode.check_job (g.L.Library.file c.args.library.now) c.args.order.now (graph_shown c.in_ok-graph.graph) c.first_of-first.result c.last_of-last.result c.in_ok-count_wanted.field-0 there c.first_of-first.ensures.value c.last_of-last.ensures.value c.in_ok-count_wanted.ensures.ok,
-      c.in_ok-report_lines.ensures.ok told ∙ ap (λ text. g.O.Sink.written c.args.out.now ++ text) (mode.check_is (g.L.Library.file c.args.library.now) c.args.order.now (graph_shown c.in_ok-graph.graph) c.first_of-first.result c.last_of-last.result c.node_count.result c.frame_count.result c.in_ok-count_wanted.field-0 there c.first_of-first.ensures.value c.last_of-last.ensures.value c.in_ok-count_wanted.ensures.ok c.node_count.ensures c.frame_count.ensures),
-    )
+    let there : L.tells → graph_under (L.file c.args.library.now) c.args.order.now.graph ≡ Some (Ok (graph_shown c.in_ok-graph.graph)) = λ one.
+    subst (λ (n : List ℕ). graph_under (L.file c.args.library.now) n ≡ Some (Ok (graph_shown c.in_ok-graph.graph))) at (c.in_ok-graph.ensures.ok one) in
+    let own : L.tells → (job : Job (Some c.args.order.now) (L.file c.args.library.now)) × ((check_text c.node_count.result c.frame_count.result c.in_ok-count_wanted.field-0) ≡ check_report job) = λ one. (
+      end.check_job (L.file c.args.library.now) c.args.order.now (graph_shown c.in_ok-graph.graph) c.first_of-first.result c.last_of-last.result c.in_ok-count_wanted.field-0 (there one) c.first_of-first.ensures.value c.last_of-last.ensures.value c.in_ok-count_wanted.ensures.ok,
+      end.check_is (L.file c.args.library.now) c.args.order.now (graph_shown c.in_ok-graph.graph) c.first_of-first.result c.last_of-last.result c.node_count.result c.frame_count.result c.in_ok-count_wanted.field-0 (there one) c.first_of-first.ensures.value c.last_of-last.ensures.value c.in_ok-count_wanted.ensures.ok c.node_count.ensures c.frame_count.ensures,
+    ) in
+    ((own one).0, c.in_ok-report_lines.ensures.ok told ∙ ap (λ text. O.written c.args.out.now ++ text) (own one).1)

@@ -1,10 +1,12 @@
-use Rattle.std.proofs.Common.{◌∙◌, Option, sym, subst, map, string_bytes, ap, rules}
+use Rattle.std.proofs.Common.{◌∙◌, Option, Some, sym, subst, map, string_bytes, ap, rules}
 use Rattle.std.specs.Prelude.{OnOk}
+use Rattle.std.proofs.lemmas.Result.{err_from_is_err_and}
 use Rattle.fx_words.specs.Order.{order_of}
 use Rattle.fx_words.specs.Ordered.{Ordered}
 use Rattle.fx_words.specs.declared.order.Mode.TheVariants as mode
 use Rattle.fx_app.specs.Run.{HasTold}
 use Rattle.fx_app.specs.Check.{HasChecked}
+use Rattle.fx_app.specs.Ended.{calls}
 use Rattle.fx_app.specs.Migrate.{Migration, HasMigrated, HasToldNodes}
 use Rattle.fx_app.proofs.WordLemmas.{bench_number}
 use Rattle.fx_app.proofs.EndedLemmas as end
@@ -30,54 +32,75 @@ returns-in-Check-clause-check_told g c = λ check tells told.
     subst (λ (a : Option Ordered). OnOk c.check.result (HasChecked a (g.L.Library.file c.args.library.now) (g.O.Sink.written c.args.out.now) (g.O.Sink.written c.check.new.out)))
     (sym c.in_ok-order.ensures.ok) (c.check.ensures.told tells told)
 
-pub returns-in-Check-clause-rose : goal.returns-in-Check-clause-rose
-returns-in-Check-clause-rose g c =
-    c.check.ensures.rose (g.D.Depot.faults c.args.depot.now, g.D.Depot.faults c.args.depot.now, g.D.Depot.last c.args.depot.now)
+pub returns-in_err-order-clause-ended : goal.returns-in_err-order-clause-ended
+returns-in_err-order-clause-ended g c =
+    let L = g.L.Library in
+    let D = g.D.Depot in
+    let O = g.O.Sink in
+    let asked = order_of (map string_bytes c.args.words.now) in
+    let p = err_from_is_err_and c.from_residual.result c.from_residual.ensures.1 in
+    rw (p.1, p.2) (end.words_ended asked (L.file c.args.library.now) (L.faults c.args.library.now) (D.faults c.args.depot.now)
+    (L.last c.args.library.now) (D.last c.args.depot.now) (O.faults c.args.out.now) (D.file c.args.depot.now) (O.written c.args.out.now)
+    c.in_err-order.field-0.0 c.in_err-order.ensures.err)
 
-pub returns-in-Bench-clause-rose : goal.returns-in-Bench-clause-rose
-returns-in-Bench-clause-rose g c =
-    c.bench.ensures.rose (g.L.Library.faults c.args.library.now, g.L.Library.faults c.args.library.now, g.L.Library.last c.args.library.now)
-    (g.D.Depot.faults c.args.depot.now, g.D.Depot.faults c.args.depot.now, g.D.Depot.last c.args.depot.now)
+pub returns-in-Render-clause-ended : goal.returns-in-Render-clause-ended
+returns-in-Render-clause-ended g c =
+    let L = g.L.Library in
+    let D = g.D.Depot in
+    let O = g.O.Sink in
+    let asked = order_of (map string_bytes c.args.words.now) in
+    end.ended_in L.tells D.tells O.tells (L.file c.args.library.now)
+    (calls (L.faults c.args.library.now) (L.faults c.render.new.library) (L.last c.args.library.now) (L.last c.render.new.library))
+    (calls (D.faults c.args.depot.now) (D.faults c.render.new.depot) (D.last c.args.depot.now) (D.last c.render.new.depot))
+    (O.faults c.args.out.now, O.faults c.render.new.out) (D.file c.args.depot.now, D.file c.render.new.depot) (O.written c.args.out.now, O.written c.render.new.out)
+    c.render.result asked c.in_ok-order.order mode.Render c.in_ok-order.ensures.ok (sym (ap (λ (o : Ordered). o.mode) c.order.view_is) ∙ c.in-Render.is) c.render.ensures.ended
 
-pub returns-clause-rose : goal.returns-clause-rose
-returns-clause-rose g c =
-    end.ended_rose _ _ _ _ _ _ _ _ _ _ _ mode.Migrate c.migrate.result (order_of (map string_bytes c.args.words.now)) c.in_ok-order.ensures.ok
-    (sym (ap (λ (o : Ordered). o.mode) c.order.view_is) ∙ c.in-Migrate.is) c.migrate.ensures.ended
+pub returns-in-Check-clause-ended : goal.returns-in-Check-clause-ended
+returns-in-Check-clause-ended g c =
+    let L = g.L.Library in
+    let D = g.D.Depot in
+    let O = g.O.Sink in
+    let asked = order_of (map string_bytes c.args.words.now) in
+    let ended = end.any_depot L.tells D.tells O.tells (Some c.in_ok-order.order) (L.file c.args.library.now)
+    (calls (L.faults c.args.library.now) (L.faults c.check.new.library) (L.last c.args.library.now) (L.last c.check.new.library))
+    (calls (D.faults c.args.depot.now) (D.faults c.args.depot.now) (D.last c.args.depot.now) (D.last c.args.depot.now))
+    (O.faults c.args.out.now, O.faults c.check.new.out) (D.file c.args.depot.now, D.file c.args.depot.now) (O.written c.args.out.now, O.written c.check.new.out)
+    c.check.result (c.check.ensures.ended (D.file c.args.depot.now) (D.faults c.args.depot.now) (D.last c.args.depot.now)) in
+    end.ended_in L.tells D.tells O.tells (L.file c.args.library.now)
+    (calls (L.faults c.args.library.now) (L.faults c.check.new.library) (L.last c.args.library.now) (L.last c.check.new.library))
+    (calls (D.faults c.args.depot.now) (D.faults c.args.depot.now) (D.last c.args.depot.now) (D.last c.args.depot.now))
+    (O.faults c.args.out.now, O.faults c.check.new.out) (D.file c.args.depot.now, D.file c.args.depot.now) (O.written c.args.out.now, O.written c.check.new.out)
+    c.check.result asked c.in_ok-order.order mode.Check c.in_ok-order.ensures.ok (sym (ap (λ (o : Ordered). o.mode) c.order.view_is) ∙ c.in-Check.is) ended
 
-pub returns-clause-cause : goal.returns-clause-cause
-returns-clause-cause g c =
-    end.ended_cause _ _ _ _ _ _ _ _ _ _ _ mode.Migrate c.migrate.result (order_of (map string_bytes c.args.words.now)) c.in_ok-order.ensures.ok
-    (sym (ap (λ (o : Ordered). o.mode) c.order.view_is) ∙ c.in-Migrate.is) c.migrate.ensures.ended
+pub returns-in-Bench-clause-ended : goal.returns-in-Bench-clause-ended
+returns-in-Bench-clause-ended g c =
+    let L = g.L.Library in
+    let D = g.D.Depot in
+    let O = g.O.Sink in
+    let asked = order_of (map string_bytes c.args.words.now) in
+    let ended = end.any_outside L.tells D.tells O.tells (Some c.in_ok-order.order) (L.file c.args.library.now)
+    (calls (L.faults c.args.library.now) (L.faults c.args.library.now) (L.last c.args.library.now) (L.last c.args.library.now))
+    (calls (D.faults c.args.depot.now) (D.faults c.args.depot.now) (D.last c.args.depot.now) (D.last c.args.depot.now))
+    (O.faults c.args.out.now, O.faults c.bench.new.out) (D.file c.args.depot.now, D.file c.args.depot.now) (O.written c.args.out.now, O.written c.bench.new.out)
+    c.bench.result (c.bench.ensures.ended (L.file c.args.library.now) (D.file c.args.depot.now) (L.faults c.args.library.now) (D.faults c.args.depot.now)
+    (L.last c.args.library.now) (D.last c.args.depot.now)) in
+    end.ended_in L.tells D.tells O.tells (L.file c.args.library.now)
+    (calls (L.faults c.args.library.now) (L.faults c.args.library.now) (L.last c.args.library.now) (L.last c.args.library.now))
+    (calls (D.faults c.args.depot.now) (D.faults c.args.depot.now) (D.last c.args.depot.now) (D.last c.args.depot.now))
+    (O.faults c.args.out.now, O.faults c.bench.new.out) (D.file c.args.depot.now, D.file c.args.depot.now) (O.written c.args.out.now, O.written c.bench.new.out)
+    c.bench.result asked c.in_ok-order.order mode.Bench c.in_ok-order.ensures.ok (sym (ap (λ (o : Ordered). o.mode) c.order.view_is) ∙ c.in-Bench.is) ended
 
-pub returns-clause-leaves : goal.returns-clause-leaves
-returns-clause-leaves g c = λ one two.
-    end.ended_leaves _ _ _ _ _ _ _ _ _ _ _ mode.Migrate c.migrate.result (order_of (map string_bytes c.args.words.now)) c.in_ok-order.ensures.ok
-    (sym (ap (λ (o : Ordered). o.mode) c.order.view_is) ∙ c.in-Migrate.is) c.migrate.ensures.ended one two
-
-pub returns-clause-report : goal.returns-clause-report
-returns-clause-report g c = λ one.
-    end.ended_report _ _ _ _ _ _ _ _ _ _ _ mode.Migrate c.migrate.result (order_of (map string_bytes c.args.words.now)) c.in_ok-order.ensures.ok
-    (sym (ap (λ (o : Ordered). o.mode) c.order.view_is) ∙ c.in-Migrate.is) c.migrate.ensures.ended one
-
-pub returns-clause-library : goal.returns-clause-library
-returns-clause-library g c =
-    end.ended_library _ _ _ _ _ _ _ _ _ _ _ mode.Migrate c.migrate.result (order_of (map string_bytes c.args.words.now)) c.in_ok-order.ensures.ok
-    (sym (ap (λ (o : Ordered). o.mode) c.order.view_is) ∙ c.in-Migrate.is) c.migrate.ensures.ended
-
-pub returns-clause-depot : goal.returns-clause-depot
-returns-clause-depot g c =
-    end.ended_depot _ _ _ _ _ _ _ _ _ _ _ mode.Migrate c.migrate.result (order_of (map string_bytes c.args.words.now)) c.in_ok-order.ensures.ok
-    (sym (ap (λ (o : Ordered). o.mode) c.order.view_is) ∙ c.in-Migrate.is) c.migrate.ensures.ended
-
-pub returns-clause-out : goal.returns-clause-out
-returns-clause-out g c =
-    end.ended_out _ _ _ _ _ _ _ _ _ _ _ mode.Migrate c.migrate.result (order_of (map string_bytes c.args.words.now)) c.in_ok-order.ensures.ok
-    (sym (ap (λ (o : Ordered). o.mode) c.order.view_is) ∙ c.in-Migrate.is) c.migrate.ensures.ended
-
-pub returns-clause-usage : goal.returns-clause-usage
-returns-clause-usage g c =
-    end.ended_usage _ _ _ _ _ _ _ _ _ _ _ mode.Migrate c.migrate.result (order_of (map string_bytes c.args.words.now)) c.in_ok-order.ensures.ok
-    (sym (ap (λ (o : Ordered). o.mode) c.order.view_is) ∙ c.in-Migrate.is) c.migrate.ensures.ended
+pub returns-clause-ended : goal.returns-clause-ended
+returns-clause-ended g c =
+    let L = g.L.Library in
+    let D = g.D.Depot in
+    let O = g.O.Sink in
+    let asked = order_of (map string_bytes c.args.words.now) in
+    end.ended_in L.tells D.tells O.tells (L.file c.args.library.now)
+    (calls (L.faults c.args.library.now) (L.faults c.migrate.new.library) (L.last c.args.library.now) (L.last c.migrate.new.library))
+    (calls (D.faults c.args.depot.now) (D.faults c.migrate.new.depot) (D.last c.args.depot.now) (D.last c.migrate.new.depot))
+    (O.faults c.args.out.now, O.faults c.migrate.new.out) (D.file c.args.depot.now, D.file c.migrate.new.depot) (O.written c.args.out.now, O.written c.migrate.new.out)
+    c.migrate.result asked c.in_ok-order.order mode.Migrate c.in_ok-order.ensures.ok (sym (ap (λ (o : Ordered). o.mode) c.order.view_is) ∙ c.in-Migrate.is) c.migrate.ensures.ended
 
 pub returns-clause-migratable : goal.returns-clause-migratable
 returns-clause-migratable g c = λ migrate tells.

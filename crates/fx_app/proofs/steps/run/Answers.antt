@@ -38,12 +38,12 @@ returns-in-Err-clause-completes g c = λ render told known fetched wrote reporte
     let depot = g.D.Depot in
     let sink = g.O.Sink in
     ends_by_memory c.tell.result c.in-Err.fault c.tell.ensures.status
-    (only_memory (order_of (map string_bytes c.args.words.now)) (library.file c.args.library.now)
+    (only_memory (order_of (map string_bytes c.args.words.now)) (library.file c.args.library.now) c.in-Err.ensures.ended.moment
     (library.faults c.args.library.now, library.faults c.outcome.new.library, library.last c.outcome.new.library)
     (depot.faults c.args.depot.now, depot.faults c.outcome.new.depot, depot.last c.outcome.new.depot)
     (sink.faults c.args.out.now, sink.faults c.outcome.new.out)
-    c.in-Err.fault known (mode.cause_at Render library.tells (order_of (map string_bytes c.args.words.now)) (library.file c.args.library.now) c.in-Err.fault render c.in-Err.ensures.cause told)
-    c.in-Err.ensures.rose fetched wrote reported)
+    c.in-Err.fault known (mode.cause_at Render library.tells (order_of (map string_bytes c.args.words.now)) (library.file c.args.library.now) c.in-Err.ensures.ended.moment c.in-Err.fault render c.in-Err.ensures.ended.cause told)
+    c.in-Err.ensures.ended.rose fetched wrote reported)
 
 pub returns-in-Err-clause-check_completes : goal.returns-in-Err-clause-check_completes
 returns-in-Err-clause-check_completes g c = λ check told job fetched reported.
@@ -55,14 +55,14 @@ returns-in-Err-clause-check_completes g c = λ check told job fetched reported.
     (library.faults c.args.library.now, library.faults c.outcome.new.library, library.last c.outcome.new.library)
     (depot.faults c.args.depot.now, depot.faults c.outcome.new.depot, depot.last c.outcome.new.depot)
     (sink.faults c.args.out.now, sink.faults c.outcome.new.out)
-    c.in-Err.fault told job (mode.cause_at Check library.tells (order_of (map string_bytes c.args.words.now)) (library.file c.args.library.now) c.in-Err.fault check c.in-Err.ensures.cause)
-    c.in-Err.ensures.rose fetched reported)
+    c.in-Err.fault told job (mode.cause_at Check library.tells (order_of (map string_bytes c.args.words.now)) (library.file c.args.library.now) c.in-Err.ensures.ended.moment c.in-Err.fault check c.in-Err.ensures.ended.cause)
+    c.in-Err.ensures.ended.rose fetched reported)
 
 pub returns-in-Err-clause-check_statuses : goal.returns-in-Err-clause-check_statuses
 returns-in-Err-clause-check_statuses g c = λ check.
     let library = g.L.Library in
     mode.check_answers library.tells (order_of (map string_bytes c.args.words.now)) (library.file c.args.library.now) c.tell.result c.in-Err.fault c.tell.ensures.status
-    (mode.cause_at Check library.tells (order_of (map string_bytes c.args.words.now)) (library.file c.args.library.now) c.in-Err.fault check c.in-Err.ensures.cause)
+    (mode.cause_at Check library.tells (order_of (map string_bytes c.args.words.now)) (library.file c.args.library.now) c.in-Err.ensures.ended.moment c.in-Err.fault check c.in-Err.ensures.ended.cause)
 
 pub returns-in-Err-clause-check_reads : goal.returns-in-Err-clause-check_reads
 returns-in-Err-clause-check_reads g c = λ check four.
@@ -74,7 +74,7 @@ returns-in-Err-clause-check_reads g c = λ check four.
     (depot.faults c.args.depot.now, depot.faults c.outcome.new.depot, depot.last c.outcome.new.depot)
     (sink.faults c.args.out.now, sink.faults c.outcome.new.out)
     c.tell.result c.in-Err.fault c.tell.ensures.status
-    (mode.cause_at Check library.tells (order_of (map string_bytes c.args.words.now)) (library.file c.args.library.now) c.in-Err.fault check c.in-Err.ensures.cause) c.in-Err.ensures.rose four
+    (mode.cause_at Check library.tells (order_of (map string_bytes c.args.words.now)) (library.file c.args.library.now) c.in-Err.ensures.ended.moment c.in-Err.fault check c.in-Err.ensures.ended.cause) c.in-Err.ensures.ended.rose four
 
 pub returns-in-Err-clause-bench_completes : goal.returns-in-Err-clause-bench_completes
 returns-in-Err-clause-bench_completes g c = λ bench known reported.
@@ -82,29 +82,29 @@ returns-in-Err-clause-bench_completes g c = λ bench known reported.
     let depot = g.D.Depot in
     let sink = g.O.Sink in
     ends_by_memory c.tell.result c.in-Err.fault c.tell.ensures.status
-    (mode.only_bench_memory (order_of (map string_bytes c.args.words.now))
+    (mode.only_bench_memory (order_of (map string_bytes c.args.words.now)) c.in-Err.ensures.ended.moment
     (library.faults c.args.library.now, library.faults c.outcome.new.library, library.last c.outcome.new.library)
     (depot.faults c.args.depot.now, depot.faults c.outcome.new.depot, depot.last c.outcome.new.depot)
     (sink.faults c.args.out.now, sink.faults c.outcome.new.out)
-    c.in-Err.fault known (mode.cause_at Bench library.tells (order_of (map string_bytes c.args.words.now)) (library.file c.args.library.now) c.in-Err.fault bench c.in-Err.ensures.cause)
-    c.in-Err.ensures.rose reported)
+    c.in-Err.fault known (mode.cause_at Bench library.tells (order_of (map string_bytes c.args.words.now)) (library.file c.args.library.now) c.in-Err.ensures.ended.moment c.in-Err.fault bench c.in-Err.ensures.ended.cause)
+    c.in-Err.ensures.ended.rose reported)
 
 pub returns-in-Err-clause-bench_statuses : goal.returns-in-Err-clause-bench_statuses
 returns-in-Err-clause-bench_statuses g c = λ bench.
     let library = g.L.Library in
-    mode.bench_answers (order_of (map string_bytes c.args.words.now)) c.tell.result c.in-Err.fault c.tell.ensures.status
-    (mode.cause_at Bench library.tells (order_of (map string_bytes c.args.words.now)) (library.file c.args.library.now) c.in-Err.fault bench c.in-Err.ensures.cause)
+    mode.bench_answers (order_of (map string_bytes c.args.words.now)) c.in-Err.ensures.ended.moment c.tell.result c.in-Err.fault c.tell.ensures.status
+    (mode.cause_at Bench library.tells (order_of (map string_bytes c.args.words.now)) (library.file c.args.library.now) c.in-Err.ensures.ended.moment c.in-Err.fault bench c.in-Err.ensures.ended.cause)
 
 pub returns-in-Err-clause-refuses_graph : goal.returns-in-Err-clause-refuses_graph
 returns-in-Err-clause-refuses_graph g c = λ other told bad fetched.
     let library = g.L.Library in
     let depot = g.D.Depot in
     let sink = g.O.Sink in
-    mode.refused_answers library.tells (order_of (map string_bytes c.args.words.now)) (library.file c.args.library.now)
+    mode.refused_answers library.tells (order_of (map string_bytes c.args.words.now)) (library.file c.args.library.now) c.in-Err.ensures.ended.moment
     (library.faults c.args.library.now, library.faults c.outcome.new.library, library.last c.outcome.new.library)
     (depot.faults c.args.depot.now, depot.faults c.outcome.new.depot, depot.last c.outcome.new.depot)
     (sink.faults c.args.out.now, sink.faults c.outcome.new.out)
-    c.tell.result c.in-Err.fault c.tell.ensures.status other told bad c.in-Err.ensures.cause c.in-Err.ensures.rose fetched
+    c.tell.result c.in-Err.fault c.tell.ensures.status other told bad c.in-Err.ensures.ended.cause c.in-Err.ensures.ended.rose fetched
 
 pub returns-in-Ok-clause-migratable : goal.returns-in-Ok-clause-migratable
 returns-in-Ok-clause-migratable g c = λ migrates told done. c.in-Ok.ensures.migratable migrates told
@@ -130,14 +130,14 @@ returns-in-Err-clause-migrate_completes g c = λ migrates told known fetched wro
     (library.faults c.args.library.now, library.faults c.outcome.new.library, library.last c.outcome.new.library)
     (depot.faults c.args.depot.now, depot.faults c.outcome.new.depot, depot.last c.outcome.new.depot)
     (sink.faults c.args.out.now, sink.faults c.outcome.new.out)
-    c.in-Err.fault told known (mode.cause_at Migrate library.tells (order_of (map string_bytes c.args.words.now)) (library.file c.args.library.now) c.in-Err.fault migrates c.in-Err.ensures.cause)
-    c.in-Err.ensures.rose fetched wrote reported)
+    c.in-Err.fault told known (mode.cause_at Migrate library.tells (order_of (map string_bytes c.args.words.now)) (library.file c.args.library.now) c.in-Err.ensures.ended.moment c.in-Err.fault migrates c.in-Err.ensures.ended.cause)
+    c.in-Err.ensures.ended.rose fetched wrote reported)
 
 pub returns-in-Err-clause-migrate_statuses : goal.returns-in-Err-clause-migrate_statuses
 returns-in-Err-clause-migrate_statuses g c = λ migrates.
     let library = g.L.Library in
     migrate.migrate_answers library.tells (order_of (map string_bytes c.args.words.now)) (library.file c.args.library.now) c.tell.result c.in-Err.fault c.tell.ensures.status
-    (mode.cause_at Migrate library.tells (order_of (map string_bytes c.args.words.now)) (library.file c.args.library.now) c.in-Err.fault migrates c.in-Err.ensures.cause)
+    (mode.cause_at Migrate library.tells (order_of (map string_bytes c.args.words.now)) (library.file c.args.library.now) c.in-Err.ensures.ended.moment c.in-Err.fault migrates c.in-Err.ensures.ended.cause)
 
 pub returns-in-Err-clause-migrate_reads : goal.returns-in-Err-clause-migrate_reads
 returns-in-Err-clause-migrate_reads g c = λ migrates four.
@@ -148,8 +148,8 @@ returns-in-Err-clause-migrate_reads g c = λ migrates four.
     (library.faults c.args.library.now) (library.faults c.outcome.new.library) (library.last c.outcome.new.library)
     (depot.faults c.args.depot.now, depot.faults c.outcome.new.depot, depot.last c.outcome.new.depot)
     (sink.faults c.args.out.now, sink.faults c.outcome.new.out) c.tell.ensures.status
-    (mode.cause_at Migrate library.tells (order_of (map string_bytes c.args.words.now)) (library.file c.args.library.now) c.in-Err.fault migrates c.in-Err.ensures.cause)
-    c.in-Err.ensures.rose four
+    (mode.cause_at Migrate library.tells (order_of (map string_bytes c.args.words.now)) (library.file c.args.library.now) c.in-Err.ensures.ended.moment c.in-Err.fault migrates c.in-Err.ensures.ended.cause)
+    c.in-Err.ensures.ended.rose four
 
 pub returns-in-Err-clause-refuses_slash : goal.returns-in-Err-clause-refuses_slash
 returns-in-Err-clause-refuses_slash g c = λ migrates told bad fetched.
@@ -160,5 +160,5 @@ returns-in-Err-clause-refuses_slash g c = λ migrates told bad fetched.
     (library.faults c.args.library.now, library.faults c.outcome.new.library, library.last c.outcome.new.library)
     (depot.faults c.args.depot.now, depot.faults c.outcome.new.depot, depot.last c.outcome.new.depot)
     (sink.faults c.args.out.now, sink.faults c.outcome.new.out) c.tell.ensures.status told bad
-    (mode.cause_at Migrate library.tells (order_of (map string_bytes c.args.words.now)) (library.file c.args.library.now) c.in-Err.fault migrates c.in-Err.ensures.cause)
-    c.in-Err.ensures.rose fetched
+    (mode.cause_at Migrate library.tells (order_of (map string_bytes c.args.words.now)) (library.file c.args.library.now) c.in-Err.ensures.ended.moment c.in-Err.fault migrates c.in-Err.ensures.ended.cause)
+    c.in-Err.ensures.ended.rose fetched

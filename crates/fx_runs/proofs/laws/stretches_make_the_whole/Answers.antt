@@ -3,7 +3,7 @@ use Rattle.fx_runs.proofs.laws.stretches_make_the_whole.Goals as goal
 
 pub returns-clause-runs : goal.returns-clause-runs
 returns-clause-runs c asked library old new put =
-    record { wanted = put.known.job.wanted; are = put.known.job.are; images = put.images; shown = put.are; gained = put.gained }
+    record { uses = put.known.job.uses; are = put.known.job.are; images = put.images; shown = put.are; gained = put.gained }
 
 pub returns-clause-files : goal.returns-clause-files
 returns-clause-files c = stretches_make_whole _ (one_run c.args.graph.now.file c.args.graph.now.named) c.value_depends_on_reach.ensures.pictures

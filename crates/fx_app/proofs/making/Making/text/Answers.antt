@@ -2,13 +2,14 @@ use Rattle.std.proofs.Common.{◌≡◌, pos, List, ℕ, ◌++◌, ◌∙◌, ap
 use Rattle.fx_pixel.specs.declared.Format.{Format}
 use Rattle.fx_image.specs.Image.{Image, SameImage}
 use Rattle.fx_image.specs.Stored.{image_of}
-use Rattle.fx_scene.specs.Scenes.{images_in, picture}
 use Rattle.fx_pam.specs.Text.{pam_text}
 use Rattle.fx_pam.proofs.TextLaws.{text-same}
+use Rattle.fx_scene.specs.Scenes.{Shot, images_in, picture}
+use Rattle.fx_shipped.specs.declared.shipped.Shipped.{Shipped}
 use Rattle.fx_shipped.specs.Shipped.{meaning_of}
 use Rattle.fx_app.specs.Graphs.{Graph}
 use Rattle.fx_app.specs.Files.{file_text}
-use Rattle.fx_app.proofs.frames.write_text.Goals as goal
+use Rattle.fx_app.proofs.making.Making.text.Goals as goal
 
 text_as : (bytes : List ℕ) (format other : Format) (image shown : Image) → bytes ≡ pam_text format image → format ≡ other
     → SameImage image shown → bytes ≡ pam_text other shown
@@ -18,10 +19,26 @@ text_as bytes format other image shown text is same =
 pub returns-clause-text : goal.returns-clause-text
 unfolding file_text
 returns-clause-text g c =
-    let h : Graph = c.args.scene.now.graph in
+    let scene = c.args.self.now.scene in
+    let h : Graph = scene.graph in
     let image = image_of c.in_ok-image.image in
     let format = c.graph.result.now.format in
     let text : c.write.new.out.items ≡ pam_text format image =
     c.in_ok-write.ensures.ok ∙ ap (λ bytes. bytes ++ pam_text format image) c.clear.ensures.items in
-    text_as c.write.new.out.items format h.format image (picture meaning_of h (images_in c.args.scene.now.store) (pos c.args.number))
-    text (ap (λ (s : Graph). s.format) c.graph.ensures.shown) c.in_ok-image.ensures.picture
+    let is : format ≡ h.format =
+    ap (λ (s : Graph). s.format) c.graph.ensures.shown ∙ ap (λ (s : Shot Shipped). s.graph.format) c.in_ok-image.ensures.scene in
+    text_as c.write.new.out.items format h.format image (picture meaning_of h (images_in scene.store) (pos c.args.frame))
+    text is c.in_ok-image.ensures.picture
+
+pub returns-clause-drawn : goal.returns-clause-drawn
+returns-clause-drawn g c = λ crew there.
+    let drawn = c.in_ok-image.ensures.drawn crew there in
+    record {
+      count = drawn.count;
+      one = drawn.one;
+      sum = drawn.sum;
+      after = drawn.after;
+      there = drawn.there;
+      is = drawn.is;
+      keeps = drawn.keeps;
+    }

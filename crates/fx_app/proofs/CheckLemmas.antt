@@ -1,0 +1,128 @@
+-- How a check ends.
+use Rattle.std.proofs.Common.{◌≡◌, ℕ, List, length, Ok, Some, refl, ap, ◌∙◌}
+use Rattle.fx_outside.specs.Outside.{Files}
+use Rattle.fx_seq.specs.Filling.{IsQuiet}
+use Rattle.fx_words.specs.Ordered.{Ordered}
+use Rattle.fx_words.specs.Texts.{check_text}
+use Rattle.fx_words.specs.declared.order.Mode.TheVariants as mode
+use Rattle.fx_words.specs.declared.fault.RunFault.TheVariants as run
+use Rattle.fx_app.specs.declared.graph.GraphFailure.{GraphFailure}
+use Rattle.fx_app.specs.declared.graph.GraphFailure.TheVariants as graph
+use Rattle.fx_app.specs.declared.report.ReportFailure.{ReportFailure}
+use Rattle.fx_app.specs.declared.report.ReportFailure.TheVariants as report
+use Rattle.fx_app.specs.Graphs.{Graph, graph_under, first_of, last_of, frame_count}
+use Rattle.fx_app.specs.Files.{AreUsesOf}
+use Rattle.fx_app.specs.Run.{Job}
+use Rattle.fx_app.specs.Check.{check_report}
+use Rattle.fx_app.specs.Ended.{Ended, calls}
+use Rattle.fx_app.specs.Steps.{graph_fault, report_fault, BeginsReport, GraphCause, GraphFetch, ReportRose, WantsAsMany}
+use Rattle.fx_app.proofs.StepsLemmas.{both, no_call, untouched}
+
+-- the job that is checked
+abbrev pub check_job : (library : Files) (order : Ordered) (g : Graph) (a b count : ℕ) → graph_under library order.graph ≡ Some (Ok g)
+    → a ≡ first_of g order → b ≡ last_of g order → WantsAsMany g a b count → Job (Some order) library
+check_job library order g a b count there first last wants =
+    record {
+      order = order;
+      ordered = refl;
+      graph = g;
+      there = there;
+      uses = wants.0;
+      are = both (λ m n. AreUsesOf g m (frame_count m n) wants.0) a b (first_of g order) (last_of g order) first last wants.1;
+    }
+
+-- its report
+pub check_is : (library : Files) (order : Ordered) (g : Graph) (a b nodes frames count : ℕ)
+    → (there : graph_under library order.graph ≡ Some (Ok g)) → (first : a ≡ first_of g order) → (last : b ≡ last_of g order)
+    → (wants : WantsAsMany g a b count) → nodes ≡ length g.nodes → frames ≡ frame_count a b
+    → check_text nodes frames count ≡ check_report (check_job library order g a b count there first last wants)
+check_is library order g a b nodes frames count there first last wants are many =
+    ap (λ n. check_text n frames count) are
+    ∙ ap (λ n. check_text (length g.nodes) n count) (many ∙ ap (λ m. frame_count m b) first ∙ ap (λ m. frame_count (first_of g order) m) last)
+    ∙ ap (λ n. check_text (length g.nodes) (frame_count (first_of g order) (last_of g order)) n) wants.2
+
+module _ {l o : Type 0} (order : Ordered) (library depot : Files) (p : ℕ) (q : List ℕ) where
+  pub graph_ended : (a b : ℕ) (x y : List ℕ) (w : ℕ) (out : List ℕ) (e : GraphFailure) → (l → GraphCause library order.graph e)
+      → GraphFetch order.graph a b x y e
+      → Ended (Some mode.Check) l (Unit {0}) o (Some order) library (calls a b x y) (calls p p q q) (w, w) (depot, depot) (out, out) (graph_fault e)
+  graph_ended a b x y w out (graph.Read other) cause fetch =
+      record {
+        moment = 0;
+        rose = (fetch.0, fetch.1);
+        cause = (order, refl, fetch.2);
+        leaves = λ one two. untouched depot;
+        tells = λ one. refl;
+        fetched = tt;
+        put = no_call p q;
+        wrote = refl;
+        usage = λ is. absurd cc;
+      }
+  graph_ended a b x y w out (graph.Refused code path) cause fetch =
+      record {
+        moment = 0;
+        rose = tt;
+        cause = λ one. record { order = order; ordered = refl; refused = cause one };
+        leaves = λ one two. untouched depot;
+        tells = λ one. refl;
+        fetched = fetch;
+        put = no_call p q;
+        wrote = refl;
+        usage = λ is. absurd cc;
+      }
+  graph_ended a b x y w out graph.Memory cause fetch =
+      record {
+        moment = 0;
+        rose = tt;
+        cause = tt;
+        leaves = λ one two. untouched depot;
+        tells = λ one. refl;
+        fetched = tt;
+        put = no_call p q;
+        wrote = refl;
+        usage = λ is. absurd cc;
+      }
+
+  -- memory was wanting before the report
+  pub memory_ended : (a b : ℕ) (x y : List ℕ) (w : ℕ) (out : List ℕ)
+      → Ended (Some mode.Check) l (Unit {0}) o (Some order) library (calls a b x y) (calls p p q q) (w, w) (depot, depot) (out, out) run.Memory
+  memory_ended a b x y w out =
+      record {
+        moment = 0;
+        rose = tt;
+        cause = tt;
+        leaves = λ one two. untouched depot;
+        tells = λ one. refl;
+        fetched = tt;
+        put = no_call p q;
+        wrote = refl;
+        usage = λ is. absurd cc;
+      }
+
+  pub report_ended : (nodes frames count : ℕ) (a b : ℕ) (x y : List ℕ) (w z : ℕ) (out more : List ℕ) (e : ReportFailure)
+      → (l → (job : Job (Some order) library) × (check_text nodes frames count ≡ check_report job)) → IsQuiet a b x y → ReportRose w z e
+      → (o → BeginsReport (check_text nodes frames count) e out more)
+      → Ended (Some mode.Check) l (Unit {0}) o (Some order) library (calls a b x y) (calls p p q q) (w, z) (depot, depot) (out, more) (report_fault e)
+  report_ended nodes frames count a b x y w z out more report.Report own quiet rose begins =
+      record {
+        moment = 0;
+        rose = rose;
+        cause = λ one. (own one).0;
+        leaves = λ one two. untouched depot;
+        tells = λ one. (nodes, frames, count, begins one, own);
+        fetched = quiet;
+        put = no_call p q;
+        wrote = tt;
+        usage = λ is. absurd cc;
+      }
+  report_ended nodes frames count a b x y w z out more report.Memory own quiet rose begins =
+      record {
+        moment = 0;
+        rose = tt;
+        cause = tt;
+        leaves = λ one two. untouched depot;
+        tells = λ one. begins one;
+        fetched = tt;
+        put = no_call p q;
+        wrote = rose;
+        usage = λ is. absurd cc;
+      }

@@ -1,0 +1,511 @@
+-- From how the moments of a run end to the fault of the run, its cause, and what it leaves.
+use Rattle.std.proofs.Common.{◌≡◌, ◌≢◌, ◌≤◌, ◌<◌, ◌+◌, ℕ, ℤ, List, [], ◌∷◌, ◌++◌, length, Option, Some, None, Result, Ok, Err, IfOk, IfErr, OnOk, inl, inr, refl, sym, ap, subst, ◌∙◌, arith, append_assoc, append-nil}
+use Rattle.std.proofs.lemmas.List.{length-append}
+use Rattle.fx_base.specs.declared.limits.TheConstants.{MOST_SIDE}
+use Rattle.fx_outside.specs.Outside.{Files, HasRisen, SameBut, SameFiles}
+use Rattle.fx_seq.specs.Filling.{ComesTo, IsFirstFetch, IsQuiet, IsTold}
+use Rattle.fx_seq.specs.declared.wanted.Wanted.{Wanted}
+use Rattle.fx_seq.specs.Lists.{AreFramesOf}
+use Rattle.fx_seq.specs.Moments as seq
+use Rattle.fx_seq.specs.Moments.{AreOnce, due_at, due_until, held_bytes}
+use Rattle.fx_seq.specs.declared.fault.SeqFault.{SeqFault}
+use Rattle.fx_seq.specs.declared.fault.SeqFault.TheVariants as fault
+use Rattle.fx_seq.specs.declared.source.SourceFrame.{SourceFrame}
+use Rattle.fx_pipe.specs.Ends.{CamePast, Ended, HasSeen, IsDone, State, StopsAtMemory, StopsAtPut, StopsAtSource}
+use Rattle.fx_pipe.specs.Moments.{AreMade, all_of, with_all}
+use Rattle.fx_pipe.specs.Reads.{AreRead}
+use Rattle.fx_pipe.specs.declared.end.PipeEnd.{PipeEnd}
+use Rattle.fx_pipe.specs.declared.end.PipeEnd.TheVariants as pipe
+use Rattle.fx_pipe.specs.declared.made.Made.{Made}
+use Rattle.fx_pipe.specs.declared.schedule.Schedule.{Schedule}
+use Rattle.fx_pipe.proofs.MomentLemmas.{all-append, made_few}
+use Rattle.fx_pipe.proofs.ReadLemmas.{read_first}
+use Rattle.fx_pipe.proofs.RefusalLemmas.{frames_read, pictures_read, read_accepted, unread_refused}
+use Rattle.fx_scene.specs.Depends as scene
+use Rattle.fx_scene.specs.Holds.{PicturesStay}
+use Rattle.fx_scene.specs.Scenes.{Images, no_images}
+use Rattle.fx_scene.specs.Right.{HasGrown}
+use Rattle.fx_scene.proofs.StoreLemmas.{shown_images}
+use Rattle.fx_seq.specs.Lists.{ArePictures, frames_in}
+use Rattle.fx_seq.proofs.LookLemmas.{frames_sound}
+use Rattle.fx_shipped.specs.Shipped.{meaning_of}
+use Rattle.fx_seq.specs.declared.used.Use.{Use}
+use Rattle.fx_tile.specs.declared.count.TileCount.{TileCount}
+use Rattle.fx_tile.specs.Counts.{no_count}
+use Rattle.fx_words.specs.Ordered.{Ordered}
+use Rattle.fx_words.specs.declared.fault.FrameFault.{FrameFault}
+use Rattle.fx_words.specs.declared.fault.RunFault.{RunFault}
+use Rattle.fx_words.specs.declared.fault.RunFault.TheVariants as run
+use Rattle.fx_app.specs.Ended.{Calls, calls}
+use Rattle.fx_app.specs.Files.{AreAccepted, AreImages, AreUsesOf, HasGained, file_name, wanted_of, with_frames}
+use Rattle.fx_app.specs.Graphs.{Graph, first_of, frame_count, graph_under, last_of}
+use Rattle.fx_app.specs.Moments.{HasRendered, IsMomentFile, Stops, images_of}
+use Rattle.fx_app.specs.Run.{HasPut, IsToldAs, Job}
+use Rattle.fx_app.specs.Steps.{IsSourceFault}
+use Rattle.fx_app.specs.Tiles.{HasCounted}
+use Rattle.fx_app.specs.Turns.{IsEndFault, IsFinished, QuietAtPut}
+use Rattle.fx_app.proofs.CountLemmas.{counted_none}
+use Rattle.fx_app.proofs.GrownLemmas.{Serves, images_grow, made_gains}
+use Rattle.fx_app.proofs.ReadLemmas.{all_due, has_wanted, images_read, uses_are_once}
+
+-- ---- what was made of some first moments
+
+-- the moments of which these files were made, and those behind
+record MadeOf (right : List SourceFrame → ℕ → Made → Type 0) (seen : List SourceFrame) (m : ℕ) (fs : List (List SourceFrame))
+    (ds : List Made) : Type 0 where
+  pub some : List (List SourceFrame)
+  pub rest : List (List SourceFrame)
+  pub split : fs ≡ some ++ rest
+  pub are : AreMade right seen m some ds
+  pub long : length some ≡ length ds
+
+made_front : (right : List SourceFrame → ℕ → Made → Type 0) (seen : List SourceFrame) (m : ℕ) (fs : List (List SourceFrame)) (ds es : List Made)
+    → AreMade right seen m fs (ds ++ es) → MadeOf right seen m fs ds
+made_front right seen m fs [] es made = record { some = []; rest = fs; split = refl; are = tt; long = refl }
+made_front right seen m [] (d ∷ ds) es made = absurd made
+made_front right seen m (f ∷ fs) (d ∷ ds) es made =
+    let r = made_front right (seen ++ f) (m + 1) fs ds es made.1 in
+    record {
+      some = f ∷ r.some;
+      rest = r.rest;
+      split = ap (λ gs. f ∷ gs) r.split;
+      are = (made.0, r.are);
+      long = let long = r.long in omega (arith, long);
+    }
+
+-- and the moment of the next file
+next_made : (right : List SourceFrame → ℕ → Made → Type 0) (seen : List SourceFrame) (m : ℕ) (fs : List (List SourceFrame)) (ds : List Made)
+    (d : Made) (es : List Made) → AreMade right seen m fs (ds ++ d ∷ es)
+    → (now : List SourceFrame) × right now (m + length ds) d × (length ds < length fs)
+next_made right seen m [] [] d es made = absurd made
+next_made right seen m (f ∷ fs) [] d es made =
+    let at : m ≡ m + length {A = Made} [] = omega arith in
+    (seen ++ f, subst (λ (k : ℕ). right (seen ++ f) k d) at made.0, omega arith)
+next_made right seen m [] (c ∷ ds) d es made = absurd made
+next_made right seen m (f ∷ fs) (c ∷ ds) d es made =
+    let r = next_made right (seen ++ f) (m + 1) fs ds d es made.1 in
+    let at : m + 1 + length ds ≡ m + length (c ∷ ds) = omega arith in
+    let low = r.2 in
+    (r.0, subst (λ (k : ℕ). right r.0 k d) at r.1, omega (arith, low))
+
+module _ (reads puts : Type 0) (order : Ordered) (g : Graph) (stay : PicturesStay meaning_of g []) (p : Schedule) (start new : State)
+    (there : reads → graph_under start.read_files order.graph ≡ Some (Ok g))
+    (few : p.moments ≡ frame_count (first_of g order) (last_of g order)) (limit : p.limit ≡ 2147483648) (side : p.most_side ≡ MOST_SIDE)
+    (are : AreUsesOf g (first_of g order) p.moments p.uses.now) (none_seen : start.seen ≡ []) where
+  abbrev a : ℕ
+  a = first_of g order
+
+  abbrev uses : List Use
+  uses = p.uses.now
+
+  once : AreOnce uses
+  once = uses_are_once g a p.moments uses are
+
+  abbrev job : reads → Job (Some order) start.read_files
+  job told =
+      record {
+        order = order;
+        ordered = refl;
+        graph = g;
+        there = there told;
+        uses = uses;
+        are = subst (λ (n : ℕ). AreUsesOf g a n uses) few are;
+      }
+
+  -- at none of the moments that were read a frame is refused
+  accepted : reads → (fs : List (List SourceFrame)) → AreRead reads start.read_files p [] 0 fs → AreAccepted start.read_files uses (length fs)
+  accepted told fs read =
+      subst (λ (s : ℕ). seq.AreAccepted start.read_files s 2147483648 uses (length fs)) side
+      (subst (λ (l : ℕ). seq.AreAccepted start.read_files p.most_side l uses (length fs)) limit
+      (read_accepted reads start.read_files p told once fs read))
+
+  -- what was read of them are the images of their files
+  shown : reads → (fs : List (List SourceFrame)) → AreRead reads start.read_files p [] 0 fs
+      → AreImages start.read_files (due_until uses (length fs)) (images_of (all_of fs))
+  shown told fs read =
+      images_read start.read_files uses once (length fs) (all_of fs) (frames_read reads start.read_files p fs read)
+      (subst (λ (s : ℕ). ArePictures start.read_files s (due_until uses (length fs)) (all_of fs)) side
+      (pictures_read reads start.read_files p told once fs read))
+
+  sound : (frames : List SourceFrame) → scene.AreImages (images_of frames)
+  sound frames = shown_images (frames_in frames) (frames_sound frames)
+
+  -- the files that were made of some first moments, over the frames that these are the first to want
+  gained : (fs : List (List SourceFrame)) (ds : List Made) (mid : Files) → length fs ≤ p.moments → AreRead reads start.read_files p [] 0 fs
+      → AreMade (IsMomentFile g a) start.seen 0 fs ds
+      → HasGained g (images_of (all_of fs)) a (length ds) mid (with_all ds mid)
+  gained fs ds mid low read made =
+      let at : length {A = List SourceFrame} [] + length ds ≡ length ds = omega arith in
+      subst (λ (n : ℕ). HasGained g (images_of (all_of fs)) a n mid (with_all ds mid)) at
+      (made_gains g stay (images_of (all_of fs)) (sound (all_of fs)) a [] fs ds mid mid
+      (subst (λ (xs : List SourceFrame). AreMade (IsMomentFile g a) xs 0 fs ds) none_seen made)
+      serves (λ name. refl))
+    where
+      serves : (ps : List (List SourceFrame)) (f : List SourceFrame) (rest : List (List SourceFrame)) → [] ++ fs ≡ ps ++ f ∷ rest
+          → Serves g stay (images_of (all_of fs)) (sound (all_of fs)) (all_of ps ++ f) (a + length ps)
+      serves ps f rest split =
+          let front : fs ≡ (ps ++ f ∷ []) ++ rest = split ∙ sym (append_assoc ps (f ∷ []) rest) in
+          let all : all_of (ps ++ f ∷ []) ≡ all_of ps ++ f = all-append ps (f ∷ []) ∙ ap (λ xs. all_of ps ++ xs) (append-nil f) in
+          let long : length (ps ++ f ∷ []) ≡ length ps + 1 = length-append ps (f ∷ []) in
+          let total : length fs ≡ length (ps ++ f ∷ []) + length rest = ap length front ∙ length-append (ps ++ f ∷ []) rest in
+          let first : AreRead reads start.read_files p [] 0 (ps ++ f ∷ []) =
+          read_first reads start.read_files p [] 0 (ps ++ f ∷ []) rest
+          (subst (λ (gs : List (List SourceFrame)). AreRead reads start.read_files p [] 0 gs) front read) in
+          let frames : AreFramesOf (due_until uses (length (ps ++ f ∷ []))) (all_of ps ++ f) =
+          subst (λ (xs : List SourceFrame). AreFramesOf (due_until uses (length (ps ++ f ∷ []))) xs) all
+          (frames_read reads start.read_files p (ps ++ f ∷ []) first) in
+          let whole : all_of fs ≡ (all_of ps ++ f) ++ all_of rest =
+          ap all_of front ∙ all-append (ps ++ f ∷ []) rest ∙ ap (λ xs. xs ++ all_of rest) all in
+          record {
+            are = sound (all_of ps ++ f);
+            grown = subst (λ (xs : List SourceFrame). Grown (all_of ps ++ f) xs) (sym whole) (images_grow (all_of ps ++ f) (all_of rest));
+            has = has_wanted g a p.moments uses are (length (ps ++ f ∷ [])) (all_of ps ++ f) frames (length ps)
+                (omega (arith, long, total, low)) (omega (arith, long));
+          }
+        where
+          Grown : List SourceFrame → List SourceFrame → Type 0
+          Grown some all = HasGrown (images_of some) (images_of all)
+
+  -- files that are as the made ones leave them
+  over : (images : Images) (n : ℕ) (mid now end : Files) → HasGained g images a n mid now → SameFiles now end → HasGained g images a n mid end
+  over images n mid now end gained same name = same name ∙ gained name
+
+  -- some first moments were put, over the frames that they are the first to want
+  put : reads → puts → (fs : List (List SourceFrame)) (ds es : List Made) → length fs ≤ p.moments → AreRead reads start.read_files p [] 0 fs
+      → AreMade (IsMomentFile g a) start.seen 0 fs (ds ++ es) → SameFiles (with_all ds start.put_files) new.put_files
+      → HasPut (Some order) start.read_files (length ds) start.put_files new.put_files
+  put told written fs ds es low read made same =
+      let m = made_front (IsMomentFile g a) start.seen 0 fs ds es made in
+      let first : AreRead reads start.read_files p [] 0 m.some =
+      read_first reads start.read_files p [] 0 m.some m.rest (subst (λ (gs : List (List SourceFrame)). AreRead reads start.read_files p [] 0 gs) m.split read) in
+      let total : length fs ≡ length m.some + length m.rest = ap length m.split ∙ length-append m.some m.rest in
+      let long = m.long in
+      record {
+        job = job told;
+        few = omega (arith, few, total, long, low);
+        accepted = subst (λ (n : ℕ). AreAccepted start.read_files uses n) m.long (accepted told m.some first);
+        images = images_of (all_of m.some);
+        are = subst (λ (n : ℕ). AreImages start.read_files (due_until uses n) (images_of (all_of m.some))) m.long (shown told m.some first);
+        gained = over (images_of (all_of m.some)) (length ds) start.put_files (with_all ds start.put_files) new.put_files
+            (gained m.some ds start.put_files (omega (arith, total, low)) first m.are) same;
+      }
+
+  fewer : (n m : ℕ) → m ≤ n → AreAccepted start.read_files uses n → AreAccepted start.read_files uses m
+  fewer n m low all j below = all j (omega (arith, low, below))
+
+  -- ---- every moment
+
+  module _ (is : IsDone reads puts (IsMomentFile g a) p start new) where
+    abbrev all : Images
+    all = images_of (all_of is.handed)
+
+    every : length is.handed ≡ p.moments
+    every = is.all
+
+    made_all : length is.made ≡ p.moments
+    made_all = made_few (IsMomentFile g a) start.seen 0 is.handed is.made is.past.made_right ∙ is.all
+
+    -- what is counted over the frames that were seen is counted over those that were read
+    pub rendered : (count : TileCount) → reads
+        → HasCounted g (images_of new.seen) order.tile order.cache a new.next count
+        → HasRendered puts (Some order) start.read_files start.put_files new.put_files count
+    rendered count told counted =
+        let read = is.past.sees.read in
+        let seen : new.seen ≡ all_of is.handed = is.past.sees.seen ∙ ap (λ xs. xs ++ all_of is.handed) none_seen in
+        let many : p.moments ≡ frame_count a (last_of g order) = few in
+        record {
+          known = record {
+            job = job told;
+            accepted = subst (λ (n : ℕ). AreAccepted start.read_files uses n) (every ∙ many) (accepted told is.handed read);
+          };
+          images = all;
+          are = all_due start.read_files g a p.moments uses are all
+              (subst (λ (n : ℕ). AreImages start.read_files (due_until uses n) all) every (shown told is.handed read));
+          gained = λ written. subst (λ (n : ℕ). HasGained g all a n start.put_files new.put_files) (made_all ∙ many)
+              (over all (length is.made) start.put_files (with_all is.made start.put_files) new.put_files
+              (gained is.handed is.made start.put_files (is.past.sees.few) read is.past.made_right) (is.past.put written));
+          counted = subst (λ (n : ℕ). HasCounted g all order.tile order.cache a n count) (is.past.next ∙ every ∙ many)
+              (subst (λ (xs : List SourceFrame). HasCounted g (images_of xs) order.tile order.cache a new.next count) seen counted);
+        }
+
+  -- ---- where the moments end early
+
+  abbrev fetches : Calls
+  fetches = record { before = start.read_faults; now = new.read_faults; was = start.read_last; last = new.read_last }
+
+  abbrev places : Calls
+  places = record { before = start.put_faults; now = new.put_faults; was = start.put_last; last = new.put_last }
+
+  abbrev Stopped : RunFault → Type 0
+  Stopped e = Stops reads puts (Some order) start.read_files fetches places start.put_files new.put_files e
+
+  at_memory : StopsAtMemory reads puts (IsMomentFile g a) p start new → Stopped run.Memory
+  at_memory is =
+      let low : length is.handed ≤ p.moments =
+      (let all = is.sees.few in let long = length-append is.handed is.more in omega (arith, all, long)) in
+      record {
+        moment = 0;
+        rose = tt;
+        cause = λ told. tt;
+        leaves = λ told written. inr (
+          length is.made,
+          put told written is.handed is.made is.rest low (read_first reads start.read_files p [] 0 is.handed is.more is.sees.read)
+              is.made_right (is.put written),
+        );
+        fetches = tt;
+        places = is.no_put_failed;
+        ordered = λ same. cc;
+        no_report = λ same. cc;
+      }
+
+  at_put : (name : List ℕ) → StopsAtPut reads puts (IsMomentFile g a) p start new name
+      → IsQuiet start.read_faults new.read_faults start.read_last new.read_last → Stopped (run.Write name)
+  at_put name is quiet =
+      let total = length-append is.handed is.more in
+      let all = is.sees.few in
+      let low : length is.handed ≤ p.moments = omega (arith, all, total) in
+      let read = read_first reads start.read_files p [] 0 is.handed is.more is.sees.read in
+      let next = next_made (IsMomentFile g a) start.seen 0 is.handed is.made is.one is.rest is.made_right in
+      let under : length is.made < length is.handed = next.2 in
+      let behind : length is.made < frame_count a (last_of g order) = omega (arith, under, low, few) in
+      let zero_plus : 0 + length is.made ≡ length is.made = omega arith in
+      let file : file_name g (a + length is.made) ≡ name =
+      sym (sym is.name_is ∙ next.1.name ∙ ap (λ k. file_name g (a + k)) zero_plus) in
+      let m = made_front (IsMomentFile g a) start.seen 0 is.handed is.made (is.one ∷ is.rest) is.made_right in
+      let first = read_first reads start.read_files p [] 0 m.some m.rest (subst (λ (gs : List (List SourceFrame)). AreRead reads start.read_files p [] 0 gs) m.split read) in
+      let front : length is.handed ≡ length m.some + length m.rest = ap length m.split ∙ length-append m.some m.rest in
+      let seen = images_of (all_of m.some) in
+      record {
+        moment = length is.made;
+        rose = (is.rose, is.last);
+        cause = λ told. (
+          job told,
+          behind,
+          fewer (length is.handed) (length is.made + 1) (omega (arith, under)) (accepted told is.handed read),
+          file,
+        );
+        leaves = λ told written.
+            record {
+              job = job told;
+              few = behind;
+              accepted = fewer (length is.handed) (length is.made + 1) (omega (arith, under)) (accepted told is.handed read);
+              images = seen;
+              are = subst (λ (n : ℕ). AreImages start.read_files (due_until uses n) seen) m.long (shown told m.some first);
+              file_is = sym file;
+              gained = λ other apart.
+                  is.put written other (λ same. apart (same ∙ sym file))
+                  ∙ gained m.some is.made start.put_files (omega (arith, front, low)) first m.are other;
+            };
+        fetches = quiet;
+        places = tt;
+        ordered = λ same. cc;
+        no_report = λ same. cc;
+      }
+
+  module _ (fault : SeqFault) (is : StopsAtSource reads puts (IsMomentFile g a) p start new fault) where
+    abbrev j : ℕ
+    j = length is.handed
+
+    behind_all : j < frame_count a (last_of g order)
+    behind_all = let one = is.one in omega (arith, one, few)
+
+    here_put : reads → puts → HasPut (Some order) start.read_files j start.put_files new.put_files
+    here_put told written =
+        let many = made_few (IsMomentFile g a) start.seen 0 is.handed is.made is.past.made_right in
+        subst (λ (n : ℕ). HasPut (Some order) start.read_files n start.put_files new.put_files) many
+        (put told written is.handed is.made [] is.past.sees.few is.past.sees.read
+        (subst (λ (ds : List Made). AreMade (IsMomentFile g a) start.seen 0 is.handed ds) (sym (append-nil is.made)) is.past.made_right)
+        (is.past.put written))
+
+    told_as : reads → IsTold (seq.moment_refused start.read_files MOST_SIDE 2147483648 uses j) fault
+        × IsFirstFetch start.read_files MOST_SIDE 2147483648 (held_bytes start.read_files uses j) (due_at uses j) fault
+    told_as told =
+        subst (λ (s : ℕ). Both s 2147483648) side (subst (λ (l : ℕ). Both p.most_side l) limit
+        (unread_refused reads start.read_files p told once is.handed fault is.past.sees.read is.unread))
+      where
+        Both : ℕ → ℕ → Type 0
+        Both s l =
+            IsTold (seq.moment_refused start.read_files s l uses j) fault
+            × IsFirstFetch start.read_files s l (held_bytes start.read_files uses j) (due_at uses j) fault
+
+    no_put : IsQuiet start.put_faults new.put_faults start.put_last new.put_last
+    no_put = is.past.no_put_failed
+
+    -- want of memory for the line of the fault
+    no_line : Stopped run.Memory
+    no_line =
+        record {
+          moment = 0;
+          rose = tt;
+          cause = λ told. tt;
+          leaves = λ told written. inr (j, here_put told written);
+          fetches = tt;
+          places = no_put;
+          ordered = λ same. cc;
+          no_report = λ same. cc;
+        }
+
+    -- a frame is refused
+    refused : (name : List ℕ) (t : ℤ) (why : FrameFault) → IsToldAs g fault name t why
+        → (reads → seq.moment_refused start.read_files MOST_SIDE 2147483648 uses j ≡ Some fault)
+        → IsQuiet start.read_faults new.read_faults start.read_last new.read_last → Stopped (run.Frame name t why)
+    refused name t why line told quiet =
+        record {
+          moment = j;
+          rose = tt;
+          cause = λ one. (
+            job one,
+            behind_all,
+            fault,
+            record { before = accepted one is.handed is.past.sees.read; here = told one },
+            line,
+          );
+          leaves = here_put;
+          fetches = quiet;
+          places = no_put;
+          ordered = λ same. cc;
+          no_report = λ same. cc;
+        }
+
+    -- a fetch failed
+    unread : (w : Wanted) → HasRisen start.read_faults new.read_faults → new.read_last ≡ w.name
+        → (reads → ComesTo start.read_files MOST_SIDE 2147483648 (held_bytes start.read_files uses j) (due_at uses j) w)
+        → Stopped (run.Read w.name)
+    unread w rose last comes =
+        record {
+          moment = j;
+          rose = (rose, last);
+          cause = λ one. inr (
+            job one,
+            behind_all,
+            w,
+            record { before = accepted one is.handed is.past.sees.read; here = comes one },
+            refl,
+          );
+          leaves = λ told written. inr (here_put told written);
+          fetches = tt;
+          places = no_put;
+          ordered = λ same. cc;
+          no_report = λ same. cc;
+        }
+
+  at_source : (fault : SeqFault) (is : StopsAtSource reads puts (IsMomentFile g a) p start new fault) (e : RunFault)
+      → IsSourceFault g fault e → Stopped e
+  at_source (fault.Fetch node t name) is e same =
+      subst Stopped (sym same)
+      (unread (fault.Fetch node t name) is (record { node = node; frame = t; name = name }) is.shows.fetch.0 is.shows.fetch.1
+      (λ told. (told_as (fault.Fetch node t name) is told).1))
+  at_source (fault.Frame node t why) is (run.Frame name u line) line_is =
+      refused (fault.Frame node t why) is name u line line_is (λ told. (told_as (fault.Frame node t why) is told).0) is.shows.quiet
+  at_source (fault.Frame node t why) is run.Memory line_is = no_line (fault.Frame node t why) is
+  at_source (fault.Frame node t why) is run.Usage line_is = absurd line_is
+  at_source (fault.Frame node t why) is (run.Graph code path) line_is = absurd line_is
+  at_source (fault.Frame node t why) is (run.Read name) line_is = absurd line_is
+  at_source (fault.Frame node t why) is (run.Write name) line_is = absurd line_is
+  at_source (fault.Frame node t why) is run.Report line_is = absurd line_is
+  at_source (fault.TooLarge node t sum) is (run.Frame name u line) line_is =
+      refused (fault.TooLarge node t sum) is name u line line_is (λ told. (told_as (fault.TooLarge node t sum) is told).0) is.shows.quiet
+  at_source (fault.TooLarge node t sum) is run.Memory line_is = no_line (fault.TooLarge node t sum) is
+  at_source (fault.TooLarge node t sum) is run.Usage line_is = absurd line_is
+  at_source (fault.TooLarge node t sum) is (run.Graph code path) line_is = absurd line_is
+  at_source (fault.TooLarge node t sum) is (run.Read name) line_is = absurd line_is
+  at_source (fault.TooLarge node t sum) is (run.Write name) line_is = absurd line_is
+  at_source (fault.TooLarge node t sum) is run.Report line_is = absurd line_is
+  at_source fault.Memory is e same = absurd (is.no_memory refl)
+
+  -- want of memory once every file was put
+  after_all : IsDone reads puts (IsMomentFile g a) p start new → Stopped run.Memory
+  after_all is =
+      record {
+        moment = 0;
+        rose = tt;
+        cause = λ told. tt;
+        leaves = λ told written. inr (
+          length is.made,
+          put told written is.handed is.made [] is.past.sees.few is.past.sees.read
+              (subst (λ (ds : List Made). AreMade (IsMomentFile g a) start.seen 0 is.handed ds) (sym (append-nil is.made)) is.past.made_right)
+              (is.past.put written),
+        );
+        fetches = tt;
+        places = is.past.no_put_failed;
+        ordered = λ same. cc;
+        no_report = λ same. cc;
+      }
+
+  pub stopped : (end : PipeEnd) → Ended reads puts (IsMomentFile g a) p start new end
+      → QuietAtPut start.read_faults new.read_faults start.read_last new.read_last end → (e : RunFault) → IsEndFault g end e → Stopped e
+  stopped pipe.Done is quiet e same = subst Stopped (sym same) (after_all is)
+  stopped (pipe.Source fault) is quiet e line_is = at_source fault is e line_is
+  stopped (pipe.Put name) is quiet e same = subst Stopped (sym same) (at_put name is quiet)
+  stopped pipe.Memory is quiet e same = subst Stopped (sym same) (at_memory is)
+
+  -- ---- what the run answers
+
+  pub well : (end : PipeEnd) (sum : TileCount) (result : Result TileCount RunFault) → Ended reads puts (IsMomentFile g a) p start new end
+      → IsFinished g end sum result → reads
+      → (end ≡ pipe.Done → HasCounted g (images_of new.seen) order.tile order.cache a new.next sum)
+      → IfOk result (HasRendered puts (Some order) start.read_files start.put_files new.put_files)
+  well end sum (Ok count) ended finished told counted =
+      subst (HasRendered puts (Some order) start.read_files start.put_files new.put_files) (sym finished.1)
+      (rendered (subst (Ended reads puts (IsMomentFile g a) p start new) finished.0 ended) sum told (counted finished.0))
+  well end sum (Err e) ended finished told counted = tt
+
+  pub ill : (end : PipeEnd) (sum : TileCount) (result : Result TileCount RunFault) → Ended reads puts (IsMomentFile g a) p start new end
+      → QuietAtPut start.read_faults new.read_faults start.read_last new.read_last end → IsFinished g end sum result → IfErr result Stopped
+  ill end sum (Ok count) ended quiet finished = tt
+  ill end sum (Err e) ended quiet finished = stopped end ended quiet e finished
+
+-- where all files were put no call failed
+module _ (reads puts : Type 0) (right : List SourceFrame → ℕ → Made → Type 0) (p : Schedule) (start new : State) (g : Graph) (end : PipeEnd)
+    (sum : TileCount) (ended : Ended reads puts right p start new end) where
+  all_put : end ≡ pipe.Done → IsDone reads puts right p start new
+  all_put is = subst (Ended reads puts right p start new) is ended
+
+  pub fetches_quiet : (result : Result TileCount RunFault) → IsFinished g end sum result
+      → OnOk result (IsQuiet start.read_faults new.read_faults start.read_last new.read_last)
+  fetches_quiet (Ok count) finished = (all_put finished.0).no_fetch_failed
+  fetches_quiet (Err e) finished = tt
+
+  pub puts_quiet : (result : Result TileCount RunFault) → IsFinished g end sum result
+      → OnOk result (IsQuiet start.put_faults new.put_faults start.put_last new.put_last)
+  puts_quiet (Ok count) finished = (all_put finished.0).past.no_put_failed
+  puts_quiet (Err e) finished = tt
+
+-- ---- where nothing was read or put
+
+-- memory was wanting
+pub stops_at_once : (reads puts : Type 0) (asked : Option Ordered) (library files : Files) (a b : ℕ) (x y : List ℕ)
+    → Stops reads puts asked library (calls a a x x) (calls b b y y) files files run.Memory
+stops_at_once reads puts asked library files a b x y =
+    record {
+      moment = 0;
+      rose = tt;
+      cause = λ told. tt;
+      leaves = λ told written. inl (λ name. refl);
+      fetches = tt;
+      places = record { count = refl; last_one = refl };
+      ordered = λ same. cc;
+      no_report = λ same. cc;
+    }
+
+-- there are no moments
+pub renders_none : (puts : Type 0) (order : Ordered) (g : Graph) (library files : Files) (uses : List Use)
+    → graph_under library order.graph ≡ Some (Ok g)
+    → (let a = first_of g order in let n = frame_count a (last_of g order) in
+    AreUsesOf g a n uses → n ≡ 0 → HasRendered puts (Some order) library files files no_count)
+renders_none puts order g library files uses there are none =
+    let a = first_of g order in
+    let n = frame_count a (last_of g order) in
+    let nothing : AreImages library (due_until uses 0) no_images =
+    record { each = λ w at. absurd (omega (arith, at.1)); only = λ m f lists. refl } in
+    record {
+      known = record {
+        job = record { order = order; ordered = refl; graph = g; there = there; uses = uses; are = are };
+        accepted = λ j low. absurd (omega (arith, low, none));
+      };
+      images = no_images;
+      are = all_due library g a n uses are no_images
+          (subst (λ (k : ℕ). AreImages library (due_until uses k) no_images) (sym none) nothing);
+      gained = λ written. subst (λ (k : ℕ). HasGained g no_images a k files files) (sym none) (λ name. refl);
+      counted = counted_none g no_images order.tile order.cache a n none;
+    }

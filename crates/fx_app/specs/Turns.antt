@@ -1,0 +1,43 @@
+-- What stands between two turns of a run, and the fault of a run whose moments end early.
+use Rattle.std.specs.Prelude.{◌≡◌, ℕ, List, [], Result, Ok, Err}
+use Rattle.fx_seq.specs.Filling.{IsQuiet}
+use Rattle.fx_pipe.specs.declared.end.PipeEnd.{PipeEnd}
+use Rattle.fx_pipe.specs.declared.end.PipeEnd.TheVariants.{Done, Source, Put, Memory}
+use Rattle.fx_pipe.specs.declared.line.Line.{Line}
+use Rattle.fx_pipe.specs.declared.schedule.Schedule.{Schedule}
+use Rattle.fx_pipe.specs.Ends.{FlowsIn, State}
+use Rattle.fx_tile.specs.declared.count.TileCount.{TileCount}
+use Rattle.fx_words.specs.declared.fault.RunFault.{RunFault}
+use Rattle.fx_words.specs.declared.fault.RunFault.TheVariants as run
+use Rattle.fx_app.specs.declared.making.Making.{Making}
+use Rattle.fx_app.specs.Graphs.{Graph}
+use Rattle.fx_app.specs.Making.{MayMake, Plan}
+use Rattle.fx_app.specs.Moments.{IsMomentFile}
+use Rattle.fx_app.specs.Steps.{IsSourceFault}
+
+-- the moments of the schedule, which are those of the plan, flow from a first state to one now, in which nothing waits
+-- that was read or made
+pub record IsUnderWay (reads puts : Type 0) (p : Plan) (schedule : Schedule) (start now : State) (line : Line)
+    (m : Making) : Type 0 where
+  pub many : p.count ≡ schedule.moments
+  pub may : MayMake p schedule.uses.now 0 m
+  pub flows : FlowsIn reads puts (IsMomentFile p.graph p.first) schedule start now line
+  pub fetched : line.fetched.items ≡ []
+  pub made : line.made.items ≡ []
+
+-- no fetch failed where a file was not put
+abbrev pub QuietAtPut : ℕ → ℕ → List ℕ → List ℕ → PipeEnd → Type 0
+QuietAtPut before now was last (Put name) = IsQuiet before now was last
+QuietAtPut before now was last other = Unit {0}
+
+-- the fault of a run whose moments end so: once all files were put it is want of memory
+abbrev pub IsEndFault : Graph → PipeEnd → RunFault → Type 0
+IsEndFault g Done e = e ≡ run.Memory
+IsEndFault g (Source fault) e = IsSourceFault g fault e
+IsEndFault g (Put name) e = e ≡ run.Write name
+IsEndFault g Memory e = e ≡ run.Memory
+
+-- the run's count, once all files were put, or its fault
+abbrev pub IsFinished : Graph → PipeEnd → TileCount → Result TileCount RunFault → Type 0
+IsFinished g end sum (Ok count) = (end ≡ Done) × (count ≡ sum)
+IsFinished g end sum (Err e) = IsEndFault g end e

@@ -1,0 +1,242 @@
+//! What is made of a moment: its source frames are held, its picture is rendered, and its file is written in memory.
+ghost use Rattle.std.specs.Prelude.{[]};
+ghost use Rattle.fx_region.specs.Held.{EndsReached, EndsStay};
+ghost use Rattle.fx_scene.specs.Holds.{PicturesStay};
+ghost use Rattle.fx_scene.specs.Scenes.{graph_shown};
+ghost use Rattle.fx_shipped.specs.Shipped.{meaning_of};
+
+use crate::crew::Crew;
+use fx_base::Memory;
+use fx_graph::Graph;
+use fx_image::Image;
+use fx_life::Life;
+use fx_outside::Pace;
+use fx_pam::write;
+use fx_pipe::Made;
+use fx_region::held_laws::ends_stay;
+use fx_scene::Scene;
+use fx_scene::take_laws::{edits_keep, pictures_stay};
+use fx_seq::{SourceFrame, Use};
+use fx_shipped::Shipped;
+use fx_tile::TileCount;
+use std::alloc::Global;
+use std::collections::VecDeque;
+use std::mem;
+use std::rt::Clock;
+use std::sync::Wait;
+use std::thread::Threads;
+
+/// What stands between two moments of a run: the scene with the frames that are held, those who render it, what became
+/// of the window tiles of the moments before, the frame of the first moment, and the number of the next.
+#[derive(Drop)]
+pub(crate) struct Making {
+    pub scene: Scene<Shipped>,
+    /// They are away only while their name is renewed.
+    pub crew: Option<Crew>,
+    pub sum: TileCount,
+    pub first: u32,
+    pub next: u64,
+    /// Bytes of a file that was put, whose memory serves for the next one.
+    pub spare: Vec<u8>,
+}
+
+impl Making {
+    ghost use Rattle.std.specs.Prelude.{◌≡◌, ◌<◌, ◌≤◌, ◌+◌, ◌++◌, ◌⊎◌, true, pos, length, Some, IfOk, OnOk, OnErr};
+    ghost use Rattle.fx_base.specs.declared.limits.TheConstants.{LAST_FRAME};
+    ghost use Rattle.fx_image.specs.Image.{SameImage};
+    ghost use Rattle.fx_image.specs.Stored.{image_of};
+    ghost use Rattle.fx_life.specs.Posts.{HasLife};
+    ghost use Rattle.fx_seq.specs.Held.{HasRead};
+    ghost use Rattle.fx_seq.specs.Lists.{AreFramesOf};
+    ghost use Rattle.fx_seq.specs.Moments.{AreOnce, due_at};
+    ghost use Rattle.fx_pipe.specs.Blocks.{Makes, fetched_in};
+    ghost use Rattle.fx_scene.specs.Right.{HasWanted};
+    ghost use Rattle.fx_scene.specs.Scenes.{images_in, picture};
+    ghost use Rattle.fx_scene.specs.Scripts.{HasGrownTo};
+    ghost use Rattle.fx_shipped.specs.Shipped.{number_of};
+    ghost use Rattle.fx_app.specs.declared.crew.Crew.{Crew as AnyCrew};
+    ghost use Rattle.fx_app.specs.Crews.{IsCrew, IsRenewed, KnewScene};
+    ghost use Rattle.fx_app.specs.Files.{file_text};
+    ghost use Rattle.fx_app.specs.Making.{AreDue, HasDrawn, IsMaking, MayMake, Plan, seen_by};
+    ghost use Rattle.fx_app.specs.Moments.{IsMomentFile};
+
+    /// Makes the files of the moments of a block, one after the other. Where it does not, memory was wanting.
+    pub(crate) fn make_block<R: Threads + Wait + Clock + Sync, P: Pace>(
+        &mut self,
+        rt: &R,
+        alloc: Global,
+        pace: &P,
+        life: &Life<Shipped>,
+        uses: &[Use],
+        fetched: &mut VecDeque<Vec<SourceFrame>>,
+        made: &mut VecDeque<Made>,
+    ) -> bool
+        requires life { HasLife number_of self.old.scene.graph life.now }
+        requires due { AreDue uses.now self.old.next (fetched_in fetched.old.items) }
+        requires may { (p : Plan) × MayMake p uses.now (length (fetched_in fetched.old.items)) self.old }
+        requires empty { made.old.items ≡ [] }
+        ensures graph { self.new.scene.graph ≡ self.old.scene.graph }
+        ensures makes { (p : Plan) → MayMake p uses.now (length (fetched_in fetched.old.items)) self.old
+            → Makes (IsMomentFile p.graph p.first) self.old.next (fetched_in fetched.old.items) made.new.items
+            (seen_by self.old) (seen_by self.new) self.new.next result }
+        ensures may { (p : Plan) → MayMake p uses.now (length (fetched_in fetched.old.items)) self.old
+            → result ≡ true → MayMake p uses.now 0 self.new }
+        ensures emptied { result ≡ true → fetched.new.items ≡ [] }
+    {
+        while let Some(frames) = fetched.pop_front() {
+            match self.made(rt, alloc, pace, life, uses, frames) {
+                Ok(one) => {
+                    if made.push_back(one).is_err() {
+                        return false;
+                    }
+                }
+                Err(_) => return false,
+            }
+        }
+        true
+    }
+
+    /// Makes the file of the next moment, over the frames that it is the first to want, and those that are held.
+    fn made<R: Threads + Wait + Clock + Sync, P: Pace>(
+        &mut self,
+        rt: &R,
+        alloc: Global,
+        pace: &P,
+        life: &Life<Shipped>,
+        uses: &[Use],
+        frames: Vec<SourceFrame>,
+    ) -> Result<Made, Memory>
+        requires life { HasLife number_of self.old.scene.graph life.now }
+        requires due { AreFramesOf (due_at uses.now self.old.next) frames.items }
+        requires may { (p : Plan) × MayMake p uses.now 1 self.old }
+        ensures graph { self.new.scene.graph ≡ self.old.scene.graph }
+        ensures file { (p : Plan) → MayMake p uses.now 1 self.old
+            → IfOk result (IsMomentFile p.graph p.first (seen_by self.new) self.old.next) }
+        ensures making { (p : Plan) → MayMake p uses.now 1 self.old → OnOk result (IsMaking p self.new) }
+        ensures next { OnOk result (self.new.next ≡ self.old.next + 1) }
+        ensures seen { OnOk result (seen_by self.new ≡ seen_by self.old ++ frames.items) }
+        ensures memory { OnErr result
+            ((seen_by self.new ≡ seen_by self.old) ⊎ (seen_by self.new ≡ seen_by self.old ++ frames.items)) }
+    {
+        more_is_same(self.scene.graph());
+        self.advance(uses, frames)?;
+        self.renew(alloc)?;
+        let frame = self.first + self.next as u32;
+        let name = self.scene.graph().file.name(alloc, frame)?;
+        let bytes = self.text(rt, alloc, pace, life, frame)?;
+        self.next += 1;
+        Ok(Made { name, bytes })
+    }
+
+    // Lets the frames go that no moment wants any more, and holds those that the next moment is the first to want.
+    fn advance(&mut self, uses: &[Use], frames: Vec<SourceFrame>) -> Result<(), Memory>
+        requires once { AreOnce uses.now }
+        requires read { HasRead uses.now self.old.next self.old.scene.store }
+        requires due { AreFramesOf (due_at uses.now self.old.next) frames.items }
+        ensures rest { self.new ≡ record self.old { scene = self.new.scene } }
+        ensures graph { self.new.scene.graph ≡ self.old.scene.graph }
+        ensures grown { HasGrownTo self.old.scene self.new.scene }
+        ensures read { OnOk result (HasRead uses.now (self.old.next + 1) self.new.scene.store) }
+        ensures seen { OnOk result (seen_by self.new ≡ seen_by self.old ++ frames.items) }
+        ensures unseen { OnErr result (seen_by self.new ≡ seen_by self.old) }
+    {
+        let Ok(()) = self.scene.advance(uses, self.next, frames) else {
+            return Err(Memory);
+        };
+        Ok(())
+    }
+
+    // Those who render get the name of the scene as it is now.
+    fn renew(&mut self, alloc: Global) -> Result<(), Memory>
+        requires knew { (crew : AnyCrew) × (self.old.crew ≡ Some crew) × KnewScene self.old.scene crew }
+        ensures rest { self.new ≡ record self.old { crew = self.new.crew } }
+        ensures renewed { (crew : AnyCrew) → self.old.crew ≡ Some crew
+            → OnOk result ((new : AnyCrew) × (self.new.crew ≡ Some new) × IsRenewed self.new.scene crew new) }
+    {
+        match mem::replace(&mut self.crew, None) {
+            Some(crew) => match crew.renewed(alloc, &self.scene) {
+                Ok(crew) => {
+                    self.crew = Some(crew);
+                    Ok(())
+                }
+                Err((crew, memory)) => {
+                    self.crew = Some(crew);
+                    Err(memory)
+                }
+            },
+            None => Err(Memory),
+        }
+    }
+
+    // The text of a frame's picture. The picture itself ends with the call.
+    fn text<R: Threads + Wait + Clock + Sync, P: Pace>(
+        &mut self,
+        rt: &R,
+        alloc: Global,
+        pace: &P,
+        life: &Life<Shipped>,
+        frame: u32,
+    ) -> Result<Vec<u8>, Memory>
+        requires life { HasLife number_of self.old.scene.graph life.now }
+        requires crew { (crew : AnyCrew) × (self.old.crew ≡ Some crew) × IsCrew self.old.scene crew }
+        requires frame { frame ≤ LAST_FRAME }
+        requires holds { let g = self.old.scene.graph in
+            HasWanted meaning_of g (images_in self.old.scene.store) g.output (pos frame) }
+        ensures scene { self.new.scene ≡ self.old.scene }
+        ensures place { (self.new.first ≡ self.old.first) × (self.new.next ≡ self.old.next) }
+        ensures text { let scene = self.old.scene in
+            IfOk result (λ text. text.items ≡ file_text scene.graph (images_in scene.store) frame) }
+        ensures drawn { (crew : AnyCrew) → self.old.crew ≡ Some crew
+            → OnOk result (HasDrawn frame crew self.old self.new) }
+    {
+        let image = self.picture(rt, alloc, pace, life, frame)?;
+        let mut text = mem::replace(&mut self.spare, Vec::new(alloc));
+        text.clear();
+        write(alloc, &image, self.scene.graph().format, &mut text)?;
+        Ok(text)
+    }
+
+    // The picture of a frame; what became of its window tiles is counted.
+    fn picture<R: Threads + Wait + Clock + Sync, P: Pace>(
+        &mut self,
+        rt: &R,
+        alloc: Global,
+        pace: &P,
+        life: &Life<Shipped>,
+        frame: u32,
+    ) -> Result<Image, Memory>
+        requires life { HasLife number_of self.old.scene.graph life.now }
+        requires crew { (crew : AnyCrew) × (self.old.crew ≡ Some crew) × IsCrew self.old.scene crew }
+        requires frame { frame ≤ LAST_FRAME }
+        requires holds { let g = self.old.scene.graph in
+            HasWanted meaning_of g (images_in self.old.scene.store) g.output (pos frame) }
+        ensures scene { self.new.scene ≡ self.old.scene }
+        ensures place { (self.new.first ≡ self.old.first) × (self.new.next ≡ self.old.next) }
+        ensures picture { let scene = self.old.scene in
+            let picture = picture meaning_of scene.graph (images_in scene.store) (pos frame) in
+            IfOk result (λ image. SameImage (image_of image) picture) }
+        ensures drawn { (crew : AnyCrew) → self.old.crew ≡ Some crew
+            → OnOk result (HasDrawn frame crew self.old self.new) }
+    {
+        let Some(crew) = &mut self.crew else {
+            return Err(Memory);
+        };
+        let (image, count) = crew.picture(rt, alloc, pace, &self.scene, life, frame)?;
+        match self.sum.plus(count) {
+            Some(sum) => self.sum = sum,
+            None => return Err(Memory),
+        }
+        Ok(image)
+    }
+}
+
+/// More source frames change no picture and no end of which all that it wants was there. It computes nothing.
+pub(crate) fn more_is_same(graph: &Graph<Shipped>)
+    ensures pictures { PicturesStay meaning_of (graph_shown graph.now) [] }
+    ensures ends { EndsStay meaning_of (graph_shown graph.now) }
+    ensures reached { EndsReached meaning_of (graph_shown graph.now) }
+{
+    edits_keep(graph);
+    pictures_stay(graph);
+    ends_stay(graph);
+}
