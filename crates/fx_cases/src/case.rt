@@ -234,7 +234,7 @@ impl<'v> Case<'v> {
     /// What it is to leave.
     pub(crate) fn wanted(self) -> Result<Wanted<'v>, CaseFault> {
         let value = self.own.get("wanted").ok_or(CaseFault::Form("wanted"))?;
-        let keys = ["status", "out", "reports", "err", "files"];
+        let keys = ["status", "out", "reports", "err", "files", "calls"];
         check_members(value, &keys, "wanted")?;
         Ok(Wanted {
             value,
@@ -279,6 +279,19 @@ impl<'v> Wanted<'v> {
             }
         }
         Err(CaseFault::Form("reports"))
+    }
+
+    /// A line for each call that is to come, in their order, where that is said.
+    pub(crate) fn calls(self, alloc: Global) -> Result<Option<String>, CaseFault> {
+        let Some(calls) = self.value.get("calls") else {
+            return Ok(None);
+        };
+        let mut text = String::new(alloc);
+        for call in calls.as_array().ok_or(CaseFault::Form("calls"))? {
+            text.push_str(call.as_str().ok_or(CaseFault::Form("calls"))?)?;
+            text.push('\n')?;
+        }
+        Ok(Some(text))
     }
 
     /// The names of the files that are told of, each with what is said of it.

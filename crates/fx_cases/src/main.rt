@@ -7,6 +7,7 @@ mod bytes;
 mod case;
 mod fault;
 mod graph;
+mod noted;
 mod outcome;
 mod pace;
 mod tell;

@@ -1,6 +1,7 @@
 //! Runs of cases over objects in memory, and what they left beside what is wanted.
 use crate::case::{Case, Wanted};
 use crate::fault::CaseFault;
+use crate::noted::{Calls, NotedDepot, NotedLibrary, calls_of};
 use crate::pace::CasePace;
 use crate::tell::{At, bytes_are, is_kept, report_is, status_is, text_is};
 use fx_app::run;
@@ -10,6 +11,7 @@ use std::alloc::Global;
 use std::io::Print;
 use std::rt::Clock;
 use std::sync::Wait;
+use std::sync::atomic::AtomicU64;
 use std::thread::Threads;
 
 // What a run answered and left.
@@ -19,6 +21,7 @@ struct Outcome {
     out: MemorySink,
     err: MemorySink,
     depot: MemoryDepot,
+    calls: String,
     paced: bool,
 }
 
@@ -29,8 +32,15 @@ fn outcome_of<R: Threads + Wait + Clock + Sync>(
     case: Case<'_>,
     words: &[String],
 ) -> Result<Outcome, CaseFault> {
-    let mut library = case.library(alloc)?;
-    let mut depot = MemoryDepot::new(alloc, case.failing(alloc, "put")?);
+    let turns = AtomicU64::new(0);
+    let mut library = NotedLibrary {
+        library: case.library(alloc)?,
+        calls: Calls::new(alloc, &turns),
+    };
+    let mut depot = NotedDepot {
+        depot: MemoryDepot::new(alloc, case.failing(alloc, "put")?),
+        calls: Calls::new(alloc, &turns),
+    };
     let mut out = MemorySink::new(alloc, case.failing(alloc, "out")?);
     let mut err = MemorySink::new(alloc, case.failing(alloc, "err")?);
     let pace = CasePace::new(case.holds()?);
@@ -44,13 +54,14 @@ fn outcome_of<R: Threads + Wait + Clock + Sync>(
         &mut err,
         &pace,
     );
-    let paced = pace.was_kept();
+    let calls = calls_of(alloc, &library.calls, &depot.calls)?;
     Ok(Outcome {
         status,
         out,
         err,
-        depot,
-        paced,
+        depot: depot.depot,
+        calls,
+        paced: pace.was_kept(),
     })
 }
 
@@ -91,7 +102,11 @@ fn outcome_is<R: Print>(
     let line = wanted.text("err")?.unwrap_or("");
     let err = text_is(rt, alloc, at, "err", line, outcome.err.bytes())?;
     let files = files_are(rt, alloc, at, wanted, &outcome.depot)?;
-    Ok(status & out & err & files & is_kept(rt, at, outcome.paced))
+    let calls = match wanted.calls(alloc)? {
+        Some(calls) => text_is(rt, alloc, at, "calls", &calls, outcome.calls.as_bytes())?,
+        None => true,
+    };
+    Ok(status & out & err & files & calls & is_kept(rt, at, outcome.paced))
 }
 
 /// Runs a case, as its run `number`, with these words behind its own. Whether it left what is wanted; each part that is
