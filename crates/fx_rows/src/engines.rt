@@ -1,8 +1,10 @@
 //! The picture of a frame by whole frames, and by tiles, over the effects of the program.
-ghost use Rattle.std.specs.Prelude.{◌≡◌, ◌≤◌, ◌+◌, None, IfOk, length};
+ghost use Rattle.std.specs.Prelude.{◌≡◌, ◌≤◌, ◌+◌, None, IfOk, length, pos};
 ghost use Rattle.fx_eval.specs.Flights.{IsIdle};
 ghost use Rattle.fx_life.specs.Posts.{HasLife};
-ghost use Rattle.fx_shipped.specs.Shipped.{number_of};
+ghost use Rattle.fx_scene.specs.Right.{HasWanted};
+ghost use Rattle.fx_scene.specs.Scenes.{graph_shown, images_in};
+ghost use Rattle.fx_shipped.specs.Shipped.{meaning_of, number_of};
 ghost use Rattle.fx_turn.specs.Seats.{all_parts};
 
 use fx_base::{Grid, Memory};
@@ -45,13 +47,30 @@ fn scene_of(
     at: u32,
 ) -> Result<(Scene<Shipped>, Permit), Fail>
     requires { at ≤ 999999 }
+    ensures { IfOk result (λ r.
+        HasWanted meaning_of r.0.graph (images_in r.0.store) r.0.graph.output (pos at)) }
 {
     let graph = graph_of(alloc, text).ok().ok_or("the graph is refused")?;
-    let wanted = wants(alloc, &graph, at, at)?;
-    let store = Store::fill(alloc, library, &wanted, 100_000_000, 4096)
-        .ok()
-        .ok_or("a frame is refused")?;
+    let store = store_of(alloc, library, &graph, at)?;
     Ok(Scene::new(graph, store, 7))
+}
+
+// The frames that a graph wants at a frame.
+fn store_of(
+    alloc: Global,
+    library: &mut SureLibrary,
+    graph: &Graph<Shipped>,
+    at: u32,
+) -> Result<Store, Fail>
+    requires { at ≤ 999999 }
+    ensures { let g = graph_shown graph.now in
+        IfOk result (λ store. HasWanted meaning_of g (images_in store) g.output (pos at)) }
+{
+    let wanted = wants(alloc, graph, at, at)?;
+    match Store::fill(alloc, library, &wanted, 100_000_000, 4096) {
+        Ok(store) => Ok(store),
+        Err(_) => Err(Fail::from("a frame is refused")),
+    }
 }
 
 // The life of a scene's graph over the frames that the tests render.

@@ -15,6 +15,8 @@ mod same_pictures;
 #[cfg(test)]
 mod scenes;
 #[cfg(test)]
+mod takes;
+#[cfg(test)]
 mod tile_counts;
 #[cfg(test)]
 mod worked;

@@ -11,8 +11,6 @@ mod directory;
 #[cfg(test)]
 mod gate;
 #[cfg(test)]
-mod grouped;
-#[cfg(test)]
 mod image;
 #[cfg(test)]
 mod kernel;
@@ -33,12 +31,6 @@ mod props;
 #[cfg(test)]
 mod same;
 #[cfg(test)]
-mod seq;
-#[cfg(test)]
 mod single_flight;
 #[cfg(test)]
-mod text;
-#[cfg(test)]
 mod turn;
-#[cfg(test)]
-mod words;

@@ -1,7 +1,9 @@
 //! Renders by workers over effects that note their actions and count their calls.
-ghost use Rattle.std.specs.Prelude.{◌≡◌, ◌≤◌, ◌∷◌, [], IfOk, map};
+ghost use Rattle.std.specs.Prelude.{◌≡◌, ◌≤◌, ◌∷◌, [], IfOk, map, pos};
+ghost use Rattle.fx_scene.specs.Right.{HasWanted};
+ghost use Rattle.fx_scene.specs.Scenes.{graph_shown, images_in};
 ghost use Rattle.fx_tile.specs.Seats.{AreAll};
-ghost use Rattle.fx_units_graphs.specs.TileCounting.{counted_number};
+ghost use Rattle.fx_units_graphs.specs.TileCounting.{counted, counted_number};
 
 mod course;
 mod effect;
@@ -49,8 +51,10 @@ const GRAPH: &str = r#"{
     ]
 }"#;
 
-// The frame, the sides of its picture and of each of its sixteen tiles.
+// The frame and its time, the sides of its picture and of each of its sixteen tiles.
 const FRAME: u32 = 3;
+
+const TIME: i64 = 3;
 
 const SIDE: u8 = 8;
 
@@ -93,13 +97,18 @@ fn file(alloc: Global) -> Result<(Name, Vec<u8>), AllocError> {
     Ok((Name::of(String::from_str(alloc, "s.pam")?), bytes))
 }
 
-fn store(alloc: Global, graph: &Graph<Counted<'_>>) -> Result<Store, Memory> {
+// The frames that the graph wants.
+fn store(alloc: Global, graph: &Graph<Counted<'_>>) -> Result<Store, Memory>
+    ensures { let g = graph_shown graph.now in
+        IfOk result (λ store. HasWanted (λ e. counted e.safety) g (images_in store) g.output (pos 3)) }
+{
     let wanted = wants(alloc, graph, FRAME, FRAME)?;
     let files = vec![in alloc; file(alloc)?]?;
     let mut library = SureLibrary::new(alloc, files);
-    Store::fill(alloc, &mut library, &wanted, 100_000, 8192)
-        .ok()
-        .ok_or(Memory)
+    match Store::fill(alloc, &mut library, &wanted, 100_000, 8192) {
+        Ok(store) => Ok(store),
+        Err(_) => Err(Memory),
+    }
 }
 
 // What each effect notes.
@@ -183,8 +192,7 @@ fn rendered<'a, R: Threads + Wait + Clock + Sync>(
     let (shared, mut first) = Shared::new(alloc, &scene, permit, 9, grid)?;
     let seats = shared.split(alloc, &mut first, workers)?;
     let life = Life::start(alloc, scene.graph(), effects, FRAME, FRAME)?;
-    let frame = i64::from(FRAME);
-    let outcome = render_moment(rt, alloc, &FreePace, &scene, &life, &shared, seats, frame);
+    let outcome = render_moment(rt, alloc, &FreePace, &scene, &life, &shared, seats, TIME);
     life.finish();
     match outcome {
         Ok(rendered) => {

@@ -1,8 +1,10 @@
-use Rattle.std.proofs.Common.{sym, subst, ap}
+use Rattle.std.proofs.Common.{ap, pos, subst, sym}
 use Rattle.std.specs.List.{Contains}
 use Rattle.fx_graph.specs.Shown.{GraphShown}
+use Rattle.fx_scene.specs.Right.{HasWanted}
+use Rattle.fx_scene.specs.Scenes.{Shot, images_in}
 use Rattle.fx_life.proofs.LifeLemmas.{started_life}
-use Rattle.fx_units_graphs.specs.TileCounting.{counted_number}
+use Rattle.fx_units_graphs.specs.TileCounting.{counted, counted_number}
 use Rattle.fx_units_graphs.specs.declared.tile.counting.effect.Counted.{Counted}
 use Rattle.fx_units_graphs.proofs.TileCountingLemmas.{among_three, apart_by}
 use Rattle.fx_units_graphs.proofs.tile.counting.rendered.Goals as goal
@@ -18,3 +20,8 @@ pub render_moment-outcome-requires-clause-life : goal.render_moment-outcome-requ
 render_moment-outcome-requires-clause-life g c κs within =
     started_life (λ (e : Counted). counted_number e.safety) c.graph.result.now.nodes.items 3 3 c.new-scene.result.0.graph c.in_ok-life.life
     (ap (λ (s : GraphShown Counted). s.nodes) c.graph.ensures.shown) c.in_ok-life.ensures.life
+
+pub render_moment-outcome-requires-clause-holds : goal.render_moment-outcome-requires-clause-holds
+render_moment-outcome-requires-clause-holds g c κs within =
+    subst (λ (s : Shot Counted). HasWanted (λ (e : Counted). counted e.safety) s.graph (images_in s.store) s.graph.output (pos 3))
+    (sym c.new-scene.ensures.scene) c.in_ok-store.ensures
