@@ -88,8 +88,8 @@ finished-requires g c =
     count_is h order uses c.first_of-first.result c.last_of-last.result first_is last_is c.frame_count-moments.result c.frame_count-moments.ensures in
     record { making = λ done. (plan, c.put_each-end.ensures.making plan many may done) }
 
-pub returns-clause-done : goal.returns-clause-done
-returns-clause-done g c = λ told there.
+pub returns : goal.returns
+returns g c =
     let l = g.L.Library in
     let d = g.D.Depot in
     let h : Graph = graph_shown c.args.graph in
@@ -110,96 +110,19 @@ returns-clause-done g c = λ told there.
     count_is h order uses c.first_of-first.result c.last_of-last.result first_is last_is c.frame_count-moments.result c.frame_count-moments.ensures in
     let put = c.put_each-end.ensures in
     let new = c.put_each-end.new.making in
+    let end = c.put_each-end.result in
     let shown : new.scene.graph ≡ h = put.graph ∙ begun.graph in
-    let finished : IsFinished h c.put_each-end.result new.sum c.finished.result =
-    subst (λ (s : Graph). IsFinished s c.put_each-end.result new.sum c.finished.result) shown c.finished.ensures in
+    let finished : IsFinished h end new.sum c.finished.result =
+    subst (λ (s : Graph). IsFinished s end new.sum c.finished.result) shown c.finished.ensures in
     let ended = put.ends plan many may in
-    well l.tells d.tells order h c.more_is_same.ensures.pictures _ _ _ (λ _. there) (sym many) refl refl
-    (subst (λ (n : ℕ). AreUsesOf h (first_of h order) n c.deref.result.now) many are) begun.seen
-    c.put_each-end.result new.sum c.finished.result ended finished told (λ done. (put.making plan many may done).counted)
-
-pub returns-clause-stops : goal.returns-clause-stops
-returns-clause-stops g c = λ there.
-    let l = g.L.Library in
-    let d = g.D.Depot in
-    let h : Graph = graph_shown c.args.graph in
-    let order = c.args.order.now in
-    let uses = c.deref.result.now in
-    let first_is = c.first_of-first.ensures.value in
-    let last_is = c.last_of-last.ensures.value in
-    let are : AreUsesOf h (first_of h order) (frame_count (first_of h order) (last_of h order)) uses =
-    subst (λ (us : List Use). AreUsesOf h (first_of h order) (frame_count (first_of h order) (last_of h order)) us) (sym c.deref.ensures.value)
-    (uses_of h order c.in-Ok.uses.items c.first_of-first.result c.last_of-last.result first_is last_is c.in-Ok.ensures.exact c.in-Ok.ensures.names) in
-    let plan = plan_of h order uses in
-    let begun = c.in-Ok-begun.ensures in
-    let making = c.in-Ok-begun.making in
-    let may : MayMake plan uses 0 making =
-    may_begin h order uses c.first_of-first.result c.last_of-last.result first_is last_is making c.first_of-first.ensures.small c.last_of-last.ensures.small
-    are begun.next (begun.making plan refl (sym first_is) refl refl) in
-    let many : frame_count (first_of h order) (last_of h order) ≡ c.frame_count-moments.result =
-    count_is h order uses c.first_of-first.result c.last_of-last.result first_is last_is c.frame_count-moments.result c.frame_count-moments.ensures in
-    let put = c.put_each-end.ensures in
-    let new = c.put_each-end.new.making in
-    let shown : new.scene.graph ≡ h = put.graph ∙ begun.graph in
-    let finished : IsFinished h c.put_each-end.result new.sum c.finished.result =
-    subst (λ (s : Graph). IsFinished s c.put_each-end.result new.sum c.finished.result) shown c.finished.ensures in
-    let ended = put.ends plan many may in
-    ill l.tells d.tells order h c.more_is_same.ensures.pictures _ _ _ there (sym many) refl refl
-    (subst (λ (n : ℕ). AreUsesOf h (first_of h order) n c.deref.result.now) many are) begun.seen
-    c.put_each-end.result new.sum c.finished.result ended put.quiet finished
-
-pub returns-clause-quiet_library : goal.returns-clause-quiet_library
-returns-clause-quiet_library g c =
-    let l = g.L.Library in
-    let d = g.D.Depot in
-    let h : Graph = graph_shown c.args.graph in
-    let order = c.args.order.now in
-    let uses = c.deref.result.now in
-    let first_is = c.first_of-first.ensures.value in
-    let last_is = c.last_of-last.ensures.value in
-    let are : AreUsesOf h (first_of h order) (frame_count (first_of h order) (last_of h order)) uses =
-    subst (λ (us : List Use). AreUsesOf h (first_of h order) (frame_count (first_of h order) (last_of h order)) us) (sym c.deref.ensures.value)
-    (uses_of h order c.in-Ok.uses.items c.first_of-first.result c.last_of-last.result first_is last_is c.in-Ok.ensures.exact c.in-Ok.ensures.names) in
-    let plan = plan_of h order uses in
-    let begun = c.in-Ok-begun.ensures in
-    let making = c.in-Ok-begun.making in
-    let may : MayMake plan uses 0 making =
-    may_begin h order uses c.first_of-first.result c.last_of-last.result first_is last_is making c.first_of-first.ensures.small c.last_of-last.ensures.small
-    are begun.next (begun.making plan refl (sym first_is) refl refl) in
-    let many : frame_count (first_of h order) (last_of h order) ≡ c.frame_count-moments.result =
-    count_is h order uses c.first_of-first.result c.last_of-last.result first_is last_is c.frame_count-moments.result c.frame_count-moments.ensures in
-    let put = c.put_each-end.ensures in
-    let new = c.put_each-end.new.making in
-    let shown : new.scene.graph ≡ h = put.graph ∙ begun.graph in
-    let finished : IsFinished h c.put_each-end.result new.sum c.finished.result =
-    subst (λ (s : Graph). IsFinished s c.put_each-end.result new.sum c.finished.result) shown c.finished.ensures in
-    let ended = put.ends plan many may in
-    fetches_quiet l.tells d.tells _ _ _ _ h c.put_each-end.result new.sum ended c.finished.result finished
-
-pub returns-clause-quiet_depot : goal.returns-clause-quiet_depot
-returns-clause-quiet_depot g c =
-    let l = g.L.Library in
-    let d = g.D.Depot in
-    let h : Graph = graph_shown c.args.graph in
-    let order = c.args.order.now in
-    let uses = c.deref.result.now in
-    let first_is = c.first_of-first.ensures.value in
-    let last_is = c.last_of-last.ensures.value in
-    let are : AreUsesOf h (first_of h order) (frame_count (first_of h order) (last_of h order)) uses =
-    subst (λ (us : List Use). AreUsesOf h (first_of h order) (frame_count (first_of h order) (last_of h order)) us) (sym c.deref.ensures.value)
-    (uses_of h order c.in-Ok.uses.items c.first_of-first.result c.last_of-last.result first_is last_is c.in-Ok.ensures.exact c.in-Ok.ensures.names) in
-    let plan = plan_of h order uses in
-    let begun = c.in-Ok-begun.ensures in
-    let making = c.in-Ok-begun.making in
-    let may : MayMake plan uses 0 making =
-    may_begin h order uses c.first_of-first.result c.last_of-last.result first_is last_is making c.first_of-first.ensures.small c.last_of-last.ensures.small
-    are begun.next (begun.making plan refl (sym first_is) refl refl) in
-    let many : frame_count (first_of h order) (last_of h order) ≡ c.frame_count-moments.result =
-    count_is h order uses c.first_of-first.result c.last_of-last.result first_is last_is c.frame_count-moments.result c.frame_count-moments.ensures in
-    let put = c.put_each-end.ensures in
-    let new = c.put_each-end.new.making in
-    let shown : new.scene.graph ≡ h = put.graph ∙ begun.graph in
-    let finished : IsFinished h c.put_each-end.result new.sum c.finished.result =
-    subst (λ (s : Graph). IsFinished s c.put_each-end.result new.sum c.finished.result) shown c.finished.ensures in
-    let ended = put.ends plan many may in
-    puts_quiet l.tells d.tells _ _ _ _ h c.put_each-end.result new.sum ended c.finished.result finished
+    let are_uses = subst (λ (n : ℕ). AreUsesOf h (first_of h order) n uses) many are in
+    record {
+      done = λ told there.
+          well l.tells d.tells order h c.more_is_same.ensures.pictures _ _ _ (λ _. there) (sym many) refl refl are_uses begun.seen
+          end new.sum c.finished.result ended finished told (λ done. (put.making plan many may done).counted);
+      quiet_library = fetches_quiet l.tells d.tells _ _ _ _ h end new.sum ended c.finished.result finished;
+      quiet_depot = puts_quiet l.tells d.tells _ _ _ _ h end new.sum ended c.finished.result finished;
+      stops = λ there.
+          ill l.tells d.tells order h c.more_is_same.ensures.pictures _ _ _ there (sym many) refl refl are_uses begun.seen
+          end new.sum c.finished.result ended put.quiet finished;
+    }
