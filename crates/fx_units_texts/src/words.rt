@@ -21,6 +21,7 @@ fn ordered(alloc: Global, line: &str) -> Result<String, AllocError> {
                 Mode::Check => "check",
                 Mode::Bench => "bench",
                 Mode::Migrate => "migrate",
+                Mode::Takes => "takes",
             };
             let (graph, first, last) = (order.graph.text(), order.first, order.last);
             let (tile, cache, workers) = (order.tile, order.cache, order.workers);
@@ -44,6 +45,15 @@ const LINES: &[(&str, &str)] = &[
     ("migrate 7 --tile 16", "migrate 7 0 999999 16 4096 4"),
     ("migrate", "usage"),
     ("migrates g.json", "usage"),
+    ("takes g.json", "takes g.json 0 999999 64 4096 4"),
+    (
+        "--workers 2 --cache 0 takes --tile 16 g.json --first 3 --last 7",
+        "takes g.json 3 7 16 0 2",
+    ),
+    ("takes 7", "takes 7 0 999999 64 4096 4"),
+    ("takes", "usage"),
+    ("take g.json", "usage"),
+    ("takes g.json more", "usage"),
     ("paint g.json", "usage"),
     ("render", "usage"),
     ("", "usage"),
@@ -297,6 +307,32 @@ const REPORTS: &[(Report, &[u8])] = &[
         b"frames 4\nbytes 1229076\nsum 18446744073709551615\n",
     ),
     (Report::Migrate { nodes: 1024 }, b"nodes 1024\n"),
+    (
+        Report::Takes {
+            takes: 2,
+            frames: 2,
+            tiles: 2,
+            void_tiles: 0,
+            passed: 0,
+            asked: 2,
+            landed: 2,
+            hits: 0,
+        },
+        b"takes 2\nframes 2\ntiles 2 void 0 passed 0 asked 2\nlanded 2 hits 0\n",
+    ),
+    (
+        Report::Takes {
+            takes: 65,
+            frames: 6500000,
+            tiles: 6500000,
+            void_tiles: 1,
+            passed: 2,
+            asked: 6499997,
+            landed: 100000,
+            hits: 6399997,
+        },
+        b"takes 65\nframes 6500000\ntiles 6500000 void 1 passed 2 asked 6499997\nlanded 100000 hits 6399997\n",
+    ),
 ];
 
 #[test]

@@ -14,7 +14,7 @@ use Rattle.clap.specs.Faults.{fault_of}
 use Rattle.clap.specs.Kinds.{Kinds}
 use Rattle.fx_words.specs.declared.order.TheConstants.{MOST_CACHE, MOST_WORKERS}
 use Rattle.fx_words.specs.declared.order.Mode.{Mode}
-use Rattle.fx_words.specs.declared.order.Mode.TheVariants.{Render, Check, Bench, Migrate}
+use Rattle.fx_words.specs.declared.order.Mode.TheVariants.{Render, Check, Bench, Migrate, Takes}
 use Rattle.fx_words.specs.Ordered.{Ordered}
 use Rattle.fx_words.specs.Command.{ofxr}
 
@@ -23,7 +23,8 @@ mode_of word =
     if bytes_eq word (codes "render") then Some Render else
     if bytes_eq word (codes "check") then Some Check else
     if bytes_eq word (codes "bench") then Some Bench else
-    if bytes_eq word (codes "migrate") then Some Migrate else None
+    if bytes_eq word (codes "migrate") then Some Migrate else
+    if bytes_eq word (codes "takes") then Some Takes else None
 
 -- for bench the graph is a number of 1 to 6 decimal digits
 abbrev pub is_bench_number : Text → Bool

@@ -91,6 +91,10 @@ render_text frames tiles void passed asked landed hits =
     codes "frames " ++ (decimal frames ++
     (codes "\n" ++ (tiles_text tiles void passed asked ++ landed_text landed hits)))
 
+abbrev pub takes_text : ℕ → ℕ → ℕ → ℕ → ℕ → ℕ → ℕ → ℕ → List ℕ
+takes_text takes frames tiles void passed asked landed hits =
+    codes "takes " ++ (decimal takes ++ (codes "\n" ++ render_text frames tiles void passed asked landed hits))
+
 abbrev pub check_text : ℕ → ℕ → ℕ → List ℕ
 check_text nodes frames wanted =
     codes "nodes " ++ (decimal nodes ++ (codes "\nframes " ++ (decimal frames ++ (
@@ -111,3 +115,5 @@ report_text (report.Render frames tiles void passed asked landed hits) =
 report_text (report.Check nodes frames wanted) = check_text nodes frames wanted
 report_text (report.Bench frames size sum) = bench_text frames size sum
 report_text (report.Migrate nodes) = migrate_text nodes
+report_text (report.Takes takes frames tiles void passed asked landed hits) =
+    takes_text takes frames tiles void passed asked landed hits

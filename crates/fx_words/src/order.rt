@@ -19,6 +19,8 @@ pub enum Mode {
     Bench,
     /// It is read and accepted, and written again in format 2.
     Migrate,
+    /// Its frames are rendered and written as it is written, and then after the edits of each take that it lists.
+    Takes,
 }
 
 /// An order: the mode, the graph's name (for bench 1 to 6 decimal digits), and the options or their defaults.

@@ -1,6 +1,6 @@
 //! What a run reports at its end.
 ghost use Rattle.std.specs.Prelude.{◌≡◌, ◌++◌, codes, decimal, string_bytes, IfOk, OnOk, OnErr};
-ghost use Rattle.fx_words.specs.Texts.{tiles_text, landed_text, check_text, bench_text, migrate_text, report_text};
+ghost use Rattle.fx_words.specs.Texts.{tiles_text, landed_text, render_text, takes_text, check_text, bench_text, migrate_text, report_text};
 
 use fx_base::Memory;
 use std::alloc::{AllocError, Global};
@@ -35,6 +35,17 @@ pub enum Report {
     Migrate {
         nodes: u64,
     },
+    /// The takes that were rendered, the graph as written among them, and over them all what a render reports.
+    Takes {
+        takes: u64,
+        frames: u64,
+        tiles: u64,
+        void_tiles: u64,
+        passed: u64,
+        asked: u64,
+        landed: u64,
+        hits: u64,
+    },
 }
 
 // Appends a text, or nothing where memory is wanting.
@@ -64,11 +75,35 @@ fn landed_line(alloc: Global, landed: u64, hits: u64) -> Result<String, AllocErr
     format!(in alloc; "landed {landed} hits {hits}\n")
 }
 
-fn render_lines(alloc: Global, frames: u64, tiles: &str, landed: &str) -> Result<String, AllocError>
+fn frames_lines(alloc: Global, frames: u64, tiles: &str, landed: &str) -> Result<String, AllocError>
     ensures { let lines = codes "frames " ++ (decimal frames ++ (codes "\n" ++ (tiles.now ++ landed.now)))
         in IfOk result (λ text. string_bytes text ≡ lines) }
 {
     format!(in alloc; "frames {frames}\n{tiles}{landed}")
+}
+
+fn render_lines(
+    alloc: Global,
+    frames: u64,
+    tiles: u64,
+    void: u64,
+    passed: u64,
+    asked: u64,
+    landed: u64,
+    hits: u64,
+) -> Result<String, AllocError>
+    ensures { IfOk result (λ text. string_bytes text ≡ render_text frames tiles void passed asked landed hits) }
+{
+    let tiles = tiles_line(alloc, tiles, void, passed, asked)?;
+    let landed = landed_line(alloc, landed, hits)?;
+    frames_lines(alloc, frames, tiles.as_str(), landed.as_str())
+}
+
+fn takes_lines(alloc: Global, takes: u64, render: &str) -> Result<String, AllocError>
+    ensures { let lines = codes "takes " ++ (decimal takes ++ (codes "\n" ++ render.now))
+        in IfOk result (λ text. string_bytes text ≡ lines) }
+{
+    format!(in alloc; "takes {takes}\n{render}")
 }
 
 fn check_lines(alloc: Global, nodes: u64, frames: u64, wanted: u64) -> Result<String, AllocError>
@@ -101,11 +136,9 @@ fn lines_of(alloc: Global, report: Report) -> Result<String, AllocError>
             asked,
             landed,
             hits,
-        } => {
-            let tiles = tiles_line(alloc, tiles, void_tiles, passed, asked)?;
-            let landed = landed_line(alloc, landed, hits)?;
-            render_lines(alloc, frames, tiles.as_str(), landed.as_str())
-        }
+        } => render_lines(
+            alloc, frames, tiles, void_tiles, passed, asked, landed, hits,
+        ),
         Report::Check {
             nodes,
             frames,
@@ -113,6 +146,21 @@ fn lines_of(alloc: Global, report: Report) -> Result<String, AllocError>
         } => check_lines(alloc, nodes, frames, wanted),
         Report::Bench { frames, size, sum } => bench_lines(alloc, frames, size, sum),
         Report::Migrate { nodes } => migrate_line(alloc, nodes),
+        Report::Takes {
+            takes,
+            frames,
+            tiles,
+            void_tiles,
+            passed,
+            asked,
+            landed,
+            hits,
+        } => {
+            let render = render_lines(
+                alloc, frames, tiles, void_tiles, passed, asked, landed, hits,
+            )?;
+            takes_lines(alloc, takes, render.as_str())
+        }
     }
 }
 

@@ -46,6 +46,7 @@ fn mode_of(word: &str) -> Option<Mode>
         "check" => Some(Mode::Check),
         "bench" => Some(Mode::Bench),
         "migrate" => Some(Mode::Migrate),
+        "takes" => Some(Mode::Takes),
         _ => None,
     }
 }
@@ -66,7 +67,7 @@ fn is_graph_for(mode: Mode, word: &str) -> bool
     ensures { result ≡ is_graph_for mode word.now }
 {
     match mode {
-        Mode::Render | Mode::Check | Mode::Migrate => true,
+        Mode::Render | Mode::Check | Mode::Migrate | Mode::Takes => true,
         Mode::Bench => is_bench_number(word),
     }
 }
