@@ -1,5 +1,5 @@
 -- What a bench has put, file by file.
-use Rattle.std.proofs.Common.{◌≡◌, ◌≢◌, ◌≤◌, ◌<◌, ◌≤ℤ◌, ◌+◌, ◌^◌, ℕ, zero, suc, ℤ, pos, Bool, true, false, List, [], ◌++◌, length, sum, map, inl, inr, Ok, Err, Option, Some, None, refl, sym, ap, subst, ◌∙◌, arith}
+use Rattle.std.proofs.Common.{◌≡◌, ◌≢◌, ◌≤◌, ◌<◌, ◌≤ℤ◌, ◌+◌, ◌^◌, ℕ, zero, suc, ℤ, pos, Bool, true, false, List, [], ◌++◌, length, sum, map, inl, inr, Ok, Err, Option, Some, None, refl, sym, ap, ap₂, subst, subst₂, ◌∙◌, arith}
 use mathlib.Core.Path.{fun_ext}
 use Rattle.std.specs.Prelude.{unwrap_or}
 use Rattle.std.specs.List.{flat_map, range_with_len}
@@ -8,6 +8,7 @@ use Rattle.std.proofs.lemmas.Bool.{false≢true}
 use Rattle.std.specs.Int.{int_gap}
 use Rattle.std.proofs.lemmas.Int.{ints}
 use Rattle.std.proofs.lemmas.Slice.Eq.{bytes_eq-Decides}
+use Rattle.fx_base.specs.Pattern.{name_of}
 use Rattle.fx_base.proofs.PatternLaws.{name_of-apart}
 use Rattle.fx_outside.specs.Outside.{Files, HasRisen}
 use Rattle.fx_scene.specs.Scenes.{Images, picture}
@@ -23,14 +24,17 @@ use Rattle.fx_app.specs.declared.graph.GraphFailure.{GraphFailure}
 use Rattle.fx_app.specs.declared.graph.GraphFailure.TheVariants as graph
 use Rattle.fx_app.specs.declared.report.ReportFailure.{ReportFailure}
 use Rattle.fx_app.specs.declared.report.ReportFailure.TheVariants as report
-use Rattle.fx_app.specs.Graphs.{Graph, graph_under, first_of, last_of, frame_count}
-use Rattle.fx_app.specs.Files.{AreImages, HasGained, file_name, file_text, wanted_of, with_frames}
-use Rattle.fx_app.specs.Run.{Cause, IsAccepted, LeavesDepot, LeavesLibrary, Rose, count_in, first_in}
+use Rattle.fx_app.specs.Graphs.{FileShown, Graph, graph_under, first_of, last_of, frame_count}
+use Rattle.fx_app.specs.Reels.{Reel, file_name, file_text, frame_in, graph_in, moments_in, picture_text, plain_reel, takes_for}
+use Rattle.fx_app.specs.Files.{AreImages, HasGained, wanted_of, with_moments}
+use Rattle.fx_app.specs.Run.{Cause, IsAccepted, LeavesDepot, LeavesLibrary, Rose, count_in}
 use Rattle.fx_app.specs.Bench.{BenchCause, LeavesBenchReport, bytes_of, made_of, IsBenchReport}
 use Rattle.fx_app.specs.Ended.{Ended, calls}
 use Rattle.fx_app.specs.Moments.{HasRendered, Stops}
 use Rattle.fx_app.specs.Steps.{graph_fault, report_fault, BeginsReport, GraphCause, GraphFetch, HasFiles, IsMakingFault, ReportRose, bytes_under, AreShort}
-use Rattle.fx_app.proofs.StepsLemmas.{both, count_is, first_is, graph_is, no_call, same_out, untouched}
+use Rattle.fx_app.proofs.StepsLemmas.{both, no_call, same_out, untouched}
+use Rattle.fx_app.proofs.JobLemmas.{reel_here}
+use Rattle.fx_app.proofs.ReelLemmas.{alone, alone_many, alone_name, plain_is}
 use Rattle.fx_app.proofs.LengthLemmas.{short_text}
 
 abbrev no_files : Files
@@ -39,76 +43,89 @@ no_files name = None
 nothing : (most : ℕ) → length {A = ℕ} [] ≤ most
 nothing most = omega arith
 
-module _ (g : Graph) (images : Images) where
-  -- each of n frames from a on has its file
-  found : (a n j : ℕ) (files : Files) → ((m n : ℕ) → m < 2 ^ 64 → n < 2 ^ 64 → file_name g m ≡ file_name g n → m ≡ n)
-      → a + n ≤ 2 ^ 64 → j < n → with_frames g images a n files (file_name g (a + j)) ≡ Some (file_text g images (a + j))
-  found a zero j files apart small low = absurd (omega (arith, low))
-  found a (suc n) j files apart small low =
-      by (bytes_eq (file_name g (a + n)) (file_name g (a + j))) refl (λ below. found a n j files apart (omega (arith, small)) below)
+module _ (r : Reel) (images : Images) where
+  -- each of the first n moments has its file, where no other has its name
+  found : (n j : ℕ) (files : Files) → ((k m : ℕ) → k < n → m < n → file_name r k ≡ file_name r m → k ≡ m) → j < n
+      → with_moments r images n files (file_name r j) ≡ Some (file_text r images j)
+  found zero j files apart low = absurd (omega (arith, low))
+  found (suc n) j files apart low =
+      by (bytes_eq (file_name r n) (file_name r j)) refl
+      (λ below. found n j files (λ k m k_low m_low same. apart k m (omega (arith, k_low)) (omega (arith, m_low)) same) below)
     where
-      by : (b : Bool) → bytes_eq (file_name g (a + n)) (file_name g (a + j)) ≡ b
-          → (j < n → with_frames g images a n files (file_name g (a + j)) ≡ Some (file_text g images (a + j)))
-          → with_frames g images a (suc n) files (file_name g (a + j)) ≡ Some (file_text g images (a + j))
+      by : (b : Bool) → bytes_eq (file_name r n) (file_name r j) ≡ b
+          → (j < n → with_moments r images n files (file_name r j) ≡ Some (file_text r images j))
+          → with_moments r images (suc n) files (file_name r j) ≡ Some (file_text r images j)
       by true e before =
-          let same : a + n ≡ a + j = apart (a + n) (a + j) (omega (arith, small)) (omega (arith, small, low)) ((bytes_eq-Decides (file_name g (a + n)) (file_name g (a + j))).0 e) in
-          rw e (ap (λ k. Some (file_text g images k)) same)
+          let same : n ≡ j = apart n j (omega arith) low ((bytes_eq-Decides (file_name r n) (file_name r j)).0 e) in
+          rw e (ap (λ k. Some (file_text r images k)) same)
       by false e before =
-          rw e (before (below (λ same. false≢true (sym e ∙ (bytes_eq-Decides (file_name g (a + n)) (file_name g (a + j))).1 (ap (file_name g) same)))))
+          rw e (before (below (λ same. false≢true (sym e ∙ (bytes_eq-Decides (file_name r n) (file_name r j)).1 (ap (file_name r) same)))))
         where
-          below : (a + n ≡ a + j → ⊥) → j < n
+          below : (n ≡ j → ⊥) → j < n
           below differ = omega (arith, low, differ)
 
   -- no file is longer than the texts are
-  short : (a n most : ℕ) (other : List ℕ) → ((k : ℕ) → length (file_text g images k) ≤ most)
-      → length (unwrap_or (with_frames g images a n no_files other) []) ≤ most
-  short a zero most other each = nothing most
-  short a (suc n) most other each = by (bytes_eq (file_name g (a + n)) other) refl (short a n most other each)
+  short : (n most : ℕ) (other : List ℕ) → ((k : ℕ) → length (file_text r images k) ≤ most)
+      → length (unwrap_or (with_moments r images n no_files other) []) ≤ most
+  short zero most other each = nothing most
+  short (suc n) most other each = by (bytes_eq (file_name r n) other) refl (short n most other each)
     where
-      by : (b : Bool) → bytes_eq (file_name g (a + n)) other ≡ b → length (unwrap_or (with_frames g images a n no_files other) []) ≤ most
-          → length (unwrap_or (with_frames g images a (suc n) no_files other) []) ≤ most
-      by true e before = rw e (each (a + n))
+      by : (b : Bool) → bytes_eq (file_name r n) other ≡ b → length (unwrap_or (with_moments r images n no_files other) []) ≤ most
+          → length (unwrap_or (with_moments r images (suc n) no_files other) []) ≤ most
+      by true e before = rw e (each n)
       by false e before = rw e before
 
 -- the same bytes, one file behind the other
-behind : (f : List ℕ → List ℕ) (name text : ℕ → List ℕ) (b n : ℕ) → ((j : ℕ) → j < n → f (name (b + j)) ≡ text (b + j))
-    → flat_map f (map name (range_with_len b n)) ≡ flat_map text (range_with_len b n)
-behind f name text b zero each = refl
-behind f name text b (suc n) each =
-    let first : f (name b) ≡ text b = subst (λ k. f (name k) ≡ text k) (omega arith) (each 0 (omega arith)) in
-    let rest = behind f name text (b + 1) n (λ j low. subst (λ k. f (name k) ≡ text k) (omega arith) (each (j + 1) (omega (arith, low)))) in
-    ap (λ bytes. bytes ++ flat_map f (map name (range_with_len (b + 1) n))) first
+behind : (f : List ℕ → List ℕ) (name text : ℕ → List ℕ) (a b n : ℕ) → ((j : ℕ) → j < n → f (name (a + j)) ≡ text (b + j))
+    → flat_map f (map name (range_with_len a n)) ≡ flat_map text (range_with_len b n)
+behind f name text a b zero each = refl
+behind f name text a b (suc n) each =
+    let first : f (name a) ≡ text b =
+    both (λ k m. f (name k) ≡ text m) (a + 0) (b + 0) a b (omega arith) (omega arith) (each 0 (omega arith)) in
+    let rest = behind f name text (a + 1) (b + 1) n (λ j low.
+    both (λ k m. f (name k) ≡ text m) (a + (j + 1)) (b + (j + 1)) (a + 1 + j) (b + 1 + j) (omega arith) (omega arith) (each (j + 1) (omega (arith, low)))) in
+    ap (λ bytes. bytes ++ flat_map f (map name (range_with_len (a + 1) n))) first
     ∙ ap (λ bytes. text b ++ bytes) rest
 
 narrow : (low high : ℤ) → low ≡ pos 0 → high ≤ℤ pos 8192 → int_gap low high ≤ 8192
 narrow low high at most = grind (arith, ints)
 
-short_file : (g : Graph) (images : Images) (t : ℕ) → HasFiles g → length (file_text g images t) ≤ 1073741824
-unfolding file_text
-short_file g images t has =
-    let r = g.project in
-    short_text g.format (picture meaning_of g images (pos t))
-    (narrow r.x1 r.x2 has.extent.left has.extent.wide.1)
-    (narrow r.y1 r.y2 has.extent.bottom has.extent.high.1)
+short_file : (r : Reel) (images : Images) (j : ℕ) → HasFiles r.graph → length (file_text r images j) ≤ 1073741824
+unfolding picture_text
+short_file r images j has =
+    let p = r.graph.project in
+    short_text r.graph.format (picture meaning_of (graph_in r j) images (pos (frame_in r j)))
+    (narrow p.x1 p.x2 has.extent.left has.extent.wide.1)
+    (narrow p.y1 p.y2 has.extent.bottom has.extent.high.1)
 
 -- ---- what the depot holds, which began empty
 
 module _ (g : Graph) (images : Images) (a n : ℕ) (old new : Files) (has : HasFiles g) (empty : (name : List ℕ) → old name ≡ None)
-    (gained : HasGained g images a n old new) where
-  from_none : (name : List ℕ) → new name ≡ with_frames g images a n no_files name
-  from_none name = gained name ∙ ap (λ (f : Files). with_frames g images a n f name) (fun_ext empty)
+    (gained : HasGained (alone g a n) images n old new) where
+  from_none : (name : List ℕ) → new name ≡ with_moments (alone g a n) images n no_files name
+  from_none name = gained name ∙ ap (λ (f : Files). with_moments (alone g a n) images n f name) (fun_ext empty)
 
   -- no file is longer than a picture's text may be
   pub are_short : AreShort new
   are_short name =
-      rw (from_none name) (short g images a n 1073741824 name (λ k. short_file g images k has))
+      rw (from_none name) (short (alone g a n) images n 1073741824 name (λ j. short_file (alone g a n) images j has))
+
+  -- different frames have different files
+  apart : a + n ≤ 2 ^ 32 → (k m : ℕ) → k < n → m < n → file_name (alone g a n) k ≡ file_name (alone g a n) m → k ≡ m
+  apart low k m k_low m_low same =
+      let one : a + k ≡ a + m =
+      name_of-apart g.file (a + k) (a + m) has.one_run (omega (arith, low, k_low)) (omega (arith, low, m_low))
+      (sym (alone_name g a n k k_low) ∙ same ∙ alone_name g a n m m_low) in
+      omega (arith, one)
 
   -- the files of these names have the bytes of the frames' texts
-  pub bytes_put : a + n ≤ 2 ^ 32 → flat_map (bytes_under new) (map (file_name g) (range_with_len a n)) ≡ bytes_of g images a n
+  pub bytes_put : a + n ≤ 2 ^ 32 → flat_map (bytes_under new) (map (name_of g.file) (range_with_len a n)) ≡ bytes_of (alone g a n) images n
   bytes_put low =
-      behind (bytes_under new) (file_name g) (file_text g images) a n
-      (λ j below. ap (λ o. unwrap_or o []) (gained (file_name g (a + j))
-      ∙ found g images a n j old (λ k m small_k small_m same. name_of-apart g.file k m has.one_run small_k small_m same) (omega (arith, low)) below))
+      behind (bytes_under new) (name_of g.file) (file_text (alone g a n) images) a 0 n (λ j below.
+      let at : j ≡ 0 + j = omega arith in
+      let there : bytes_under new (file_name (alone g a n) j) ≡ file_text (alone g a n) images j =
+      ap (λ o. unwrap_or o []) (gained (file_name (alone g a n) j) ∙ found (alone g a n) images n j old (apart low) below) in
+      subst₂ (λ (name : List ℕ) (k : ℕ). bytes_under new name ≡ file_text (alone g a n) images k) (alone_name g a n j below) at there)
 
 -- ---- how it ends
 
@@ -159,15 +176,17 @@ bench_stops order library old new e made s =
 -- what is told of these images
 abbrev told_of : {order : Ordered} {library : Files} → Images → IsAccepted (Some order) library → List ℕ
 told_of images known =
-    let bytes = bytes_of known.job.graph images (first_in known.job) (count_in known.job) in
+    let bytes = bytes_of known.job.reel images (count_in known.job) in
     bench_text (count_in known.job) (length bytes) (sum bytes)
 
-pub bench_is : {tells : Type 0} (order : Ordered) (library old new : Files) (g : Graph) (count : TileCount) (a b frames size total : ℕ)
-    → library ≡ made_of order.graph → graph_under library order.graph ≡ Some (Ok g) → a ≡ first_of g order → b ≡ last_of g order
+pub bench_is : {tells : Type 0} (order : Ordered) (library old new : Files) (file : FileShown) (count : TileCount) (a b frames size total : ℕ)
+    → library ≡ made_of order.graph → graph_under library order.graph ≡ Some (Ok file) → takes_for order.mode file.takes ≡ []
+    → a ≡ first_of file.graph order → b ≡ last_of file.graph order
     → (r : HasRendered tells (Some order) library old new count) → frames ≡ frame_count a b
-    → size ≡ length (bytes_of g r.images a (frame_count a b)) → total ≡ sum (bytes_of g r.images a (frame_count a b))
+    → size ≡ length (bytes_of (plain_reel file.graph a b) r.images (frame_count a b))
+    → total ≡ sum (bytes_of (plain_reel file.graph a b) r.images (frame_count a b))
     → IsBenchReport (Some order) (bench_text frames size total)
-bench_is order library old new g count a b frames size total made there first last r many long adds =
+bench_is order library old new file count a b frames size total made there none first last r many long adds =
     subst (λ (f : Files). (known : IsAccepted (Some order) f) → AreImages f (wanted_of known.job.uses) r.images
     → bench_text frames size total ≡ told_of r.images known → IsBenchReport (Some order) (bench_text frames size total)) (sym made)
     (λ known are told. record { known = known; images = r.images; are = are; told = told }) r.known r.are is
@@ -175,19 +194,18 @@ bench_is order library old new g count a b frames size total made there first la
     is : bench_text frames size total ≡ told_of r.images r.known
     is =
         let job = r.known.job in
-        let m = first_of g order in
-        let n = last_of g order in
-        let graph = graph_is order library g job there in
-        let start = first_is order library g job there in
-        let moments = count_is order library g job there in
-        let bytes : bytes_of g r.images a (frame_count a b) ≡ bytes_of job.graph r.images (first_in job) (count_in job) =
-        both (λ x y. bytes_of g r.images a (frame_count a b) ≡ bytes_of g r.images x (frame_count x y)) a b m n first last refl
-        ∙ ap (λ (k : ℕ). bytes_of g r.images m k) (sym moments) ∙ ap (λ (k : ℕ). bytes_of g r.images k (count_in job)) (sym start)
-        ∙ ap (λ (h : Graph). bytes_of h r.images (first_in job) (count_in job)) (sym graph) in
-        let of : frames ≡ count_in job = many ∙ both (λ x y. frame_count a b ≡ frame_count x y) a b m n first last refl ∙ sym moments in
-        ap (λ k. bench_text k size total) of
+        let m = first_of file.graph order in
+        let n = last_of file.graph order in
+        let here : plain_reel file.graph a b ≡ job.reel =
+        ap₂ (plain_reel file.graph) first last
+        ∙ sym (plain_is order file none job.reel (reel_here order library file job there)) in
+        let moments : frame_count a b ≡ count_in job = sym (alone_many file.graph a (frame_count a b)) ∙ ap (λ (s : Reel). moments_in s) here in
+        let bytes : bytes_of (plain_reel file.graph a b) r.images (frame_count a b) ≡ bytes_of job.reel r.images (count_in job) =
+        ap (λ (k : ℕ). bytes_of (plain_reel file.graph a b) r.images k) moments
+        ∙ ap (λ (s : Reel). bytes_of s r.images (count_in job)) here in
+        ap (λ k. bench_text k size total) (many ∙ moments)
         ∙ ap (λ k. bench_text (count_in job) k total) (long ∙ ap length bytes)
-        ∙ ap (λ k. bench_text (count_in job) (length (bytes_of job.graph r.images (first_in job) (count_in job))) k) (adds ∙ ap sum bytes)
+        ∙ ap (λ k. bench_text (count_in job) (length (bytes_of job.reel r.images (count_in job))) k) (adds ∙ ap sum bytes)
 
 -- nothing was read, put or written
 module _ (a : ℕ) (x : List ℕ) where

@@ -1,84 +1,110 @@
--- The counts of a run: frame by frame, and as its report tells them.
-use Rattle.std.proofs.Common.{◌≡◌, ◌+◌, ℕ, zero, suc, pos, List, [], ◌++◌, All, length, Some, Ok, refl, sym, ap, subst, ◌∙◌, arith}
+-- The counts of a run: moment by moment, and as its report tells them.
+use Rattle.std.proofs.Common.{◌≡◌, ◌+◌, ◌*◌, ℕ, zero, suc, Bool, List, [], ◌++◌, All, length, cond, Some, Ok, refl, sym, ap, subst, ◌∙◌, arith}
+use Rattle.std.specs.Prelude.{count_by, sum_by}
 use Rattle.std.specs.List.{flat_map, range_with_len}
+use Rattle.std.proofs.Math.Nat.{mul_comm}
 use Rattle.std.proofs.lemmas.List.{append-nil, append_assoc}
 use Rattle.std.proofs.lemmas.List.Concat.{flat_map-cons}
+use Rattle.std.proofs.lemmas.List.Sums.{sum_by-append, sum_by-cons}
 use Rattle.fx_outside.specs.Outside.{Files}
 use Rattle.fx_pool.specs.Weights.{plus}
-use Rattle.fx_region.specs.Counts.{count_ends, window_ends}
+use Rattle.fx_region.specs.Counts.{TileCounts, count_ends, is_asked, is_passed, is_void}
 use Rattle.fx_region.specs.Ends.{EndShown}
 use Rattle.fx_region.proofs.CountLaws.{sum_of_kinds}
-use Rattle.fx_scene.specs.Scenes.{Images, graph_nodes}
-use Rattle.fx_shipped.specs.Shipped.{meaning_of}
+use Rattle.fx_scene.specs.Scenes.{Images}
 use Rattle.fx_tile.specs.declared.count.TileCount.{TileCount}
 use Rattle.fx_tile.specs.Counts.{both_counts, no_count}
 use Rattle.fx_tile.specs.declared.share.Shared.{Shared}
 use Rattle.fx_tile.specs.declared.share.TileSeat.{TileSeat}
 use Rattle.fx_tile.specs.Moments.{CountsTiles, IsFree, count_weight}
 use Rattle.fx_tile.specs.Seats.{AreAll}
-use Rattle.fx_tile.proofs.CountLemmas.{counts_both, counts_none}
 use Rattle.fx_words.specs.Ordered.{Ordered}
-use Rattle.fx_words.specs.Texts.{render_text, report_text}
+use Rattle.fx_words.specs.Texts.{report_text}
+use Rattle.fx_words.specs.declared.order.Mode.{Mode}
+use Rattle.fx_words.specs.declared.order.Mode.TheVariants.{Render, Check, Bench, Migrate, Takes}
 use Rattle.fx_app.specs.declared.crew.Crew.{Crew}
 use Rattle.fx_app.specs.Crews.{KeepsCrew}
-use Rattle.fx_app.specs.Graphs.{Graph, graph_under, first_of, last_of, frame_count}
-use Rattle.fx_app.specs.Run.{IsRenderReport, count_in, tile_ends}
+use Rattle.fx_app.specs.Graphs.{FileShown, graph_under, first_of, last_of, frame_count}
+use Rattle.fx_app.specs.Reels.{Reel, takes_for, takes_in}
+use Rattle.fx_app.specs.Run.{IsRenderReport, count_in, lines_for, tile_ends}
 use Rattle.fx_app.specs.Moments.{HasRendered}
-use Rattle.fx_app.specs.Tiles.{HasCounted, ends_in, report_of}
-use Rattle.fx_app.proofs.StepsLemmas.{count_is}
+use Rattle.fx_app.specs.Tiles.{HasCounted, ends_in, moment_ends, moment_renders, nodes_in, report_of}
+use Rattle.fx_app.proofs.JobLemmas.{moments_counted, order_here, reel_here, takes_counted}
 
--- ---- lists of frames
+-- ---- lists of numbers
 
--- n frames and one more behind them
-frames_more : {A : Type 0} (f : ℕ → List A) (a n t : ℕ) → t ≡ a + n
-    → flat_map f (range_with_len a (n + 1)) ≡ flat_map f (range_with_len a n) ++ flat_map f (range_with_len t 1)
-frames_more f a zero t is =
+-- n numbers from a on and one more behind them
+flat_more : {A : Type 0} (f : ℕ → List A) (a n t : ℕ) → t ≡ a + n
+    → flat_map f (range_with_len a (n + 1)) ≡ flat_map f (range_with_len a n) ++ f t
+flat_more f a zero t is =
     let one : zero + 1 ≡ 1 = omega arith in
     let at : a ≡ t = omega (arith, is) in
-    ap (λ m. flat_map f (range_with_len a m)) one ∙ ap (λ m. flat_map f (range_with_len m 1)) at
-frames_more f a (suc n) t is =
+    ap (λ m. flat_map f (range_with_len a m)) one ∙ flat_map-cons f a [] ∙ append-nil (f a) ∙ ap f at
+flat_more f a (suc n) t is =
     let more : suc n + 1 ≡ suc (n + 1) = omega arith in
     ap (λ m. flat_map f (range_with_len a m)) more
     ∙ flat_map-cons f a (range_with_len (a + 1) (n + 1))
-    ∙ ap (λ ys. f a ++ ys) (frames_more f (a + 1) n t (omega (arith, is)))
-    ∙ sym (append_assoc (f a) (flat_map f (range_with_len (a + 1) n)) (flat_map f (range_with_len t 1)))
-    ∙ ap (λ ys. ys ++ flat_map f (range_with_len t 1)) (sym (flat_map-cons f a (range_with_len (a + 1) n)))
+    ∙ ap (λ ys. f a ++ ys) (flat_more f (a + 1) n t (omega (arith, is)))
+    ∙ sym (append_assoc (f a) (flat_map f (range_with_len (a + 1) n)) (f t))
+    ∙ ap (λ ys. ys ++ f t) (sym (flat_map-cons f a (range_with_len (a + 1) n)))
+
+sum_more : (f : ℕ → ℕ) (a n t : ℕ) → t ≡ a + n → sum_by f (range_with_len a (n + 1)) ≡ sum_by f (range_with_len a n) + f t
+sum_more f a zero t is =
+    let one : zero + 1 ≡ 1 = omega arith in
+    let at : a ≡ t = omega (arith, is) in
+    let same : f a ≡ f t = ap f at in
+    let cons = sum_by-cons f a [] in
+    ap (λ m. sum_by f (range_with_len a m)) one ∙ omega (arith, cons, same)
+sum_more f a (suc n) t is =
+    let more : suc n + 1 ≡ suc (n + 1) = omega arith in
+    let all = sum_by-cons f a (range_with_len (a + 1) (n + 1)) in
+    let rest = sum_more f (a + 1) n t (omega (arith, is)) in
+    let first = sum_by-cons f a (range_with_len (a + 1) n) in
+    ap (λ m. sum_by f (range_with_len a m)) more ∙ omega (arith, all, rest, first)
 
 -- ---- what is counted
 
-pub counted_none : (g : Graph) (images : Images) (side cache a n : ℕ) → n ≡ 0 → HasCounted g images side cache a n no_count
-counted_none g images side cache a n none =
-    record {
-      tiles =
-          let nodes = graph_nodes meaning_of g images in
-          subst (λ m. CountsTiles nodes side (ends_in g images side a m) no_count) (sym none) (counts_none nodes side);
-      none_kept = λ nothing. refl;
-    }
-
--- the window tiles of one frame
-pub counted_one : (g : Graph) (images : Images) (side cache t : ℕ) (count : TileCount)
-    → CountsTiles (graph_nodes meaning_of g images) side (window_ends (graph_nodes meaning_of g images) g.output side g.project (pos t)) count
-    → (cache ≡ 0 → count.hits ≡ 0) → HasCounted g images side cache t 1 count
-counted_one g images side cache t count tiles kept =
-    let nodes = graph_nodes meaning_of g images in
-    let f = λ (n : ℕ). window_ends nodes g.output side g.project (pos n) in
-    record {
-      tiles = subst (λ (es : List EndShown). CountsTiles nodes side es count) (sym (flat_map-cons f t [] ∙ append-nil (f t))) tiles;
-      none_kept = kept;
-    }
-
-pub counted_more : (g : Graph) (images : Images) (side cache a n t : ℕ) (sum count more : TileCount) → t ≡ a + n → more ≡ both_counts sum count
-    → HasCounted g images side cache a n sum → HasCounted g images side cache t 1 count → HasCounted g images side cache a (n + 1) more
-counted_more g images side cache a n t sum count more is adds before one =
-    let nodes = graph_nodes meaning_of g images in
-    let f = λ (m : ℕ). window_ends nodes g.output side g.project (pos m) in
-    subst (HasCounted g images side cache a (n + 1)) (sym adds)
+pub counted_none : (r : Reel) (images : Images) (side cache n : ℕ) → n ≡ 0 → HasCounted r images side cache n no_count
+counted_none r images side cache n none =
+    subst (λ m. HasCounted r images side cache m no_count) (sym none)
     (record {
-      tiles =
-          subst (λ (es : List EndShown). CountsTiles nodes side es (both_counts sum count)) (sym (frames_more f a n t is))
-          (counts_both nodes side (ends_in g images side a n) (ends_in g images side t 1) sum count before.tiles one.tiles);
-      none_kept = λ nothing. let first = before.none_kept nothing in let rest = one.none_kept nothing in omega (arith, first, rest);
+      void_tiles = refl;
+      passed = refl;
+      asked = refl;
+      enough = omega arith;
+      no_hits = λ nothing. refl;
+      none_kept = λ nothing. omega arith;
     })
+
+-- the window tiles of one moment more
+pub counted_more : (r : Reel) (images : Images) (side cache n : ℕ) (sum count more : TileCount) → more ≡ both_counts sum count
+    → HasCounted r images side cache n sum → CountsTiles (nodes_in r images n) side (moment_ends r images side n) count
+    → (cache ≡ 0 → count.hits ≡ 0) → HasCounted r images side cache (n + 1) more
+counted_more r images side cache n sum count more adds before one kept =
+    subst (HasCounted r images side cache (n + 1)) (sym adds)
+    (record {
+      void_tiles = of is_void sum.void_tiles count.void_tiles before.void_tiles one.void_tiles;
+      passed = of is_passed sum.passed count.passed before.passed one.passed;
+      asked = of is_asked sum.asked count.asked before.asked one.asked;
+      enough = let first = before.enough in let then = one.enough in omega (arith, first, then);
+      no_hits = λ nothing. let first = before.no_hits nothing in let then = kept nothing in omega (arith, first, then);
+      none_kept = λ nothing.
+          let first = before.none_kept nothing in
+          let then = one.none_kept (kept nothing) in
+          let renders = sum_more (moment_renders r images side) 0 n n (omega arith) in
+          omega (arith, first, then, renders);
+    })
+  where
+    ends : ends_in r images side (n + 1) ≡ ends_in r images side n ++ moment_ends r images side n
+    ends = flat_more (moment_ends r images side) 0 n n (omega arith)
+
+    of : (is : EndShown → Bool) (a b : ℕ) → a ≡ count_by is (ends_in r images side n) → b ≡ count_by is (moment_ends r images side n)
+        → a + b ≡ count_by is (ends_in r images side (n + 1))
+    of is a b first then =
+        let split =
+        ap (count_by is) ends
+        ∙ sum_by-append (λ (e : EndShown). cond (is e) 1 0) (ends_in r images side n) (moment_ends r images side n) in
+        omega (arith, first, then, split)
 
 -- ---- what a crew counts
 
@@ -115,22 +141,47 @@ closed_count crew count landed hits old now none more told =
 
 -- ---- the report
 
-report_as : (frames m n t v p a l h : ℕ) → frames ≡ n → t ≡ m → render_text frames t v p a l h ≡ render_text n m v p a l h
-report_as frames m n t v p a l h many tiles = ap (λ k. render_text k t v p a l h) many ∙ ap (λ k. render_text n k v p a l h) tiles
+-- the lines of a count's report are those of its ends
+report_as : (mode : Mode) (takes takes' frames frames' : ℕ) (e : TileCounts) (c : TileCount) → takes ≡ takes' → frames ≡ frames'
+    → c.void_tiles + c.passed + c.asked ≡ e.tiles → c.void_tiles ≡ e.void_tiles → c.passed ≡ e.passed → c.asked ≡ e.asked
+    → report_text (report_of mode takes frames c) ≡ lines_for mode takes' frames' e c.landed c.hits
+report_as mode takes takes' frames frames' e c same_takes same_frames tiles v p q =
+    by mode ∙ ap (λ k. lines_for mode k frames e c.landed c.hits) same_takes ∙ ap (λ k. lines_for mode takes' k e c.landed c.hits) same_frames
+  where
+    counts : record {
+      tiles = c.void_tiles + c.passed + c.asked;
+      void_tiles = c.void_tiles;
+      passed = c.passed;
+      asked = c.asked;
+    } ≡ e
+    counts i = record { tiles = tiles i; void_tiles = v i; passed = p i; asked = q i }
 
-pub render_is : {tells : Type 0} (order : Ordered) (library old new : Files) (g : Graph) (frames : ℕ) (count : TileCount)
-    → graph_under library order.graph ≡ Some (Ok g) → frames ≡ frame_count (first_of g order) (last_of g order)
-    → HasRendered tells (Some order) library old new count → IsRenderReport (Some order) library (report_text (report_of frames count))
-render_is order library old new g frames count there many r =
+    by : (m : Mode) → report_text (report_of m takes frames c) ≡ lines_for m takes frames e c.landed c.hits
+    by Render = ap (λ k. lines_for Render takes frames k c.landed c.hits) counts
+    by Check = ap (λ k. lines_for Check takes frames k c.landed c.hits) counts
+    by Bench = ap (λ k. lines_for Bench takes frames k c.landed c.hits) counts
+    by Migrate = ap (λ k. lines_for Migrate takes frames k c.landed c.hits) counts
+    by Takes = ap (λ k. lines_for Takes takes frames k c.landed c.hits) counts
+
+pub render_is : {tells : Type 0} (order : Ordered) (library old new : Files) (file : FileShown) (takes frames : ℕ) (count : TileCount)
+    → graph_under library order.graph ≡ Some (Ok file) → takes ≡ length (takes_for order.mode file.takes) + 1
+    → frames ≡ takes * frame_count (first_of file.graph order) (last_of file.graph order)
+    → HasRendered tells (Some order) library old new count
+    → IsRenderReport (Some order) library (report_text (report_of order.mode takes frames count))
+render_is order library old new file takes frames count there takes_are frames_are r =
     let job = r.known.job in
     let n = count_in job in
     let ends = tile_ends job r.images in
-    let of : frames ≡ n = many ∙ sym (count_is order library g job there) in
-    let tiles = r.counted.tiles in
-    let kinds = sum_of_kinds ends in
-    let v = tiles.void_tiles in let p = tiles.passed in let q = tiles.asked in
-    let enough = tiles.enough in
     let e = count_ends ends in
+    let same : job.order ≡ order = order_here order library file job there in
+    let here = reel_here order library file job there in
+    let frames_each = frame_count (first_of file.graph order) (last_of file.graph order) in
+    let long : takes ≡ takes_in job.reel = takes_are ∙ sym (takes_counted order file job.reel here) in
+    let many : frames ≡ n =
+    frames_are ∙ mul_comm takes frames_each ∙ ap (λ k. frames_each * k) takes_are ∙ sym (moments_counted order file job.reel here) in
+    let kinds = sum_of_kinds ends in
+    let v = r.counted.void_tiles in let p = r.counted.passed in let q = r.counted.asked in
+    let enough = r.counted.enough in
     record {
       known = r.known;
       images = r.images;
@@ -138,15 +189,12 @@ render_is order library old new g frames count there many r =
       landed = count.landed;
       hits = count.hits;
       told =
-          report_as frames e.tiles n (count.void_tiles + count.passed + count.asked) count.void_tiles count.passed count.asked count.landed count.hits
-          of (omega (arith, kinds, v, p, q))
-          ∙ ap (λ k. render_text n e.tiles k count.passed count.asked count.landed count.hits) v
-          ∙ ap (λ k. render_text n e.tiles e.void_tiles k count.asked count.landed count.hits) p
-          ∙ ap (λ k. render_text n e.tiles e.void_tiles e.passed k count.landed count.hits) q;
+          ap (λ (m : Mode). report_text (report_of m takes frames count)) (ap (λ (o : Ordered). o.mode) (sym same))
+          ∙ report_as job.order.mode takes (takes_in job.reel) frames n e count long many (omega (arith, kinds, v, p, q)) v p q;
       enough = omega (arith, enough, q);
       none_kept = λ nothing.
-          let none = r.counted.none_kept nothing in
-          let all = tiles.none_kept none in
+          let none = r.counted.no_hits nothing in
+          let all = r.counted.none_kept nothing in
           (none, omega (arith, all, q));
     }
 

@@ -1,10 +1,10 @@
 -- How a run ends early, by its mode, and where its words are no order.
-use Rattle.std.proofs.Common.{◌≡◌, ◌⊎◌, inl, inr, ℕ, List, Option, Some, None, Result, IfErr, refl, sym, subst}
+use Rattle.std.proofs.Common.{◌≡◌, ◌⊎◌, inl, inr, ℕ, List, Option, Some, None, Result, IfErr, refl, sym, subst, ◌∙◌}
 use Rattle.std.proofs.lemmas.Result.{IfErr-weaker}
 use Rattle.fx_outside.specs.Outside.{Files}
 use Rattle.fx_words.specs.Ordered.{Ordered}
 use Rattle.fx_words.specs.declared.order.Mode.{Mode}
-use Rattle.fx_words.specs.declared.order.Mode.TheVariants.{Render, Check, Bench, Migrate}
+use Rattle.fx_words.specs.declared.order.Mode.TheVariants.{Render, Check, Bench, Migrate, Takes}
 use Rattle.fx_words.specs.declared.fault.RunFault.{RunFault}
 use Rattle.fx_words.specs.declared.fault.RunFault.TheVariants as run
 use Rattle.fx_app.specs.Words.{mode_in}
@@ -27,6 +27,33 @@ module _ (l d o : Type 0) (library : Files) (fetches puts : Calls) (writes : ℕ
       → order.mode ≡ mode → IfErr result (λ e. How (Some mode) (Some order) e) → IfErr result (λ e. How (mode_in asked) asked e)
   ended_in result asked order mode is at ended =
       IfErr-weaker result (How (Some mode) (Some order)) (How (mode_in asked) asked) (λ e h. in_mode (λ m a. How m a e) asked order mode is at h) ended
+
+  -- a render of takes ends as one of the graph as it is written
+  as_takes : {A : Type 0} (result : Result A RunFault) (asked : Option Ordered) → IfErr result (λ e. How (Some Render) asked e)
+      → IfErr result (λ e. How (Some Takes) asked e)
+  as_takes result asked ended =
+      IfErr-weaker result (How (Some Render) asked) (How (Some Takes) asked)
+      (λ e h.
+      record {
+        moment = h.moment;
+        rose = h.rose;
+        cause = h.cause;
+        leaves = h.leaves;
+        tells = h.tells;
+        fetched = h.fetched;
+        put = h.put;
+        wrote = h.wrote;
+        usage = h.usage;
+      })
+      ended
+
+  -- so an order of either ends as a render
+  pub files_ended : {A : Type 0} (result : Result A RunFault) (asked : Option Ordered) (order : Ordered) (mode : Mode) → asked ≡ Some order
+      → order.mode ≡ mode → (mode ≡ Render) ⊎ (mode ≡ Takes) → IfErr result (λ e. How (Some Render) (Some order) e)
+      → IfErr result (λ e. How (mode_in asked) asked e)
+  files_ended result asked order mode is at (inl render) ended = ended_in result asked order Render is (at ∙ render) ended
+  files_ended result asked order mode is at (inr takes) ended =
+      ended_in result asked order Takes is (at ∙ takes) (as_takes result (Some order) ended)
 
 -- a check puts nothing, whatever the depot tells
 module _ (l d o : Type 0) (asked : Option Ordered) (library : Files) (fetches puts : Calls) (writes : ℕ × ℕ) (files : Files × Files)
@@ -83,6 +110,7 @@ memory_cause (Some Render) tells asked library = λ told. tt
 memory_cause (Some Check) tells asked library = tt
 memory_cause (Some Bench) tells asked library = tt
 memory_cause (Some Migrate) tells asked library = tt
+memory_cause (Some Takes) tells asked library = λ told. tt
 
 memory_leaves : (m : Option Mode) (asked : Option Ordered) (library old : Files) → LeavesIn m asked library 0 run.Memory old old
 memory_leaves None asked library old = inl (untouched old)
@@ -90,6 +118,7 @@ memory_leaves (Some Render) asked library old = inl (untouched old)
 memory_leaves (Some Check) asked library old = untouched old
 memory_leaves (Some Bench) asked library old = untouched old
 memory_leaves (Some Migrate) asked library old = inl (untouched old)
+memory_leaves (Some Takes) asked library old = inl (untouched old)
 
 memory_report : (m : Option Mode) (tells : Type 0) (asked : Option Ordered) (library : Files) (old : List ℕ)
     → LeavesReportIn m tells asked library run.Memory old old
@@ -98,6 +127,7 @@ memory_report (Some Render) tells asked library old = (refl, λ told. tt)
 memory_report (Some Check) tells asked library old = refl
 memory_report (Some Bench) tells asked library old = refl
 memory_report (Some Migrate) tells asked library old = refl
+memory_report (Some Takes) tells asked library old = (refl, λ told. tt)
 
 -- nothing was read, put or written
 pub words_ended : {l d o : Type 0} (asked : Option Ordered) (library : Files) (a p : ℕ) (x q : List ℕ) (w : ℕ) (files : Files) (text : List ℕ)

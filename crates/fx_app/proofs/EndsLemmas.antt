@@ -1,8 +1,8 @@
 -- From how the moments of a run end to the fault of the run, its cause, and what it leaves.
-use Rattle.std.proofs.Common.{◌≡◌, ◌≢◌, ◌≤◌, ◌<◌, ◌+◌, ℕ, ℤ, List, [], ◌∷◌, ◌++◌, length, Option, Some, None, Result, Ok, Err, IfOk, IfErr, OnOk, inl, inr, refl, sym, ap, subst, ◌∙◌, arith, append_assoc, append-nil}
+use Rattle.std.proofs.Common.{◌≡◌, ◌≤◌, ◌<◌, ◌+◌, ℕ, ℤ, List, [], ◌∷◌, ◌++◌, length, Option, Some, Result, Ok, Err, IfOk, IfErr, OnOk, inl, inr, refl, sym, ap, subst, ◌∙◌, arith, append_assoc, append-nil}
 use Rattle.std.proofs.lemmas.List.{length-append}
 use Rattle.fx_base.specs.declared.limits.TheConstants.{MOST_SIDE}
-use Rattle.fx_outside.specs.Outside.{Files, HasRisen, SameBut, SameFiles}
+use Rattle.fx_outside.specs.Outside.{Files, HasRisen, SameFiles}
 use Rattle.fx_seq.specs.Filling.{ComesTo, IsFirstFetch, IsQuiet, IsTold}
 use Rattle.fx_seq.specs.declared.wanted.Wanted.{Wanted}
 use Rattle.fx_seq.specs.Lists.{AreFramesOf}
@@ -11,7 +11,7 @@ use Rattle.fx_seq.specs.Moments.{AreOnce, due_at, due_until, held_bytes}
 use Rattle.fx_seq.specs.declared.fault.SeqFault.{SeqFault}
 use Rattle.fx_seq.specs.declared.fault.SeqFault.TheVariants as fault
 use Rattle.fx_seq.specs.declared.source.SourceFrame.{SourceFrame}
-use Rattle.fx_pipe.specs.Ends.{CamePast, Ended, HasSeen, IsDone, State, StopsAtMemory, StopsAtPut, StopsAtSource}
+use Rattle.fx_pipe.specs.Ends.{Ended, IsDone, State, StopsAtMemory, StopsAtPut, StopsAtSource}
 use Rattle.fx_pipe.specs.Moments.{AreMade, all_of, with_all}
 use Rattle.fx_pipe.specs.Reads.{AreRead}
 use Rattle.fx_pipe.specs.declared.end.PipeEnd.{PipeEnd}
@@ -37,8 +37,9 @@ use Rattle.fx_words.specs.declared.fault.FrameFault.{FrameFault}
 use Rattle.fx_words.specs.declared.fault.RunFault.{RunFault}
 use Rattle.fx_words.specs.declared.fault.RunFault.TheVariants as run
 use Rattle.fx_app.specs.Ended.{Calls, calls}
-use Rattle.fx_app.specs.Files.{AreAccepted, AreImages, AreUsesOf, HasGained, file_name, wanted_of, with_frames}
-use Rattle.fx_app.specs.Graphs.{Graph, first_of, frame_count, graph_under, last_of}
+use Rattle.fx_app.specs.Reels.{IsReelOf, Reel, file_name, moments_in}
+use Rattle.fx_app.specs.Files.{AreAccepted, AreImages, AreUsesOf, HasGained}
+use Rattle.fx_app.specs.Graphs.{FileShown, Graph, graph_under}
 use Rattle.fx_app.specs.Moments.{HasRendered, IsMomentFile, Stops, images_of}
 use Rattle.fx_app.specs.Run.{HasPut, IsToldAs, Job}
 use Rattle.fx_app.specs.Steps.{IsSourceFault}
@@ -88,28 +89,28 @@ next_made right seen m (f ∷ fs) (c ∷ ds) d es made =
     let low = r.2 in
     (r.0, subst (λ (k : ℕ). right r.0 k d) at r.1, omega (arith, low))
 
-module _ (reads puts : Type 0) (order : Ordered) (g : Graph) (stay : PicturesStay meaning_of g []) (p : Schedule) (start new : State)
-    (there : reads → graph_under start.read_files order.graph ≡ Some (Ok g))
-    (few : p.moments ≡ frame_count (first_of g order) (last_of g order)) (limit : p.limit ≡ 2147483648) (side : p.most_side ≡ MOST_SIDE)
-    (are : AreUsesOf g (first_of g order) p.moments p.uses.now) (none_seen : start.seen ≡ []) where
-  abbrev a : ℕ
-  a = first_of g order
-
+module _ (reads puts : Type 0) (order : Ordered) (file : FileShown) (r : Reel) (of_order : IsReelOf order file r)
+    (stay : PicturesStay meaning_of r.graph r.edits) (p : Schedule) (start new : State)
+    (there : reads → graph_under start.read_files order.graph ≡ Some (Ok file))
+    (few : p.moments ≡ moments_in r) (limit : p.limit ≡ 2147483648) (side : p.most_side ≡ MOST_SIDE)
+    (are : AreUsesOf r p.uses.now) (none_seen : start.seen ≡ []) where
   abbrev uses : List Use
   uses = p.uses.now
 
   once : AreOnce uses
-  once = uses_are_once g a p.moments uses are
+  once = uses_are_once r uses are
 
   abbrev job : reads → Job (Some order) start.read_files
   job told =
       record {
         order = order;
         ordered = refl;
-        graph = g;
+        file = file;
         there = there told;
+        reel = r;
+        is = of_order;
         uses = uses;
-        are = subst (λ (n : ℕ). AreUsesOf g a n uses) few are;
+        are = are;
       }
 
   -- at none of the moments that were read a frame is refused
@@ -132,17 +133,17 @@ module _ (reads puts : Type 0) (order : Ordered) (g : Graph) (stay : PicturesSta
 
   -- the files that were made of some first moments, over the frames that these are the first to want
   gained : (fs : List (List SourceFrame)) (ds : List Made) (mid : Files) → length fs ≤ p.moments → AreRead reads start.read_files p [] 0 fs
-      → AreMade (IsMomentFile g a) start.seen 0 fs ds
-      → HasGained g (images_of (all_of fs)) a (length ds) mid (with_all ds mid)
+      → AreMade (IsMomentFile r) start.seen 0 fs ds
+      → HasGained r (images_of (all_of fs)) (length ds) mid (with_all ds mid)
   gained fs ds mid low read made =
       let at : length {A = List SourceFrame} [] + length ds ≡ length ds = omega arith in
-      subst (λ (n : ℕ). HasGained g (images_of (all_of fs)) a n mid (with_all ds mid)) at
-      (made_gains g stay (images_of (all_of fs)) (sound (all_of fs)) a [] fs ds mid mid
-      (subst (λ (xs : List SourceFrame). AreMade (IsMomentFile g a) xs 0 fs ds) none_seen made)
+      subst (λ (n : ℕ). HasGained r (images_of (all_of fs)) n mid (with_all ds mid)) at
+      (made_gains r stay (images_of (all_of fs)) (sound (all_of fs)) [] fs ds mid mid
+      (subst (λ (xs : List SourceFrame). AreMade (IsMomentFile r) xs 0 fs ds) none_seen made)
       serves (λ name. refl))
     where
       serves : (ps : List (List SourceFrame)) (f : List SourceFrame) (rest : List (List SourceFrame)) → [] ++ fs ≡ ps ++ f ∷ rest
-          → Serves g stay (images_of (all_of fs)) (sound (all_of fs)) (all_of ps ++ f) (a + length ps)
+          → Serves r stay (images_of (all_of fs)) (sound (all_of fs)) (all_of ps ++ f) (length ps)
       serves ps f rest split =
           let front : fs ≡ (ps ++ f ∷ []) ++ rest = split ∙ sym (append_assoc ps (f ∷ []) rest) in
           let all : all_of (ps ++ f ∷ []) ≡ all_of ps ++ f = all-append ps (f ∷ []) ∙ ap (λ xs. all_of ps ++ xs) (append-nil f) in
@@ -159,23 +160,23 @@ module _ (reads puts : Type 0) (order : Ordered) (g : Graph) (stay : PicturesSta
           record {
             are = sound (all_of ps ++ f);
             grown = subst (λ (xs : List SourceFrame). Grown (all_of ps ++ f) xs) (sym whole) (images_grow (all_of ps ++ f) (all_of rest));
-            has = has_wanted g a p.moments uses are (length (ps ++ f ∷ [])) (all_of ps ++ f) frames (length ps)
-                (omega (arith, long, total, low)) (omega (arith, long));
+            has = has_wanted r uses are (length (ps ++ f ∷ [])) (all_of ps ++ f) frames (length ps)
+                (omega (arith, few, long, total, low)) (omega (arith, long));
           }
         where
           Grown : List SourceFrame → List SourceFrame → Type 0
           Grown some all = HasGrown (images_of some) (images_of all)
 
   -- files that are as the made ones leave them
-  over : (images : Images) (n : ℕ) (mid now end : Files) → HasGained g images a n mid now → SameFiles now end → HasGained g images a n mid end
+  over : (images : Images) (n : ℕ) (mid now end : Files) → HasGained r images n mid now → SameFiles now end → HasGained r images n mid end
   over images n mid now end gained same name = same name ∙ gained name
 
   -- some first moments were put, over the frames that they are the first to want
   put : reads → puts → (fs : List (List SourceFrame)) (ds es : List Made) → length fs ≤ p.moments → AreRead reads start.read_files p [] 0 fs
-      → AreMade (IsMomentFile g a) start.seen 0 fs (ds ++ es) → SameFiles (with_all ds start.put_files) new.put_files
+      → AreMade (IsMomentFile r) start.seen 0 fs (ds ++ es) → SameFiles (with_all ds start.put_files) new.put_files
       → HasPut (Some order) start.read_files (length ds) start.put_files new.put_files
   put told written fs ds es low read made same =
-      let m = made_front (IsMomentFile g a) start.seen 0 fs ds es made in
+      let m = made_front (IsMomentFile r) start.seen 0 fs ds es made in
       let first : AreRead reads start.read_files p [] 0 m.some =
       read_first reads start.read_files p [] 0 m.some m.rest (subst (λ (gs : List (List SourceFrame)). AreRead reads start.read_files p [] 0 gs) m.split read) in
       let total : length fs ≡ length m.some + length m.rest = ap length m.split ∙ length-append m.some m.rest in
@@ -195,7 +196,7 @@ module _ (reads puts : Type 0) (order : Ordered) (g : Graph) (stay : PicturesSta
 
   -- ---- every moment
 
-  module _ (is : IsDone reads puts (IsMomentFile g a) p start new) where
+  module _ (is : IsDone reads puts (IsMomentFile r) p start new) where
     abbrev all : Images
     all = images_of (all_of is.handed)
 
@@ -203,29 +204,28 @@ module _ (reads puts : Type 0) (order : Ordered) (g : Graph) (stay : PicturesSta
     every = is.all
 
     made_all : length is.made ≡ p.moments
-    made_all = made_few (IsMomentFile g a) start.seen 0 is.handed is.made is.past.made_right ∙ is.all
+    made_all = made_few (IsMomentFile r) start.seen 0 is.handed is.made is.past.made_right ∙ is.all
 
     -- what is counted over the frames that were seen is counted over those that were read
     pub rendered : (count : TileCount) → reads
-        → HasCounted g (images_of new.seen) order.tile order.cache a new.next count
+        → HasCounted r (images_of new.seen) order.tile order.cache new.next count
         → HasRendered puts (Some order) start.read_files start.put_files new.put_files count
     rendered count told counted =
         let read = is.past.sees.read in
         let seen : new.seen ≡ all_of is.handed = is.past.sees.seen ∙ ap (λ xs. xs ++ all_of is.handed) none_seen in
-        let many : p.moments ≡ frame_count a (last_of g order) = few in
         record {
           known = record {
             job = job told;
-            accepted = subst (λ (n : ℕ). AreAccepted start.read_files uses n) (every ∙ many) (accepted told is.handed read);
+            accepted = subst (λ (n : ℕ). AreAccepted start.read_files uses n) (every ∙ few) (accepted told is.handed read);
           };
           images = all;
-          are = all_due start.read_files g a p.moments uses are all
-              (subst (λ (n : ℕ). AreImages start.read_files (due_until uses n) all) every (shown told is.handed read));
-          gained = λ written. subst (λ (n : ℕ). HasGained g all a n start.put_files new.put_files) (made_all ∙ many)
+          are = all_due start.read_files r uses are all
+              (subst (λ (n : ℕ). AreImages start.read_files (due_until uses n) all) (every ∙ few) (shown told is.handed read));
+          gained = λ written. subst (λ (n : ℕ). HasGained r all n start.put_files new.put_files) (made_all ∙ few)
               (over all (length is.made) start.put_files (with_all is.made start.put_files) new.put_files
               (gained is.handed is.made start.put_files (is.past.sees.few) read is.past.made_right) (is.past.put written));
-          counted = subst (λ (n : ℕ). HasCounted g all order.tile order.cache a n count) (is.past.next ∙ every ∙ many)
-              (subst (λ (xs : List SourceFrame). HasCounted g (images_of xs) order.tile order.cache a new.next count) seen counted);
+          counted = subst (λ (n : ℕ). HasCounted r all order.tile order.cache n count) (is.past.next ∙ every ∙ few)
+              (subst (λ (xs : List SourceFrame). HasCounted r (images_of xs) order.tile order.cache new.next count) seen counted);
         }
 
   -- ---- where the moments end early
@@ -239,7 +239,7 @@ module _ (reads puts : Type 0) (order : Ordered) (g : Graph) (stay : PicturesSta
   abbrev Stopped : RunFault → Type 0
   Stopped e = Stops reads puts (Some order) start.read_files fetches places start.put_files new.put_files e
 
-  at_memory : StopsAtMemory reads puts (IsMomentFile g a) p start new → Stopped run.Memory
+  at_memory : StopsAtMemory reads puts (IsMomentFile r) p start new → Stopped run.Memory
   at_memory is =
       let low : length is.handed ≤ p.moments =
       (let all = is.sees.few in let long = length-append is.handed is.more in omega (arith, all, long)) in
@@ -258,20 +258,19 @@ module _ (reads puts : Type 0) (order : Ordered) (g : Graph) (stay : PicturesSta
         no_report = λ same. cc;
       }
 
-  at_put : (name : List ℕ) → StopsAtPut reads puts (IsMomentFile g a) p start new name
+  at_put : (name : List ℕ) → StopsAtPut reads puts (IsMomentFile r) p start new name
       → IsQuiet start.read_faults new.read_faults start.read_last new.read_last → Stopped (run.Write name)
   at_put name is quiet =
       let total = length-append is.handed is.more in
       let all = is.sees.few in
       let low : length is.handed ≤ p.moments = omega (arith, all, total) in
       let read = read_first reads start.read_files p [] 0 is.handed is.more is.sees.read in
-      let next = next_made (IsMomentFile g a) start.seen 0 is.handed is.made is.one is.rest is.made_right in
+      let next = next_made (IsMomentFile r) start.seen 0 is.handed is.made is.one is.rest is.made_right in
       let under : length is.made < length is.handed = next.2 in
-      let behind : length is.made < frame_count a (last_of g order) = omega (arith, under, low, few) in
+      let behind : length is.made < moments_in r = omega (arith, under, low, few) in
       let zero_plus : 0 + length is.made ≡ length is.made = omega arith in
-      let file : file_name g (a + length is.made) ≡ name =
-      sym (sym is.name_is ∙ next.1.name ∙ ap (λ k. file_name g (a + k)) zero_plus) in
-      let m = made_front (IsMomentFile g a) start.seen 0 is.handed is.made (is.one ∷ is.rest) is.made_right in
+      let named : file_name r (length is.made) ≡ name = sym (sym is.name_is ∙ next.1.name ∙ ap (file_name r) zero_plus) in
+      let m = made_front (IsMomentFile r) start.seen 0 is.handed is.made (is.one ∷ is.rest) is.made_right in
       let first = read_first reads start.read_files p [] 0 m.some m.rest (subst (λ (gs : List (List SourceFrame)). AreRead reads start.read_files p [] 0 gs) m.split read) in
       let front : length is.handed ≡ length m.some + length m.rest = ap length m.split ∙ length-append m.some m.rest in
       let seen = images_of (all_of m.some) in
@@ -282,7 +281,7 @@ module _ (reads puts : Type 0) (order : Ordered) (g : Graph) (stay : PicturesSta
           job told,
           behind,
           fewer (length is.handed) (length is.made + 1) (omega (arith, under)) (accepted told is.handed read),
-          file,
+          named,
         );
         leaves = λ told written.
             record {
@@ -291,9 +290,9 @@ module _ (reads puts : Type 0) (order : Ordered) (g : Graph) (stay : PicturesSta
               accepted = fewer (length is.handed) (length is.made + 1) (omega (arith, under)) (accepted told is.handed read);
               images = seen;
               are = subst (λ (n : ℕ). AreImages start.read_files (due_until uses n) seen) m.long (shown told m.some first);
-              file_is = sym file;
+              file_is = sym named;
               gained = λ other apart.
-                  is.put written other (λ same. apart (same ∙ sym file))
+                  is.put written other (λ same. apart (same ∙ sym named))
                   ∙ gained m.some is.made start.put_files (omega (arith, front, low)) first m.are other;
             };
         fetches = quiet;
@@ -302,19 +301,19 @@ module _ (reads puts : Type 0) (order : Ordered) (g : Graph) (stay : PicturesSta
         no_report = λ same. cc;
       }
 
-  module _ (fault : SeqFault) (is : StopsAtSource reads puts (IsMomentFile g a) p start new fault) where
+  module _ (fault : SeqFault) (is : StopsAtSource reads puts (IsMomentFile r) p start new fault) where
     abbrev j : ℕ
     j = length is.handed
 
-    behind_all : j < frame_count a (last_of g order)
+    behind_all : j < moments_in r
     behind_all = let one = is.one in omega (arith, one, few)
 
     here_put : reads → puts → HasPut (Some order) start.read_files j start.put_files new.put_files
     here_put told written =
-        let many = made_few (IsMomentFile g a) start.seen 0 is.handed is.made is.past.made_right in
+        let many = made_few (IsMomentFile r) start.seen 0 is.handed is.made is.past.made_right in
         subst (λ (n : ℕ). HasPut (Some order) start.read_files n start.put_files new.put_files) many
         (put told written is.handed is.made [] is.past.sees.few is.past.sees.read
-        (subst (λ (ds : List Made). AreMade (IsMomentFile g a) start.seen 0 is.handed ds) (sym (append-nil is.made)) is.past.made_right)
+        (subst (λ (ds : List Made). AreMade (IsMomentFile r) start.seen 0 is.handed ds) (sym (append-nil is.made)) is.past.made_right)
         (is.past.put written))
 
     told_as : reads → IsTold (seq.moment_refused start.read_files MOST_SIDE 2147483648 uses j) fault
@@ -346,7 +345,7 @@ module _ (reads puts : Type 0) (order : Ordered) (g : Graph) (stay : PicturesSta
         }
 
     -- a frame is refused
-    refused : (name : List ℕ) (t : ℤ) (why : FrameFault) → IsToldAs g fault name t why
+    refused : (name : List ℕ) (t : ℤ) (why : FrameFault) → IsToldAs r.graph fault name t why
         → (reads → seq.moment_refused start.read_files MOST_SIDE 2147483648 uses j ≡ Some fault)
         → IsQuiet start.read_faults new.read_faults start.read_last new.read_last → Stopped (run.Frame name t why)
     refused name t why line told quiet =
@@ -389,8 +388,8 @@ module _ (reads puts : Type 0) (order : Ordered) (g : Graph) (stay : PicturesSta
           no_report = λ same. cc;
         }
 
-  at_source : (fault : SeqFault) (is : StopsAtSource reads puts (IsMomentFile g a) p start new fault) (e : RunFault)
-      → IsSourceFault g fault e → Stopped e
+  at_source : (fault : SeqFault) (is : StopsAtSource reads puts (IsMomentFile r) p start new fault) (e : RunFault)
+      → IsSourceFault r.graph fault e → Stopped e
   at_source (fault.Fetch node t name) is e same =
       subst Stopped (sym same)
       (unread (fault.Fetch node t name) is (record { node = node; frame = t; name = name }) is.shows.fetch.0 is.shows.fetch.1
@@ -414,7 +413,7 @@ module _ (reads puts : Type 0) (order : Ordered) (g : Graph) (stay : PicturesSta
   at_source fault.Memory is e same = absurd (is.no_memory refl)
 
   -- want of memory once every file was put
-  after_all : IsDone reads puts (IsMomentFile g a) p start new → Stopped run.Memory
+  after_all : IsDone reads puts (IsMomentFile r) p start new → Stopped run.Memory
   after_all is =
       record {
         moment = 0;
@@ -423,7 +422,7 @@ module _ (reads puts : Type 0) (order : Ordered) (g : Graph) (stay : PicturesSta
         leaves = λ told written. inr (
           length is.made,
           put told written is.handed is.made [] is.past.sees.few is.past.sees.read
-              (subst (λ (ds : List Made). AreMade (IsMomentFile g a) start.seen 0 is.handed ds) (sym (append-nil is.made)) is.past.made_right)
+              (subst (λ (ds : List Made). AreMade (IsMomentFile r) start.seen 0 is.handed ds) (sym (append-nil is.made)) is.past.made_right)
               (is.past.put written),
         );
         fetches = tt;
@@ -432,8 +431,8 @@ module _ (reads puts : Type 0) (order : Ordered) (g : Graph) (stay : PicturesSta
         no_report = λ same. cc;
       }
 
-  pub stopped : (end : PipeEnd) → Ended reads puts (IsMomentFile g a) p start new end
-      → QuietAtPut start.read_faults new.read_faults start.read_last new.read_last end → (e : RunFault) → IsEndFault g end e → Stopped e
+  pub stopped : (end : PipeEnd) → Ended reads puts (IsMomentFile r) p start new end
+      → QuietAtPut start.read_faults new.read_faults start.read_last new.read_last end → (e : RunFault) → IsEndFault r.graph end e → Stopped e
   stopped pipe.Done is quiet e same = subst Stopped (sym same) (after_all is)
   stopped (pipe.Source fault) is quiet e line_is = at_source fault is e line_is
   stopped (pipe.Put name) is quiet e same = subst Stopped (sym same) (at_put name is quiet)
@@ -441,17 +440,17 @@ module _ (reads puts : Type 0) (order : Ordered) (g : Graph) (stay : PicturesSta
 
   -- ---- what the run answers
 
-  pub well : (end : PipeEnd) (sum : TileCount) (result : Result TileCount RunFault) → Ended reads puts (IsMomentFile g a) p start new end
-      → IsFinished g end sum result → reads
-      → (end ≡ pipe.Done → HasCounted g (images_of new.seen) order.tile order.cache a new.next sum)
+  pub well : (end : PipeEnd) (sum : TileCount) (result : Result TileCount RunFault) → Ended reads puts (IsMomentFile r) p start new end
+      → IsFinished r.graph end sum result → reads
+      → (end ≡ pipe.Done → HasCounted r (images_of new.seen) order.tile order.cache new.next sum)
       → IfOk result (HasRendered puts (Some order) start.read_files start.put_files new.put_files)
   well end sum (Ok count) ended finished told counted =
       subst (HasRendered puts (Some order) start.read_files start.put_files new.put_files) (sym finished.1)
-      (rendered (subst (Ended reads puts (IsMomentFile g a) p start new) finished.0 ended) sum told (counted finished.0))
+      (rendered (subst (Ended reads puts (IsMomentFile r) p start new) finished.0 ended) sum told (counted finished.0))
   well end sum (Err e) ended finished told counted = tt
 
-  pub ill : (end : PipeEnd) (sum : TileCount) (result : Result TileCount RunFault) → Ended reads puts (IsMomentFile g a) p start new end
-      → QuietAtPut start.read_faults new.read_faults start.read_last new.read_last end → IsFinished g end sum result → IfErr result Stopped
+  pub ill : (end : PipeEnd) (sum : TileCount) (result : Result TileCount RunFault) → Ended reads puts (IsMomentFile r) p start new end
+      → QuietAtPut start.read_faults new.read_faults start.read_last new.read_last end → IsFinished r.graph end sum result → IfErr result Stopped
   ill end sum (Ok count) ended quiet finished = tt
   ill end sum (Err e) ended quiet finished = stopped end ended quiet e finished
 
@@ -489,23 +488,29 @@ stops_at_once reads puts asked library files a b x y =
     }
 
 -- there are no moments
-pub renders_none : (puts : Type 0) (order : Ordered) (g : Graph) (library files : Files) (uses : List Use)
-    → graph_under library order.graph ≡ Some (Ok g)
-    → (let a = first_of g order in let n = frame_count a (last_of g order) in
-    AreUsesOf g a n uses → n ≡ 0 → HasRendered puts (Some order) library files files no_count)
-renders_none puts order g library files uses there are none =
-    let a = first_of g order in
-    let n = frame_count a (last_of g order) in
+pub renders_none : (puts : Type 0) (order : Ordered) (file : FileShown) (library files : Files) (r : Reel) (uses : List Use)
+    → graph_under library order.graph ≡ Some (Ok file) → IsReelOf order file r → AreUsesOf r uses → moments_in r ≡ 0
+    → HasRendered puts (Some order) library files files no_count
+renders_none puts order file library files r uses there is are none =
     let nothing : AreImages library (due_until uses 0) no_images =
     record { each = λ w at. absurd (omega (arith, at.1)); only = λ m f lists. refl } in
     record {
       known = record {
-        job = record { order = order; ordered = refl; graph = g; there = there; uses = uses; are = are };
+        job = record {
+          order = order;
+          ordered = refl;
+          file = file;
+          there = there;
+          reel = r;
+          is = is;
+          uses = uses;
+          are = are;
+        };
         accepted = λ j low. absurd (omega (arith, low, none));
       };
       images = no_images;
-      are = all_due library g a n uses are no_images
+      are = all_due library r uses are no_images
           (subst (λ (k : ℕ). AreImages library (due_until uses k) no_images) (sym none) nothing);
-      gained = λ written. subst (λ (k : ℕ). HasGained g no_images a k files files) (sym none) (λ name. refl);
-      counted = counted_none g no_images order.tile order.cache a n none;
+      gained = λ written. subst (λ (k : ℕ). HasGained r no_images k files files) (sym none) (λ name. refl);
+      counted = counted_none r no_images order.tile order.cache (moments_in r) none;
     }

@@ -1,5 +1,5 @@
 -- Over more source frames the files of a run and what it counts are the same, where all that is wanted was there.
-use Rattle.std.proofs.Common.{◌≡◌, ◌<◌, ◌≤ℤ◌, ◌+◌, ℕ, zero, suc, ℤ, pos, true, List, [], ◌∷◌, ◌++◌, map, length, Option, Some, None, Bool, refl, sym, ap, subst, ◌∙◌, arith, append_assoc}
+use Rattle.std.proofs.Common.{◌≡◌, ◌<◌, ◌+◌, ℕ, zero, suc, ℤ, pos, List, [], ◌∷◌, ◌++◌, map, length, Option, Some, None, refl, sym, ap, subst, ◌∙◌, arith, append_assoc}
 use mathlib.Core.Path.{fun_ext}
 use Rattle.std.specs.Prelude.{count_by, sum_by}
 use Rattle.std.specs.List.{flat_map, range_with_len}
@@ -7,11 +7,10 @@ use Rattle.std.specs.Option.{option_map}
 use Rattle.std.proofs.lemmas.Int.{ints}
 use Rattle.std.proofs.lemmas.List.Concat.{flat_map-cons}
 use Rattle.std.proofs.lemmas.List.{length-append}
-use Rattle.std.proofs.lemmas.List.Sums.{sum_by-append, sum_by-cons}
+use Rattle.std.proofs.lemmas.List.Sums.{sum_by-cons}
 use Rattle.std.proofs.lemmas.Option.{none-some}
 use Rattle.fx_base.specs.Bounds.{Bounds}
-use Rattle.fx_outside.specs.Outside.{Files, SameFiles}
-use Rattle.fx_image.specs.Image.{Image}
+use Rattle.fx_outside.specs.Outside.{Files}
 use Rattle.fx_image.specs.Stored.{Stored, image_of}
 use Rattle.fx_pam.specs.Text.{pam_text}
 use Rattle.fx_seq.specs.Lists.{frames_in}
@@ -28,15 +27,18 @@ use Rattle.fx_scene.specs.Holds.{PicturesStay}
 use Rattle.fx_scene.specs.Nodes.{Nodes}
 use Rattle.fx_scene.specs.Reach.{IsClosed, IsReached, NodeFrames}
 use Rattle.fx_scene.specs.Right.{HasGrown, HasWanted}
-use Rattle.fx_scene.specs.Scenes.{Images, graph_nodes, no_images, picture}
+use Rattle.fx_scene.specs.Scenes.{Images, graph_nodes, no_images}
 use Rattle.fx_shipped.specs.Shipped.{meaning_of}
 use Rattle.fx_tile.specs.declared.count.TileCount.{TileCount}
 use Rattle.fx_tile.specs.Moments.{CountsTiles, renders_for}
 use Rattle.fx_tile.specs.Setups.{end_renders}
-use Rattle.fx_app.specs.Files.{HasGained, file_name, file_text, with_file, with_frames}
+use Rattle.fx_app.specs.Files.{HasGained, with_file, with_moments}
 use Rattle.fx_app.specs.Graphs.{Graph}
+use Rattle.fx_app.specs.Making.{EndsHold}
 use Rattle.fx_app.specs.Moments.{IsMomentFile, images_of}
-use Rattle.fx_app.specs.Tiles.{HasCounted, ends_in}
+use Rattle.fx_app.specs.Reels.{Reel, file_name, file_text, frame_in, graph_in, picture_text, take_in}
+use Rattle.fx_app.specs.Tiles.{HasCounted, ends_in, moment_ends, moment_renders, nodes_in, renders_in}
+use Rattle.fx_app.proofs.ReadLemmas.{WantsIn}
 
 -- ---- what was read later leaves what was read before
 
@@ -60,6 +62,39 @@ sum_map_same F G e (x ∷ xs) each =
     let d = sum_map_same F G e xs each in
     omega (arith, a, b, c, d)
 
+-- ---- sums over numbers
+
+flat_same : {A : Type 0} (f h : ℕ → List A) (a n : ℕ) → ((j : ℕ) → j < n → f (a + j) ≡ h (a + j))
+    → flat_map f (range_with_len a n) ≡ flat_map h (range_with_len a n)
+flat_same f h a zero each = refl
+flat_same f h a (suc n) each =
+    let zeroth : a + 0 ≡ a = omega arith in
+    let first : f a ≡ h a = subst (λ (k : ℕ). f k ≡ h k) zeroth (each 0 (omega arith)) in
+    let rest = flat_same f h (a + 1) n (λ j low. subst (λ (k : ℕ). f k ≡ h k) (next j) (each (suc j) (omega (arith, low)))) in
+    flat_map-cons f a (range_with_len (a + 1) n)
+    ∙ ap (λ es. es ++ flat_map f (range_with_len (a + 1) n)) first
+    ∙ ap (λ es. h a ++ es) rest
+    ∙ sym (flat_map-cons h a (range_with_len (a + 1) n))
+  where
+    next : (j : ℕ) → a + suc j ≡ a + 1 + j
+    next j = omega arith
+
+sum_same : (f h : ℕ → ℕ) (a n : ℕ) → ((j : ℕ) → j < n → f (a + j) ≡ h (a + j))
+    → sum_by f (range_with_len a n) ≡ sum_by h (range_with_len a n)
+sum_same f h a zero each = refl
+sum_same f h a (suc n) each =
+    let zeroth : a + 0 ≡ a = omega arith in
+    let first : f a ≡ h a = subst (λ (k : ℕ). f k ≡ h k) zeroth (each 0 (omega arith)) in
+    let rest = sum_same f h (a + 1) n (λ j low. subst (λ (k : ℕ). f k ≡ h k) (next j) (each (suc j) (omega (arith, low)))) in
+    let left = sum_by-cons f a (range_with_len (a + 1) n) in
+    let right = sum_by-cons h a (range_with_len (a + 1) n) in
+    omega (arith, first, rest, left, right)
+  where
+    next : (j : ℕ) → a + suc j ≡ a + 1 + j
+    next j = omega arith
+
+-- ---- one frame of a graph
+
 module _ (g : Graph) (stay : EndsStay meaning_of g) (lead : EndsReached meaning_of g) where
   abbrev over : Images → Nodes
   over images = graph_nodes meaning_of g images
@@ -71,135 +106,133 @@ module _ (g : Graph) (stay : EndsStay meaning_of g) (lead : EndsReached meaning_
   itself : (t : ℤ) → IsReached (over no_images) g.output t t g.output t
   itself t s closed = closed.start t (omega (arith, ints)) (omega (arith, ints))
 
-  module _ (old new : Images) (is_old : scene.AreImages old) (is_new : scene.AreImages new) (grown : HasGrown old new) where
-    -- ---- one frame
-
-    ends_same : (side : ℕ) (t : ℤ) → HasWanted meaning_of g old g.output t
-        → window_ends (over old) g.output side g.project t ≡ window_ends (over new) g.output side g.project t
-    ends_same side t has =
+  module _ (old new : Images) (is_old : scene.AreImages old) (is_new : scene.AreImages new) (grown : HasGrown old new) (side : ℕ) (t : ℤ)
+      (has : HasWanted meaning_of g old g.output t) where
+    ends_same : window_ends (over old) g.output side g.project t ≡ window_ends (over new) g.output side g.project t
+    ends_same =
         ap (λ (e : Bounds → EndShown). map e (tiles side))
         (fun_ext (λ r. (stay old new t is_old is_new grown has g.output t r (itself t)).0))
 
-    renders_at : (side : ℕ) (t : ℤ) → HasWanted meaning_of g old g.output t → (e : EndShown)
-        → ((s : NodeFrames) → IsClosed (over no_images) g.output t t s → EndIn s e)
+    renders_at : (e : EndShown) → ((s : NodeFrames) → IsClosed (over no_images) g.output t t s → EndIn s e)
         → end_renders (over old) side e ≡ end_renders (over new) side e
-    renders_at side t has Void lies = refl
-    renders_at side t has (Frame node frame region through) lies = refl
-    renders_at side t has (Render node frame region cut through) lies =
+    renders_at Void lies = refl
+    renders_at (Frame node frame region through) lies = refl
+    renders_at (Render node frame region cut through) lies =
         ap (λ needs. count_by (λ n. is_asked n.end) needs)
         ((stay old new t is_old is_new grown has node frame region lies).1 side)
 
-    renders_same : (side : ℕ) (t : ℤ) → HasWanted meaning_of g old g.output t
-        → (let ends = window_ends (over new) g.output side g.project t in
-        renders_for (over old) side ends ≡ renders_for (over new) side ends)
-    renders_same side t has =
-        sum_map_same (end_renders (over old) side) (end_renders (over new) side) (end_of (over new) g.output t) (tiles side)
-        (λ r. renders_at side t has (end_of (over new) g.output t r) (λ s closed. lead new t is_new g.output t r (itself t) s closed))
+    renders_same :
+        let some = window_ends (over old) g.output side g.project t in
+        let all = window_ends (over new) g.output side g.project t in
+        renders_for (over old) side some ≡ renders_for (over new) side all
+    renders_same =
+        ap (renders_for (over old) side) ends_same
+        ∙ sum_map_same (end_renders (over old) side) (end_renders (over new) side) (end_of (over new) g.output t) (tiles side)
+        (λ r. renders_at (end_of (over new) g.output t r) (λ s closed. lead new t is_new g.output t r (itself t) s closed))
 
-    -- ---- n frames from a on
+-- ---- the first moments of a reel
 
-    abbrev Wants : ℕ → ℕ → Type 0
-    Wants a n = (j : ℕ) → j < n → HasWanted meaning_of g old g.output (pos (a + j))
+module _ (r : Reel) (n : ℕ) (hold : EndsHold r n) (old new : Images) (is_old : scene.AreImages old) (is_new : scene.AreImages new)
+    (grown : HasGrown old new) (side : ℕ) (has : (j : ℕ) → j < n → WantsIn r j old) where
+  ends_at : (j : ℕ) → j < n → moment_ends r old side j ≡ moment_ends r new side j
+  ends_at j low =
+      let h = hold j low in
+      ends_same (graph_in r j) h.0 h.1 old new is_old is_new grown side (pos (frame_in r j)) (has j low)
 
-    first_wants : (a n : ℕ) → Wants a (suc n) → HasWanted meaning_of g old g.output (pos a)
-    first_wants a n has =
-        let at : a + 0 ≡ a = omega arith in
-        subst (λ (t : ℕ). HasWanted meaning_of g old g.output (pos t)) at (has 0 (omega arith))
+  renders_of : (j : ℕ) → j < n → moment_renders r old side j ≡ moment_renders r new side j
+  renders_of j low =
+      let h = hold j low in
+      renders_same (graph_in r j) h.0 h.1 old new is_old is_new grown side (pos (frame_in r j)) (has j low)
 
-    rest_wants : (a n : ℕ) → Wants a (suc n) → Wants (a + 1) n
-    rest_wants a n has j low =
-        let at : a + suc j ≡ a + 1 + j = omega arith in
-        subst (λ (t : ℕ). HasWanted meaning_of g old g.output (pos t)) at (has (suc j) (omega (arith, low)))
+  from_first : (P : ℕ → Type 0) → ((j : ℕ) → j < n → P j) → (j : ℕ) → j < n → P (0 + j)
+  from_first P each j low =
+      let at : j ≡ 0 + j = omega arith in
+      subst P at (each j low)
 
-    abbrev at_frame : Images → ℕ → ℕ → List EndShown
-    at_frame images side t = window_ends (over images) g.output side g.project (pos t)
+  all_ends : ends_in r old side n ≡ ends_in r new side n
+  all_ends =
+      flat_same (moment_ends r old side) (moment_ends r new side) 0 n
+      (from_first (λ j. moment_ends r old side j ≡ moment_ends r new side j) ends_at)
 
-    all_ends : (side a n : ℕ) → Wants a n → ends_in g old side a n ≡ ends_in g new side a n
-    all_ends side a zero has = refl
-    all_ends side a (suc n) has =
-        flat_map-cons (at_frame old side) a (range_with_len (a + 1) n)
-        ∙ ap (λ es. es ++ ends_in g old side (a + 1) n) (ends_same side (pos a) (first_wants a n has))
-        ∙ ap (λ es. at_frame new side a ++ es) (all_ends side (a + 1) n (rest_wants a n has))
-        ∙ sym (flat_map-cons (at_frame new side) a (range_with_len (a + 1) n))
+  all_renders : renders_in r old side n ≡ renders_in r new side n
+  all_renders =
+      sum_same (moment_renders r old side) (moment_renders r new side) 0 n
+      (from_first (λ j. moment_renders r old side j ≡ moment_renders r new side j) renders_of)
 
-    all_renders : (side a n : ℕ) → Wants a n
-        → renders_for (over old) side (ends_in g new side a n) ≡ renders_for (over new) side (ends_in g new side a n)
-    all_renders side a zero has = refl
-    all_renders side a (suc n) has =
-        let first = at_frame new side a in
-        let rest = ends_in g new side (a + 1) n in
-        let split : ends_in g new side a (suc n) ≡ first ++ rest = flat_map-cons (at_frame new side) a (range_with_len (a + 1) n) in
-        ap (renders_for (over old) side) split
-        ∙ sum_by-append (end_renders (over old) side) first rest
-        ∙ ap (λ k. k + renders_for (over old) side rest) (renders_same side (pos a) (first_wants a n has))
-        ∙ ap (λ k. renders_for (over new) side first + k) (all_renders side (a + 1) n (rest_wants a n has))
-        ∙ sym (sum_by-append (end_renders (over new) side) first rest)
-        ∙ sym (ap (renders_for (over new) side) split)
+  -- what was counted over the frames that were there is what is counted over more
+  pub counted_grown : (cache : ℕ) (count : TileCount) → HasCounted r old side cache n count → HasCounted r new side cache n count
+  counted_grown cache count counted =
+      record {
+        void_tiles = counted.void_tiles ∙ ap (count_by is_void) all_ends;
+        passed = counted.passed ∙ ap (count_by is_passed) all_ends;
+        asked = counted.asked ∙ ap (count_by is_asked) all_ends;
+        enough = counted.enough;
+        no_hits = counted.no_hits;
+        none_kept = λ none. let all = counted.none_kept none in let same = all_renders in omega (arith, all, same);
+      }
 
-    -- what was counted over the frames that were there is what is counted over more
-    pub counted_grown : (side cache a n : ℕ) (count : TileCount) → Wants a n → HasCounted g old side cache a n count
-        → HasCounted g new side cache a n count
-    counted_grown side cache a n count has counted =
-        let ends = all_ends side a n has in
-        let renders = ap (renders_for (over old) side) ends ∙ all_renders side a n has in
-        record {
-          tiles = record {
-            void_tiles = counted.tiles.void_tiles ∙ ap (count_by is_void) ends;
-            passed = counted.tiles.passed ∙ ap (count_by is_passed) ends;
-            asked = counted.tiles.asked ∙ ap (count_by is_asked) ends;
-            enough = counted.tiles.enough;
-            none_kept = λ none. let all = counted.tiles.none_kept none in omega (arith, all, renders);
-          };
-          none_kept = counted.none_kept;
-        }
+-- what one moment's tiles came to over the frames that are held they come to over more
+pub tiles_grown : (r : Reel) (j : ℕ) → EndsStay meaning_of (graph_in r j) → EndsReached meaning_of (graph_in r j) → (old new : Images)
+    → scene.AreImages old → scene.AreImages new → HasGrown old new → (side : ℕ) → WantsIn r j old → (count : TileCount)
+    → CountsTiles (nodes_in r old j) side (moment_ends r old side j) count → CountsTiles (nodes_in r new j) side (moment_ends r new side j) count
+tiles_grown r j stay lead old new is_old is_new grown side has count tiles =
+    let ends = ends_same (graph_in r j) stay lead old new is_old is_new grown side (pos (frame_in r j)) has in
+    let renders = renders_same (graph_in r j) stay lead old new is_old is_new grown side (pos (frame_in r j)) has in
+    record {
+      void_tiles = tiles.void_tiles ∙ ap (count_by is_void) ends;
+      passed = tiles.passed ∙ ap (count_by is_passed) ends;
+      asked = tiles.asked ∙ ap (count_by is_asked) ends;
+      enough = tiles.enough;
+      none_kept = λ none. let all = tiles.none_kept none in omega (arith, all, renders);
+    }
 
 -- ---- files
 
-module _ (g : Graph) (stay : PicturesStay meaning_of g []) (all : Images) (is_all : scene.AreImages all) where
-  -- the images of these frames have what frame t wants, and all have them too
-  pub record Serves (seen : List SourceFrame) (t : ℕ) : Type 0 where
+module _ (r : Reel) (stay : PicturesStay meaning_of r.graph r.edits) (all : Images) (is_all : scene.AreImages all) where
+  -- the images of these frames have what moment j wants, and all have them too
+  pub record Serves (seen : List SourceFrame) (j : ℕ) : Type 0 where
     pub are : scene.AreImages (images_of seen)
     pub grown : HasGrown (images_of seen) all
-    pub has : HasWanted meaning_of g (images_of seen) g.output (pos t)
+    pub has : WantsIn r j (images_of seen)
 
-  text_stays : (seen : List SourceFrame) (t : ℕ) → Serves seen t → file_text g (images_of seen) t ≡ file_text g all t
-  unfolding file_text
-  text_stays seen t serves =
-      ap (pam_text g.format) (stay (images_of seen) all 0 (pos t) serves.are is_all serves.grown serves.has)
+  text_stays : (seen : List SourceFrame) (j : ℕ) → Serves seen j → file_text r (images_of seen) j ≡ file_text r all j
+  unfolding picture_text
+  text_stays seen j serves =
+      ap (pam_text r.graph.format) (stay (images_of seen) all (take_in r j) (pos (frame_in r j)) serves.are is_all serves.grown serves.has)
 
   -- one file more
-  file_more : (a m : ℕ) (seen : List SourceFrame) (d : Made) (old mid : Files) → IsMomentFile g a seen m d → Serves seen (a + m)
-      → HasGained g all a m old mid → HasGained g all a (suc m) old (with_file d.name d.bytes.items mid)
-  file_more a m seen d old mid file serves gained name =
+  file_more : (m : ℕ) (seen : List SourceFrame) (d : Made) (old mid : Files) → IsMomentFile r seen m d → Serves seen m
+      → HasGained r all m old mid → HasGained r all (suc m) old (with_file d.name d.bytes.items mid)
+  file_more m seen d old mid file serves gained name =
       ap (λ (files : Files). with_file d.name d.bytes.items files name) (fun_ext gained)
-      ∙ ap (λ (n : List ℕ). with_file n d.bytes.items (with_frames g all a m old) name) file.name
-      ∙ ap (λ (b : List ℕ). with_file (file_name g (a + m)) b (with_frames g all a m old) name)
-      (file.text ∙ text_stays seen (a + m) serves)
+      ∙ ap (λ (n : List ℕ). with_file n d.bytes.items (with_moments r all m old) name) file.name
+      ∙ ap (λ (b : List ℕ). with_file (file_name r m) b (with_moments r all m old) name)
+      (file.text ∙ text_stays seen m serves)
 
   -- what was made of moments is what their files are over all images
-  pub made_gains : (a : ℕ) (before fs : List (List SourceFrame)) (ds : List Made) (old mid : Files)
-      → AreMade (IsMomentFile g a) (all_of before) (length before) fs ds
+  pub made_gains : (before fs : List (List SourceFrame)) (ds : List Made) (old mid : Files)
+      → AreMade (IsMomentFile r) (all_of before) (length before) fs ds
       → ((ps : List (List SourceFrame)) (f : List SourceFrame) (rest : List (List SourceFrame)) → before ++ fs ≡ ps ++ f ∷ rest
-      → Serves (all_of ps ++ f) (a + length ps))
-      → HasGained g all a (length before) old mid
-      → HasGained g all a (length before + length ds) old (with_all ds mid)
-  made_gains a before [] [] old mid made serves gained =
+      → Serves (all_of ps ++ f) (length ps))
+      → HasGained r all (length before) old mid
+      → HasGained r all (length before + length ds) old (with_all ds mid)
+  made_gains before [] [] old mid made serves gained =
       let at : length before ≡ length before + length {A = Made} [] = omega arith in
-      subst (λ (n : ℕ). HasGained g all a n old mid) at gained
-  made_gains a before [] (d ∷ ds) old mid made serves gained = absurd made
-  made_gains a before (f ∷ fs) [] old mid made serves gained = absurd made
-  made_gains a before (f ∷ fs) (d ∷ ds) old mid made serves gained =
+      subst (λ (n : ℕ). HasGained r all n old mid) at gained
+  made_gains before [] (d ∷ ds) old mid made serves gained = absurd made
+  made_gains before (f ∷ fs) [] old mid made serves gained = absurd made
+  made_gains before (f ∷ fs) (d ∷ ds) old mid made serves gained =
       let next : List (List SourceFrame) = before ++ f ∷ [] in
       let long : length next ≡ length before + 1 = length-append before (f ∷ []) in
       let more : suc (length before) ≡ length next = omega (arith, long) in
       let end : length next + length ds ≡ length before + length (d ∷ ds) = omega (arith, long) in
-      let here : Serves (all_of before ++ f) (a + length before) = serves before f fs refl in
-      let one : HasGained g all a (length next) old (with_file d.name d.bytes.items mid) =
-      subst (λ (n : ℕ). HasGained g all a n old (with_file d.name d.bytes.items mid)) more
-      (file_more a (length before) (all_of before ++ f) d old mid made.0 here gained) in
-      let rest : AreMade (IsMomentFile g a) (all_of next) (length next) fs ds =
-      subst (λ (n : ℕ). AreMade (IsMomentFile g a) (all_of next) n fs ds) (sym long)
-      (subst (λ (xs : List SourceFrame). AreMade (IsMomentFile g a) xs (length before + 1) fs ds) (sym (all-one before f)) made.1) in
-      subst (λ (n : ℕ). HasGained g all a n old (with_all ds (with_file d.name d.bytes.items mid))) end
-      (made_gains a next fs ds old (with_file d.name d.bytes.items mid) rest
+      let here : Serves (all_of before ++ f) (length before) = serves before f fs refl in
+      let one : HasGained r all (length next) old (with_file d.name d.bytes.items mid) =
+      subst (λ (n : ℕ). HasGained r all n old (with_file d.name d.bytes.items mid)) more
+      (file_more (length before) (all_of before ++ f) d old mid made.0 here gained) in
+      let rest : AreMade (IsMomentFile r) (all_of next) (length next) fs ds =
+      subst (λ (n : ℕ). AreMade (IsMomentFile r) (all_of next) n fs ds) (sym long)
+      (subst (λ (xs : List SourceFrame). AreMade (IsMomentFile r) xs (length before + 1) fs ds) (sym (all-one before f)) made.1) in
+      subst (λ (n : ℕ). HasGained r all n old (with_all ds (with_file d.name d.bytes.items mid))) end
+      (made_gains next fs ds old (with_file d.name d.bytes.items mid) rest
       (λ ps h after split. serves ps h after (sym (append_assoc before (f ∷ []) fs) ∙ split)) one)

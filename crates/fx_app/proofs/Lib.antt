@@ -1,7 +1,10 @@
 pub mod WordLemmas
 pub mod GraphLemmas
+pub mod TakeLemmas
 pub mod ReadLemmas
 pub mod UsesLemmas
+pub mod JobLemmas
+pub mod ReelLemmas
 pub mod StepsLemmas
 pub mod CountLemmas
 pub mod MadeLemmas

@@ -16,7 +16,6 @@ use Rattle.fx_group.specs.Graph.{expand_of}
 use Rattle.fx_group.specs.Plain.{slash_fault}
 use Rattle.fx_group.proofs.FormatLaws.{groupless}
 use Rattle.fx_group.proofs.TwoLaws.{went, stays_expanded}
-use Rattle.fx_takes.specs.Accepted.{takes_of}
 use Rattle.fx_shipped.specs.Shipped.{effect_of, meaning_of}
 use Rattle.fx_words.specs.Ordered.{Ordered}
 use Rattle.fx_words.specs.Texts.{migrate_text, report_text}
@@ -31,52 +30,53 @@ use Rattle.fx_app.specs.declared.frames.PutFailure.{PutFailure}
 use Rattle.fx_app.specs.declared.frames.PutFailure.TheVariants as put
 use Rattle.fx_app.specs.declared.report.ReportFailure.{ReportFailure}
 use Rattle.fx_app.specs.declared.report.ReportFailure.TheVariants as report
-use Rattle.fx_app.specs.Graphs.{Graph, accepted_of, graph_of, graph_under, raw_of}
+use Rattle.fx_app.specs.Graphs.{FileShown, accepted_of, graph_of, graph_under, raw_of}
 use Rattle.fx_app.specs.Files.{with_file}
 use Rattle.fx_app.specs.Texts.{status_of}
 use Rattle.fx_app.specs.Run.{NamesNoGraph, IsRefused, Rose}
 use Rattle.fx_app.specs.Migrate.{migrated_name, migrate_report, slash_of, slash_in, Migration, HasSlash, NamesSlash, HasMigrated, MigrateCause}
 use Rattle.fx_app.specs.Ended.{calls, Ended}
 use Rattle.fx_app.specs.Steps.{graph_fault, put_fault, report_fault, GraphFetch, GraphCause, FilePut, LeavesFile, ReportRose, BeginsReport, IsMigrationOf, IsMigrationIn, IsPlainGraph, MigrationCause, MigrationRefused}
+use Rattle.fx_app.proofs.GraphLemmas.{with_takes}
 use Rattle.fx_app.proofs.StepsLemmas.{no_call, untouched}
 
 -- ---- the same graph
 
 -- what was read, expanded and accepted is the same from a text that says it in format 2
-same_from : (bytes other : List ℕ) (raw : text.Graph) (g : Graph) → raw_of bytes ≡ Ok raw → accepted_of raw ≡ Ok g → slash_fault raw ≡ None
-    → length raw.nodes ≤ MOST_NODES → IsSameGraph bytes other → graph_of other ≡ Ok g
+same_from : (bytes other : List ℕ) (raw : text.Graph) (file : FileShown) → raw_of bytes ≡ Ok raw → accepted_of raw ≡ Ok file
+    → slash_fault raw ≡ None → length raw.nodes ≤ MOST_NODES → IsSameGraph bytes other → graph_of other ≡ Ok file
 unfolding raw_of accepted_of graph_of
-same_from bytes other raw g is fine free few same =
+same_from bytes other raw file is fine free few same =
     let read = went (read_graph bytes MOST_NODES MOST_SIDE) expand_of raw is in
-    let known = went (accepted.graph_of effect_of meaning_of raw) (λ (h : Graph). after (takes_of h.nodes raw.takes) (λ _. Ok h)) g fine in
+    let known = went (accepted.graph_of effect_of meaning_of raw) (with_takes raw) file fine in
     let there : read_graph other MOST_NODES MOST_SIDE ≡ Ok (record read.first { format = 2 }) = same MOST_NODES MOST_SIDE read.first read.is in
     let expanded : expand_of (record read.first { format = 2 }) ≡ Ok (record raw { format = 2 }) =
     stays_expanded effect_of meaning_of read.first raw known.first (groupless bytes MOST_NODES MOST_SIDE read.first read.is) few read.then_is known.is free in
     ap (λ r. after (after r expand_of) accepted_of) there ∙ ap (λ r. after r accepted_of) expanded ∙ fine
 
-pub plain_is : (bytes : List ℕ) (raw : text.Graph) (g : Graph) → raw_of bytes ≡ Ok raw → accepted_of raw ≡ Ok g → slash_fault raw ≡ None
-    → length raw.nodes ≤ MOST_NODES → graph_of bytes ≡ Ok g → IsPlainGraph bytes g
-plain_is bytes raw g is fine free few there =
+pub plain_is : (bytes : List ℕ) (raw : text.Graph) (file : FileShown) → raw_of bytes ≡ Ok raw → accepted_of raw ≡ Ok file
+    → slash_fault raw ≡ None → length raw.nodes ≤ MOST_NODES → graph_of bytes ≡ Ok file → IsPlainGraph bytes file
+plain_is bytes raw file is fine free few there =
     record {
       is = there;
       plain = ap slash_of is ∙ free;
-      stays = λ other same. same_from bytes other raw g is fine free few same;
+      stays = λ other same. same_from bytes other raw file is fine free few same;
     }
 
-pub slashed : (bytes : List ℕ) (raw : text.Graph) (g : Graph) (e : GraphFault) → raw_of bytes ≡ Ok raw → graph_of bytes ≡ Ok g
+pub slashed : (bytes : List ℕ) (raw : text.Graph) (file : FileShown) (e : GraphFault) → raw_of bytes ≡ Ok raw → graph_of bytes ≡ Ok file
     → Tells (slash_fault raw) e → MigrationRefused bytes e
-slashed bytes raw g fault.Memory is there tells = tt
-slashed bytes raw g (fault.Refused code path) is there tells = inr (g, there, ap slash_of is ∙ tells)
+slashed bytes raw file fault.Memory is there tells = tt
+slashed bytes raw file (fault.Refused code path) is there tells = inr (file, there, ap slash_of is ∙ tells)
 
 pub refused : (bytes : List ℕ) (e : GraphFault) → (e ≢ fault.Memory → graph_of bytes ≡ Err (told e)) → MigrationRefused bytes e
 refused bytes fault.Memory is = tt
 refused bytes (fault.Refused code path) is = inl (is (λ same. cc))
 
 -- bytes that are a graph have a value
-pub has_value : (bytes : List ℕ) (g : Graph) (f : Fault) → graph_of bytes ≡ Ok g → value_in bytes ≡ Err f → ⊥
+pub has_value : (bytes : List ℕ) (file : FileShown) (f : Fault) → graph_of bytes ≡ Ok file → value_in bytes ≡ Err f → ⊥
 unfolding raw_of graph_of
-has_value bytes g f is none =
-    let raw = went (raw_of bytes) accepted_of g is in
+has_value bytes file f is none =
+    let raw = went (raw_of bytes) accepted_of file is in
     let read = went (read_graph bytes MOST_NODES MOST_SIDE) expand_of raw.first raw.is in
     by (value_of bytes) refl read.first read.is
   where
@@ -84,16 +84,16 @@ has_value bytes g f is none =
     by None at raw h = cc
     by (Some d) at raw h = cc
 
-pub unvalued : (bytes : List ℕ) (g : Graph) (e : GraphFault) → graph_of bytes ≡ Ok g → (e ≢ fault.Memory → value_in bytes ≡ Err (told e))
-    → MigrationRefused bytes e
-unvalued bytes g fault.Memory is none = tt
-unvalued bytes g (fault.Refused code path) is none = absurd (has_value bytes g _ is (none (λ same. cc)))
+pub unvalued : (bytes : List ℕ) (file : FileShown) (e : GraphFault) → graph_of bytes ≡ Ok file
+    → (e ≢ fault.Memory → value_in bytes ≡ Err (told e)) → MigrationRefused bytes e
+unvalued bytes file fault.Memory is none = tt
+unvalued bytes file (fault.Refused code path) is none = absurd (has_value bytes file _ is (none (λ same. cc)))
 
-pub migration_is : (bytes made : List ℕ) (g : Graph) (nodes : ℕ) → IsPlainGraph bytes g → nodes ≡ length g.nodes → IsMigrated bytes made
-    → IsSameGraph bytes made → IsMigrationIn bytes nodes made
-migration_is bytes made g nodes plain many is same =
+pub migration_is : (bytes made : List ℕ) (file : FileShown) (nodes : ℕ) → IsPlainGraph bytes file → nodes ≡ length file.graph.nodes
+    → IsMigrated bytes made → IsSameGraph bytes made → IsMigrationIn bytes nodes made
+migration_is bytes made file nodes plain many is same =
     record {
-      graph = g;
+      file = file;
       is = plain.is;
       plain = plain.plain;
       many = many;
@@ -109,7 +109,7 @@ migration_under library name bytes made nodes there m =
     record {
       bytes = bytes;
       told = there;
-      graph = m.graph;
+      file = m.file;
       is = m.is;
       plain = m.plain;
       many = m.many;
@@ -121,7 +121,7 @@ pub cause_under : (library : Files) (name bytes : List ℕ) (code : _) (path : L
     → MigrationRefused bytes (fault.Refused code path) → MigrationCause library name (graph.Refused code path)
 cause_under library name bytes code path there (inl is) = inl (ap (option_map graph_of) there ∙ ap Some is)
 cause_under library name bytes code path there (inr s) =
-    inr (record { bytes = bytes; told = there; graph = s.0; is = s.1; slash = s.2 })
+    inr (record { bytes = bytes; told = there; file = s.0; is = s.1; slash = s.2 })
 
 pub same_cause : (library : Files) (name : List ℕ) (e : GraphFailure) → GraphCause library name e → MigrationCause library name e
 same_cause library name (graph.Read other) cause = tt
@@ -133,7 +133,7 @@ same_cause library name graph.Memory cause = tt
 abbrev pub ordered_migration : (order : Ordered) (library : Files) (nodes : ℕ) (made : List ℕ) → IsMigrationOf library order.graph nodes made
     → Migration (Some order) library
 ordered_migration order library nodes made m =
-    record { order = order; ordered = refl; bytes = m.bytes; told = m.told; graph = m.graph; is = m.is; plain = m.plain }
+    record { order = order; ordered = refl; bytes = m.bytes; told = m.told; file = m.file; is = m.is; plain = m.plain }
 
 pub has_migrated : (order : Ordered) (library old new : Files) (nodes : ℕ) (made : List ℕ) → IsMigrationOf library order.graph nodes made
     → SameFiles (with_file (migrated_name order.graph) made old) new → HasMigrated (Some order) library old new
@@ -262,15 +262,15 @@ one_file library a b asked x y p q there also =
     let order : a ≡ b = same_Some a b (sym p ∙ q) in
     same_Some x y (sym there ∙ ap (λ (r : Ordered). library r.graph) order ∙ also)
 
-apart_results : (g : Graph) (f : Fault) (r : Result Graph Fault) → r ≡ Ok g → r ≡ Err f → ⊥
-apart_results g f r p q = cc
+apart_results : (file : FileShown) (f : Fault) (r : Result FileShown Fault) → r ≡ Ok file → r ≡ Err f → ⊥
+apart_results file f r p q = cc
 
 not_refused : (asked : Option Ordered) (library : Files) → Migration asked library → NamesNoGraph asked library → ⊥
 not_refused asked library m (code, path, bad) =
     let order : bad.order ≡ m.order = same_Some bad.order m.order (sym bad.ordered ∙ m.ordered) in
-    let under : graph_under library bad.order.graph ≡ Some (Ok m.graph) =
+    let under : graph_under library bad.order.graph ≡ Some (Ok m.file) =
     ap (λ (r : Ordered). graph_under library r.graph) order ∙ ap (option_map graph_of) m.told ∙ ap Some m.is in
-    apart_results m.graph (refusal code path) (Ok m.graph) refl (same_Some _ _ (sym under ∙ bad.refused))
+    apart_results m.file (refusal code path) (Ok m.file) refl (same_Some _ _ (sym under ∙ bad.refused))
 
 not_slashed : (asked : Option Ordered) (library : Files) → Migration asked library → NamesSlash asked library → ⊥
 not_slashed asked library m (code, path, bad) =

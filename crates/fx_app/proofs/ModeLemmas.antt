@@ -4,7 +4,7 @@ use Rattle.std.proofs.lemmas.Option.{none-some}
 use Rattle.fx_outside.specs.Outside.{Files, HasRisen}
 use Rattle.fx_words.specs.Ordered.{Ordered}
 use Rattle.fx_words.specs.declared.order.Mode.{Mode}
-use Rattle.fx_words.specs.declared.order.Mode.TheVariants.{Render, Check, Bench, Migrate}
+use Rattle.fx_words.specs.declared.order.Mode.TheVariants.{Render, Check, Bench, Migrate, Takes}
 use Rattle.fx_words.specs.declared.fault.RunFault.{RunFault}
 use Rattle.fx_words.specs.declared.fault.RunFault.TheVariants as run
 use Rattle.fx_app.specs.Words.{mode_in}
@@ -117,6 +117,15 @@ pub cause_at : (m : Mode) (tells : Type 0) (asked : Option Ordered) (library : F
     → CauseIn (mode_in asked) tells asked library j e → CauseIn (Some m) tells asked library j e
 cause_at m tells asked library j e is cause = subst (λ (o : Option Mode). CauseIn o tells asked library j e) is cause
 
+-- the graph as it is written is rendered alone or also at each of its takes
+abbrev pub Renders : Option Ordered → Type 0
+Renders asked = (mode_in asked ≡ Some Render) ⊎ (mode_in asked ≡ Some Takes)
+
+pub cause_of_files : (tells : Type 0) (asked : Option Ordered) (library : Files) (j : ℕ) (e : RunFault) → Renders asked
+    → CauseIn (mode_in asked) tells asked library j e → tells → Cause asked library j e
+cause_of_files tells asked library j e (inl is) cause = cause_at Render tells asked library j e is cause
+cause_of_files tells asked library j e (inr is) cause = cause_at Takes tells asked library j e is cause
+
 -- ---- a graph that is refused
 
 refused_render : (asked : Option Ordered) (library : Files) (j : ℕ) (fetches puts : ℕ × ℕ × List ℕ) (out : ℕ × ℕ) (e : RunFault)
@@ -148,6 +157,8 @@ refused_in None tells asked library j fetches puts out e other told bad cause ro
     refused_render asked library j fetches puts out e bad (cause told) rose fetched
 refused_in (Some Render) tells asked library j fetches puts out e other told bad cause rose fetched =
     refused_render asked library j fetches puts out e bad (cause told) rose fetched
+refused_in (Some Takes) tells asked library j fetches puts out e other told bad cause rose fetched =
+    refused_render asked library j fetches puts out e bad (cause told) rose fetched
 refused_in (Some Check) tells asked library j fetches puts out e other told bad cause rose fetched =
     refused_check tells asked library fetches puts out e told bad cause rose fetched
 refused_in (Some Bench) tells asked library j fetches puts out e other told bad cause rose fetched = absurd (other refl)
@@ -168,13 +179,14 @@ refused_answers tells asked library j fetches puts out status e (inl is) other t
 
 -- a run that is done had a graph
 pub not_refused : (tells : Type 0) (asked : Option Ordered) (library : Files) → (mode_in asked ≡ Some Bench → ⊥) → tells
-    → NamesNoGraph asked library → (mode_in asked ≡ Some Render → tells → IsAccepted asked library)
+    → NamesNoGraph asked library → (Renders asked → tells → IsAccepted asked library)
     → (mode_in asked ≡ Some Check → tells → Job asked library)
     → (mode_in asked ≡ Some Migrate → tells → Migration asked library) → ⊥
 not_refused tells asked library other told bad render check migrate = by bad.2.order.mode (ap mode_in bad.2.ordered)
   where
     by : (m : Mode) → mode_in asked ≡ Some m → ⊥
-    by Render is = refused_not asked library (render is told).job bad
+    by Render is = refused_not asked library (render (inl is) told).job bad
+    by Takes is = refused_not asked library (render (inr is) told).job bad
     by Check is = refused_not asked library (check is told) bad
     by Bench is = other is
     by Migrate is = not_bad asked library (migrate is told) (inl bad)

@@ -1,13 +1,11 @@
 -- What is read of a run's moments: the images of their source frames, and what is known where more were read.
-use Rattle.std.proofs.Common.{◌≡◌, ◌≤◌, ◌<◌, ◌+◌, ℕ, zero, suc, ℤ, pos, ◌<ℤ◌, List, [], ◌∷◌, ◌++◌, map, length, All, AllPairs, Contains, Option, Some, None, IsSome, inl, inr, refl, sym, ap, subst, ◌∙◌, arith, get_or}
-use Rattle.std.specs.Prelude.{sum_by, count_by}
-use Rattle.std.specs.List.{AllZip, flat_map, range_with_len}
+use Rattle.std.proofs.Common.{◌≡◌, ◌≤◌, ◌<◌, ◌+◌, ℕ, zero, suc, ℤ, pos, ◌<ℤ◌, List, [], ◌∷◌, length, All, Contains, Option, Some, None, IsSome, inl, inr, refl, sym, ap, subst, ◌∙◌, arith, get_or}
+use Rattle.std.specs.List.{AllZip}
 use Rattle.std.specs.Option.{option_map}
-use Rattle.std.proofs.Math.Nat.{div-eq_of_lt, mod-eq_of_lt}
 use Rattle.std.proofs.lemmas.Bool.{cases_lt, false≢true}
 use Rattle.std.proofs.lemmas.Int.{ints}
 use Rattle.std.proofs.lemmas.List.{get_or-map, length-map}
-use Rattle.std.proofs.lemmas.List.Elements.{All-contains, All-contains_itself, Contains-append_cases, Contains-append_left, Contains-get_or}
+use Rattle.std.proofs.lemmas.List.Elements.{Contains-get_or}
 use Rattle.std.proofs.lemmas.Option.{none-some}
 use Rattle.fx_base.specs.declared.limits.TheConstants.{MOST_SIDE}
 use Rattle.fx_outside.specs.Outside.{Files}
@@ -15,27 +13,22 @@ use Rattle.fx_image.specs.Image.{Image}
 use Rattle.fx_image.specs.Stored.{Stored, image_of}
 use Rattle.fx_seq.specs.Frames.{IsPicture}
 use Rattle.fx_seq.specs.Filling.{IsApart}
-use Rattle.fx_seq.specs.Held.{HasRead, fetched, got_frames, held}
+use Rattle.fx_seq.specs.Held.{HasRead, held}
 use Rattle.fx_seq.specs.Lists.{AreFramesOf, ArePictures, IsFrameOf, frames_in}
-use Rattle.fx_seq.specs.Moments.{AreOnce, due_at, due_until}
+use Rattle.fx_seq.specs.Moments.{AreOnce, due_until}
 use Rattle.fx_seq.specs.declared.source.SourceFrame.{SourceFrame}
 use Rattle.fx_seq.specs.declared.store.Store.{Store}
 use Rattle.fx_seq.specs.declared.used.Use.{Use}
 use Rattle.fx_seq.specs.declared.wanted.Wanted.{Wanted}
 use Rattle.fx_seq.proofs.LookLemmas.{frames_from, only_held}
 use Rattle.fx_seq.proofs.MomentLemmas.{from_until, holds_used, some_in, to_until, use_once, zip_to}
-use Rattle.fx_graph.specs.Shown.{Shown}
 use Rattle.fx_scene.specs.Right.{HasWanted}
-use Rattle.fx_scene.specs.Scenes.{Images, graph_nodes, images_in, no_images}
-use Rattle.fx_scene.specs.Takes.{edits_after, graph_of_take, nodes_at}
-use Rattle.fx_scene.specs.Uses.{AreUses, IsUse, ListsUse, frame_at, take_at, wanting}
-use Rattle.fx_scene.specs.Wants.{IsBefore, IsWanted}
-use Rattle.fx_scene.specs.declared.take.Edit.{Edit}
-use Rattle.fx_shipped.specs.declared.shipped.Shipped.{Shipped}
+use Rattle.fx_scene.specs.Scenes.{Images, images_in}
+use Rattle.fx_scene.specs.Wants.{IsBefore}
 use Rattle.fx_shipped.specs.Shipped.{meaning_of}
 use Rattle.fx_app.specs.Files.{AreImages, AreUsesOf, IsFileOf, wanted_of}
-use Rattle.fx_app.specs.Graphs.{Graph}
 use Rattle.fx_app.specs.Moments.{images_of}
+use Rattle.fx_app.specs.Reels.{Reel, frame_in, graph_in, moments_in, wanting_in}
 
 -- ---- uses
 
@@ -47,8 +40,8 @@ before_apart v w (inr same) node frame = let low = same.1 in absurd (not_less v.
     not_less a b e low = omega (arith, ints, e, low)
 
 -- each node's frame is used once
-pub uses_are_once : (g : Graph) (a n : ℕ) (uses : List Use) → AreUsesOf g a n uses → AreOnce uses
-uses_are_once g a n uses are =
+pub uses_are_once : (r : Reel) (uses : List Use) → AreUsesOf r uses → AreOnce uses
+uses_are_once r uses are =
     record {
       apart = λ i j d low high.
           let many : length (wanted_of uses) ≡ length uses = length-map uses (λ u. u.wanted) in
@@ -65,40 +58,11 @@ uses_are_once g a n uses are =
     All-of : (us : List Use) → ((u : Use) → Contains us u → u.from ≤ u.until) → All (λ u. u.from ≤ u.until) us
     All-of us each = λ i d low. each (get_or us i d) (Contains-get_or us i d low)
 
--- ---- without takes the graph stays
-
-nodes_stay : (nodes : List (Shown Shipped)) (k : ℕ) → nodes_at nodes [] k ≡ nodes
-nodes_stay nodes zero = refl
-nodes_stay nodes (suc k) = nodes_stay nodes k
-
-graph_stays : (g : Graph) (k : ℕ) → graph_of_take g [] k ≡ g
-graph_stays g k = ap (λ (nodes : List (Shown Shipped)). record g { nodes = nodes }) (nodes_stay g.nodes k)
-
-frame_is : (a n j : ℕ) → j < n → frame_at a n j ≡ a + j
-frame_is a n j low = ap (λ k. a + k) (mod-eq_of_lt low)
-
--- what the frame of moment j wants, both ways
-pub moment_wants : (g : Graph) (a n j k : ℕ) (f : ℤ) → j < n
-    → IsWanted (graph_nodes meaning_of g no_images) g.output (pos (a + j)) (pos (a + j)) k f → wanting meaning_of g [] a n j k f
-moment_wants g a n j k f low wants =
-    subst (λ (h : Graph). IsWanted (graph_nodes meaning_of h no_images) g.output (pos (frame_at a n j)) (pos (frame_at a n j)) k f)
-    (sym (graph_stays g (take_at n j)))
-    (subst (λ (t : ℕ). IsWanted (graph_nodes meaning_of g no_images) g.output (pos t) (pos t) k f) (sym (frame_is a n j low)) wants)
-
-pub wants_of : (g : Graph) (a n j k : ℕ) (f : ℤ) → j < n → wanting meaning_of g [] a n j k f
-    → IsWanted (graph_nodes meaning_of g no_images) g.output (pos (a + j)) (pos (a + j)) k f
-wants_of g a n j k f low wants =
-    subst (λ (t : ℕ). IsWanted (graph_nodes meaning_of g no_images) g.output (pos t) (pos t) k f) (frame_is a n j low)
-    (subst (λ (h : Graph). IsWanted (graph_nodes meaning_of h no_images) g.output (pos (frame_at a n j)) (pos (frame_at a n j)) k f)
-    (graph_stays g (take_at n j)) wants)
-
 -- the use of what moment j wants: it is wanted from j or before, and until j or later
-pub use_at : (g : Graph) (a n : ℕ) (uses : List Use) → AreUsesOf g a n uses → (j k : ℕ) (f : ℤ) → j < n
-    → IsWanted (graph_nodes meaning_of g no_images) g.output (pos (a + j)) (pos (a + j)) k f
+pub use_at : (r : Reel) (uses : List Use) → AreUsesOf r uses → (j k : ℕ) (f : ℤ) → j < moments_in r → wanting_in r j k f
     → (u : Use) × Contains uses u × (u.wanted.node ≡ k) × (u.wanted.frame ≡ f) × (u.from ≤ j) × (j ≤ u.until)
-use_at g a n uses are j k f low wants =
-    let W = wanting meaning_of g [] a n in
-    let here : W j k f = moment_wants g a n j k f low wants in
+use_at r uses are j k f low here =
+    let W = wanting_in r in
     let l = are.moments.all j k f low here in
     let is = are.moments.each l.use_ l.listed in
     let there : W j l.use_.wanted.node l.use_.wanted.frame =
@@ -113,12 +77,16 @@ use_at g a n uses are j k f low wants =
 
 -- ---- what is held, and what was read
 
--- a store that has read the frames of the moments up to m holds what the frame of moment m wants
-pub holds_wanted : (g : Graph) (a n : ℕ) (uses : List Use) → AreUsesOf g a n uses → (m : ℕ) → m < n → (store : Store)
-    → HasRead uses (m + 1) store → HasWanted meaning_of g (images_in store) g.output (pos (a + m))
-holds_wanted g a n uses are m low store read k f wants =
-    let u = use_at g a n uses are m k f low wants in
-    let there = holds_used uses (uses_are_once g a n uses are) m store read u.0 u.1 u.4 u.5 in
+-- the images have what moment j wants
+abbrev pub WantsIn : Reel → ℕ → Images → Type 0
+WantsIn r j images = HasWanted meaning_of (graph_in r j) images r.graph.output (pos (frame_in r j))
+
+-- a store that has read the frames of the moments up to m holds what moment m wants
+pub holds_wanted : (r : Reel) (uses : List Use) → AreUsesOf r uses → (m : ℕ) → m < moments_in r → (store : Store)
+    → HasRead uses (m + 1) store → WantsIn r m (images_in store)
+holds_wanted r uses are m low store read k f wants =
+    let u = use_at r uses are m k f low wants in
+    let there = holds_used uses (uses_are_once r uses are) m store read u.0 u.1 u.4 u.5 in
     some_image store k f
     (subst (λ (i : ℕ). IsSome (held store i f)) u.2 (subst (λ (t : ℤ). IsSome (held store u.0.wanted.node t)) u.3 there.0))
   where
@@ -130,16 +98,16 @@ holds_wanted g a n uses are m low store read k f wants =
         by (Some s) is = refl
 
 -- the frames that were read up to a moment have what each moment before wants
-pub has_wanted : (g : Graph) (a n : ℕ) (uses : List Use) → AreUsesOf g a n uses → (m : ℕ) (got : List SourceFrame)
-    → AreFramesOf (due_until uses m) got → (j : ℕ) → j < n → j < m → HasWanted meaning_of g (images_of got) g.output (pos (a + j))
-has_wanted g a n uses are m got read j low before k f wants =
-    let u = use_at g a n uses are j k f low wants in
+pub has_wanted : (r : Reel) (uses : List Use) → AreUsesOf r uses → (m : ℕ) (got : List SourceFrame)
+    → AreFramesOf (due_until uses m) got → (j : ℕ) → j < moments_in r → j < m → WantsIn r j (images_of got)
+has_wanted r uses are m got read j low before k f wants =
+    let u = use_at r uses are j k f low wants in
     let from = u.4 in
-    let r = zip_to IsFrameOf (due_until uses m) got read u.0.wanted (to_until uses u.0 u.1 m (omega (arith, from, before))) in
-    let there : IsSome (frames_in got r.0.node r.0.frame) = some_in got r.0 r.1 in
+    let z = zip_to IsFrameOf (due_until uses m) got read u.0.wanted (to_until uses u.0 u.1 m (omega (arith, from, before))) in
+    let there : IsSome (frames_in got z.0.node z.0.frame) = some_in got z.0 z.1 in
     some_image (frames_in got k f)
-    (subst (λ (i : ℕ). IsSome (frames_in got i f)) (r.2.node ∙ u.2)
-    (subst (λ (t : ℤ). IsSome (frames_in got r.0.node t)) (r.2.frame ∙ u.3) there))
+    (subst (λ (i : ℕ). IsSome (frames_in got i f)) (z.2.node ∙ u.2)
+    (subst (λ (t : ℤ). IsSome (frames_in got z.0.node t)) (z.2.frame ∙ u.3) there))
   where
     some_image : (o : Option Stored) → IsSome o → IsSome (option_map image_of o)
     some_image None is = is
@@ -221,18 +189,18 @@ images_read library uses once m got are pictures =
         )
 
 -- what is due at all moments is what is wanted
-pub all_due : (library : Files) (g : Graph) (a n : ℕ) (uses : List Use) → AreUsesOf g a n uses → (images : Images)
-    → AreImages library (due_until uses n) images → AreImages library (wanted_of uses) images
-all_due library g a n uses are images shown =
+pub all_due : (library : Files) (r : Reel) (uses : List Use) → AreUsesOf r uses → (images : Images)
+    → AreImages library (due_until uses (moments_in r)) images → AreImages library (wanted_of uses) images
+all_due library r uses are images shown =
     record {
       each = λ w at.
           let u = from_map uses w at in
           let is = are.moments.each u.0 u.1 in
           let order = is.order in
           let end = is.end in
-          shown.each w (subst (λ (x : Wanted). Contains (due_until uses n) x) u.2 (to_until uses u.0 u.1 n (omega (arith, order, end))));
+          shown.each w (subst (λ (x : Wanted). Contains (due_until uses (moments_in r)) x) u.2 (to_until uses u.0 u.1 (moments_in r) (omega (arith, order, end))));
       only = λ m f none. shown.only m f (λ l.
-          let u = from_until uses n l.entry l.listed in
+          let u = from_until uses (moments_in r) l.entry l.listed in
           none (record {
             entry = l.entry;
             listed = subst (λ (x : Wanted). Contains (wanted_of uses) x) u.3 (to_map uses u.0 u.1);

@@ -1,5 +1,5 @@
 -- How a render ends.
-use Rattle.std.proofs.Common.{◌≡◌, ◌≢◌, inl, inr, arith, ℕ, List, Contains, Some, Ok, refl, subst}
+use Rattle.std.proofs.Common.{◌≡◌, ◌≢◌, ◌+◌, ◌*◌, inl, inr, arith, ℕ, List, [], length, Contains, Some, Ok, refl, subst}
 use Rattle.fx_base.proofs.RunLaws.{Contains-map}
 use Rattle.fx_outside.specs.Outside.{Files, HasRisen}
 use Rattle.fx_seq.specs.declared.used.Use.{Use}
@@ -19,14 +19,17 @@ use Rattle.fx_app.specs.declared.graph.GraphFailure.{GraphFailure}
 use Rattle.fx_app.specs.declared.graph.GraphFailure.TheVariants as graph
 use Rattle.fx_app.specs.declared.report.ReportFailure.{ReportFailure}
 use Rattle.fx_app.specs.declared.report.ReportFailure.TheVariants as report
-use Rattle.fx_app.specs.Graphs.{Graph, graph_under, first_of, last_of, frame_count}
+use Rattle.fx_app.specs.Graphs.{FileShown, graph_under, first_of, last_of, frame_count}
+use Rattle.fx_app.specs.Reels.{Reel, moments_in, plain_reel, takes_for}
 use Rattle.fx_app.specs.Files.{AreImages, AreUsesOf, HasGained, wanted_of}
-use Rattle.fx_app.specs.Run.{Cause, HasPutAll, Leaves, LeavesLibrary, LeavesOwnReport, LeavesReport, Rose, count_in, first_in}
+use Rattle.fx_app.specs.Run.{Cause, HasPutAll, Leaves, LeavesLibrary, LeavesOwnReport, LeavesReport, Rose, count_in}
 use Rattle.fx_app.specs.Tiles.{report_of}
 use Rattle.fx_app.specs.Ended.{Ended, calls}
 use Rattle.fx_app.specs.Moments.{HasRendered, Stops}
 use Rattle.fx_app.specs.Steps.{graph_fault, report_fault, GraphFetch, GraphCause, ReportRose, BeginsReport}
-use Rattle.fx_app.proofs.StepsLemmas.{no_call, untouched, same_out, graph_is, first_is, count_is}
+use Rattle.fx_app.proofs.StepsLemmas.{no_call, untouched, same_out}
+use Rattle.fx_app.proofs.JobLemmas.{reel_here}
+use Rattle.fx_app.proofs.ReelLemmas.{alone_many, plain_is}
 use Rattle.fx_app.proofs.CountLemmas.{render_is}
 use Rattle.fx_app.proofs.UsesLemmas.{from_wanted}
 
@@ -36,33 +39,37 @@ pub all_put : {tells : Type 0} (order : Ordered) (library old new : Files) (coun
     → HasRendered tells (Some order) library old new count → tells → HasPutAll (Some order) library old new
 all_put order library old new count r told = record { known = r.known; images = r.images; are = r.are; gained = r.gained told }
 
--- over the graph and the frames of the order
-pub gained_here : {tells : Type 0} (order : Ordered) (library old new : Files) (g : Graph) (count : TileCount)
-    → (r : HasRendered tells (Some order) library old new count) → graph_under library order.graph ≡ Some (Ok g) → tells
-    → HasGained g r.images (first_of g order) (frame_count (first_of g order) (last_of g order)) old new
-gained_here order library old new g count r there told =
+-- over the graph and the frames of an order, where no takes are ordered
+pub gained_here : {tells : Type 0} (order : Ordered) (library old new : Files) (file : FileShown) (count : TileCount)
+    → (r : HasRendered tells (Some order) library old new count) → graph_under library order.graph ≡ Some (Ok file)
+    → takes_for order.mode file.takes ≡ [] → tells
+    → (let a = first_of file.graph order in let b = last_of file.graph order in
+    HasGained (plain_reel file.graph a b) r.images (frame_count a b) old new)
+gained_here order library old new file count r there none told =
     let job = r.known.job in
-    subst (λ (n : ℕ). HasGained g r.images (first_of g order) n old new) (count_is order library g job there)
-    (subst (λ (a : ℕ). HasGained g r.images a (count_in job) old new) (first_is order library g job there)
-    (subst (λ (h : Graph). HasGained h r.images (first_in job) (count_in job) old new) (graph_is order library g job there) (r.gained told)))
+    let a = first_of file.graph order in
+    let b = last_of file.graph order in
+    let reel : job.reel ≡ plain_reel file.graph a b = plain_is order file none job.reel (reel_here order library file job there) in
+    subst (λ (n : ℕ). HasGained (plain_reel file.graph a b) r.images n old new) (alone_many file.graph a (frame_count a b))
+    (subst (λ (s : Reel). HasGained s r.images (moments_in s) old new) reel (r.gained told))
 
 -- what is wanted at all is due at one of all moments
-due_images : (library : Files) (g : Graph) (a n : ℕ) (uses : List Use) (images : Images) → AreUsesOf g a n uses
-    → AreImages library (wanted_of uses) images → AreImages library (due_until uses n) images
-due_images library g a n uses images are shown =
+due_images : (library : Files) (r : Reel) (uses : List Use) (images : Images) → AreUsesOf r uses
+    → AreImages library (wanted_of uses) images → AreImages library (due_until uses (moments_in r)) images
+due_images library r uses images are shown =
     record {
       each = λ w at.
-          let u = from_until uses n w at in
+          let u = from_until uses (moments_in r) w at in
           shown.each w (subst (λ (v : Wanted). Contains (wanted_of uses) v) u.3 (Contains-map (λ (x : Use). x.wanted) uses u.0 u.1));
       only = λ m f none. shown.only m f (λ l.
           let u = from_wanted uses l.entry l.listed in
           let is = are.moments.each u.0 u.1 in
           let order = is.order in
           let end = is.end in
-          let due = to_until uses u.0 u.1 n (omega (arith, order, end)) in
+          let due = to_until uses u.0 u.1 (moments_in r) (omega (arith, order, end)) in
           none (record {
             entry = l.entry;
-            listed = subst (λ (v : Wanted). Contains (due_until uses n) v) u.2 due;
+            listed = subst (λ (v : Wanted). Contains (due_until uses (moments_in r)) v) u.2 due;
             node = l.node;
             frame = l.frame;
           }));
@@ -159,27 +166,34 @@ module _ {l d o : Type 0} (order : Ordered) (library : Files) where
       }
 
   -- all was put, and then the report was not written
-  pub report_ended : (g : Graph) (frames : ℕ) (count : TileCount) (a b : ℕ) (x y : List ℕ) (p q : ℕ) (u v : List ℕ) (w z : ℕ)
-      (old new : Files) (out more : List ℕ) (e : ReportFailure) → (l → graph_under library order.graph ≡ Some (Ok g))
-      → frames ≡ frame_count (first_of g order) (last_of g order) → (l → HasRendered d (Some order) library old new count)
-      → IsQuiet a b x y → IsQuiet p q u v → ReportRose w z e → (o → BeginsReport (report_text (report_of frames count)) e out more)
+  pub report_ended : (file : FileShown) (takes frames : ℕ) (count : TileCount) (a b : ℕ) (x y : List ℕ) (p q : ℕ) (u v : List ℕ) (w z : ℕ)
+      (old new : Files) (out more : List ℕ) (e : ReportFailure) → (l → graph_under library order.graph ≡ Some (Ok file))
+      → takes ≡ length (takes_for order.mode file.takes) + 1
+      → frames ≡ takes * frame_count (first_of file.graph order) (last_of file.graph order)
+      → (l → HasRendered d (Some order) library old new count)
+      → IsQuiet a b x y → IsQuiet p q u v → ReportRose w z e
+      → (o → BeginsReport (report_text (report_of order.mode takes frames count)) e out more)
       → Ended (Some mode.Render) l d o (Some order) library (calls a b x y) (calls p q u v) (w, z) (old, new) (out, more) (report_fault e)
-  report_ended g frames count a b x y p q u v w z old new out more report.Report there many made quiet puts rose begins =
+  report_ended file takes frames count a b x y p q u v w z old new out more report.Report there many each made quiet puts rose begins =
       record {
         moment = 0;
         rose = rose;
         cause = λ one. (made one).known;
         leaves = λ one two. all_put order library old new count (made one) two;
         tells = λ one. (
-          (report_of frames count, begins one),
-          λ two. (report_text (report_of frames count), render_is order library old new g frames count (there two) many (made two), begins one),
+          (report_of order.mode takes frames count, begins one),
+          λ two. (
+            report_text (report_of order.mode takes frames count),
+            render_is order library old new file takes frames count (there two) many each (made two),
+            begins one,
+          ),
         );
         fetched = quiet;
         put = puts;
         wrote = tt;
         usage = λ is. absurd cc;
       }
-  report_ended g frames count a b x y p q u v w z old new out more report.Memory there many made quiet puts rose begins =
+  report_ended file takes frames count a b x y p q u v w z old new out more report.Memory there many each made quiet puts rose begins =
       record {
         moment = 0;
         rose = tt;
@@ -194,7 +208,7 @@ module _ {l d o : Type 0} (order : Ordered) (library : Files) where
                 few = omega arith;
                 accepted = r.known.accepted;
                 images = r.images;
-                are = due_images library job.graph (first_in job) (count_in job) job.uses r.images job.are r.are;
+                are = due_images library job.reel job.uses r.images job.are r.are;
                 gained = r.gained two;
               },
             );

@@ -11,11 +11,12 @@ use Rattle.fx_words.specs.Ordered.{Ordered}
 use Rattle.fx_words.specs.declared.fault.RunFault.{RunFault}
 use Rattle.fx_words.specs.declared.fault.RunFault.TheVariants as run
 use Rattle.fx_app.specs.declared.sources.TheConstants.{MOST_BYTES}
-use Rattle.fx_app.specs.Graphs.{Graph, graph_under, first_of, last_of, frame_count}
+use Rattle.fx_app.specs.Graphs.{FileShown, graph_under}
+use Rattle.fx_app.specs.Reels.{IsReelOf}
 use Rattle.fx_app.specs.Texts.{status_of}
-use Rattle.fx_app.specs.Files.{AreUsesOf}
-use Rattle.fx_app.specs.Run.{Job, IsAccepted, NamesNoGraph, Cause, Rose, LeavesOut, count_in, first_in}
-use Rattle.fx_app.proofs.UsesLemmas.{uses_once}
+use Rattle.fx_app.specs.Run.{Job, IsAccepted, NamesNoGraph, Cause, Rose, LeavesOut, count_in}
+use Rattle.fx_app.proofs.JobLemmas.{one_file}
+use Rattle.fx_app.proofs.UsesLemmas.{SameReel, same_count, uses_once}
 
 pub no_call : (a : ℕ) (x : List ℕ) → IsQuiet a a x x
 no_call a x = record { count = refl; last_one = refl }
@@ -29,57 +30,40 @@ both P a b c d ac bd p = subst (λ (n : ℕ). P c n) bd (subst (λ (m : ℕ). P 
 
 -- ---- what is asked for
 
-one_graph : (g h : Graph) (a : Option (Result Graph Fault)) → a ≡ Some (Ok g) → a ≡ Some (Ok h) → g ≡ h
-one_graph g h a p q = cc
+not_both : (file : FileShown) (f : Fault) (a : Option (Result FileShown Fault)) → a ≡ Some (Ok file) → a ≡ Some (Err f) → ⊥
+not_both file f a p q = cc
 
-not_both : (g : Graph) (f : Fault) (a : Option (Result Graph Fault)) → a ≡ Some (Ok g) → a ≡ Some (Err f) → ⊥
-not_both g f a p q = cc
-
--- a job of an order has the order's graph, and its frames are those that the order asks for
-module _ (order : Ordered) (library : Files) (g : Graph) (job : Job (Some order) library)
-    (there : graph_under library order.graph ≡ Some (Ok g)) where
-  order_is : job.order ≡ order
-  order_is = same_Some job.order order (sym job.ordered)
-
-  pub graph_is : job.graph ≡ g
-  graph_is =
-      one_graph job.graph g (graph_under library job.order.graph) job.there (ap (λ (o : Ordered). graph_under library o.graph) order_is ∙ there)
-
-  pub first_is : first_in job ≡ first_of g order
-  first_is = ap (λ (h : Graph). first_of h job.order) graph_is ∙ ap (first_of g) order_is
-
-  pub count_is : count_in job ≡ frame_count (first_of g order) (last_of g order)
-  count_is =
-      ap (λ (h : Graph). frame_count (first_of h job.order) (last_of h job.order)) graph_is
-      ∙ ap (λ (o : Ordered). frame_count (first_of g o) (last_of g o)) order_is
-
--- what is asked for and the library have one job
+-- what is asked for and the library have one job, but for what its edits do not show
 module _ (asked : Option Ordered) (library : Files) (j k : Job asked library) where
   orders_same : j.order ≡ k.order
   orders_same = same_Some j.order k.order (sym j.ordered ∙ k.ordered)
 
-  graphs_same : j.graph ≡ k.graph
-  graphs_same =
-      one_graph j.graph k.graph (graph_under library j.order.graph) j.there (ap (λ (o : Ordered). graph_under library o.graph) orders_same ∙ k.there)
+  files_same : j.file ≡ k.file
+  files_same =
+      one_file j.file k.file (graph_under library j.order.graph) j.there (ap (λ (o : Ordered). graph_under library o.graph) orders_same ∙ k.there)
 
-  abbrev Uses : Graph → Ordered → Type 0
-  Uses g order = AreUsesOf g (first_of g order) (frame_count (first_of g order) (last_of g order)) j.uses
+  reels_same : SameReel j.reel k.reel
+  reels_same =
+      let is : IsReelOf k.order k.file j.reel =
+      subst (λ (o : Ordered). IsReelOf o k.file j.reel) orders_same (subst (λ (f : FileShown). IsReelOf j.order f j.reel) files_same j.is) in
+      record {
+        graph = is.graph ∙ sym k.is.graph;
+        edits = is.edits ∙ sym k.is.edits;
+        first = is.first ∙ sym k.is.first;
+        count = is.count ∙ sym k.is.count;
+      }
 
   pub counts_same : count_in j ≡ count_in k
-  counts_same =
-      ap (λ (h : Graph). frame_count (first_of h j.order) (last_of h j.order)) graphs_same
-      ∙ ap (λ (o : Ordered). frame_count (first_of k.graph o) (last_of k.graph o)) orders_same
+  counts_same = same_count j.reel k.reel reels_same
 
   pub uses_same : j.uses ≡ k.uses
-  uses_same =
-      uses_once k.graph (first_in k) (count_in k) j.uses k.uses
-      (subst (λ (o : Ordered). Uses k.graph o) orders_same (subst (λ (g : Graph). Uses g j.order) graphs_same j.are)) k.are
+  uses_same = uses_once j.reel k.reel j.uses k.uses reels_same j.are k.are
 
 -- the library has no graph and no refusal of it at once
 pub refused_not : (asked : Option Ordered) (library : Files) → Job asked library → NamesNoGraph asked library → ⊥
 refused_not asked library job (code, path, refused) =
     let order : job.order ≡ refused.order = same_Some job.order refused.order (sym job.ordered ∙ refused.ordered) in
-    not_both job.graph _ (graph_under library job.order.graph) job.there
+    not_both job.file _ (graph_under library job.order.graph) job.there
     (ap (λ (o : Ordered). graph_under library o.graph) order ∙ refused.refused)
 
 -- ---- the top

@@ -56,9 +56,9 @@ made_whole right seen first block left made now next h none count =
 -- what flows between two turns, where nothing waits
 pub flows_now : (reads puts : Type 0) (p : Plan) (schedule : Schedule) (start now : State) (line : Line) (m : Making)
     → IsUnderWay reads puts p schedule start now line m
-    → Flows reads puts (IsMomentFile p.graph p.first) schedule start now line.reader line.fault [] now.next []
+    → Flows reads puts (IsMomentFile p.reel) schedule start now line.reader line.fault [] now.next []
 flows_now reads puts p schedule start now line m w =
-    let right = IsMomentFile p.graph p.first in
+    let right = IsMomentFile p.reel in
     let h = w.flows in
     let at : line.next ≡ now.next = h.at_next ∙ sym h.next in
     subst (λ (n : ℕ). Flows reads puts right schedule start now line.reader line.fault [] n []) at
@@ -171,17 +171,28 @@ spare_may p uses more m spare may =
       uses_are = may.uses_are;
       few = may.few;
       making = record {
-        graph = may.making.graph;
-        first = may.making.first;
+        at = record {
+          written = may.making.at.written;
+          takes = may.making.at.takes;
+          graph = may.making.at.graph;
+          left = may.making.at.left;
+          file = may.making.at.file;
+          first = may.making.at.first;
+          last = may.making.at.last;
+          from = may.making.at.from;
+          to = may.making.at.to;
+          next = may.making.at.next;
+        };
         read = may.making.read;
         crew = may.making.crew;
         crew_is = record {
           there = may.making.crew_is.there;
-          is = may.making.crew_is.is;
           side = may.making.crew_is.side;
           capacity = may.making.crew_is.capacity;
           weight = may.making.crew_is.weight;
         };
+        knew = may.making.knew;
+        hold = may.making.hold;
         counted = may.making.counted;
       };
     }

@@ -1,7 +1,8 @@
--- The source frames that a run uses are determined by the graph and its frames.
-use Rattle.std.proofs.Common.{◌≡◌, ◌<◌, ℕ, zero, suc, ℤ, List, [], ◌∷◌, Contains, slice_get, Option, Some, None, refl, sym, ap, subst, ◌∙◌, arith, inl, inr, AllPairs}
+-- The source frames that a run uses are determined by the graph, its takes and its frames.
+use Rattle.std.proofs.Common.{◌≡◌, ◌<◌, ◌*◌, ℕ, zero, suc, ℤ, pos, List, [], ◌∷◌, length, map, All, Contains, slice_get, Option, Some, None, refl, sym, ap, subst, ◌∙◌, arith, inl, inr, AllPairs}
 use Rattle.std.proofs.lemmas.Int.{ints}
 use Rattle.std.proofs.lemmas.Option.{none-some}
+use Rattle.std.proofs.lemmas.List.{length-map}
 use Rattle.std.proofs.lemmas.List.Elements.{All-contains}
 use Rattle.fx_base.specs.Bounds.{Bounds}
 use Rattle.fx_pixel.specs.declared.Depth.{Depth}
@@ -12,16 +13,20 @@ use Rattle.fx_graph.specs.Shown.{Does, Shown}
 use Rattle.fx_graph.specs.Shown as does
 use Rattle.fx_scene.specs.Nodes.{Node}
 use Rattle.fx_scene.specs.Scenes.{graph_nodes, no_images, node_in, node_of, nodes_of}
-use Rattle.fx_scene.specs.Uses.{IsUse, wanting}
-use Rattle.fx_scene.specs.Wants.{IsBefore, IsNamedBy, IsNamedIn, Shows}
+use Rattle.fx_scene.specs.Takes.{graph_of_take}
+use Rattle.fx_scene.specs.Uses.{AreUses, IsUse, frame_at, take_at}
+use Rattle.fx_scene.specs.Wants.{IsBefore, IsNamedBy, IsNamedIn, IsWanted, Shows}
+use Rattle.fx_scene.specs.declared.take.Edit.{Edit}
 use Rattle.fx_scene.proofs.GraphLemmas.{node_is}
 use Rattle.fx_scene.proofs.Members.{In, in_of}
 use Rattle.fx_scene.proofs.WantLemmas.{contains_of, shown_natural}
 use Rattle.fx_shipped.specs.declared.shipped.Shipped.{Shipped}
 use Rattle.fx_shipped.specs.Shipped.{meaning_of}
+use Rattle.fx_takes.specs.Shown.{EditShown, edit_shown}
 use Rattle.fx_app.specs.Graphs.{Graph}
+use Rattle.fx_app.specs.Reels.{Reel, frame_in, moments_in, take_in, takes_in, wanting_in}
 use Rattle.fx_app.specs.Files.{AreUsesOf, wanted_of}
-use Rattle.fx_app.proofs.ReadLemmas.{wants_of}
+use Rattle.fx_app.proofs.TakeLemmas.{IsSource, Stems, from_take, nodes_shown, shown_nodes}
 
 -- ---- lists in order
 
@@ -93,17 +98,30 @@ one_name_by project k d c (does.Source pattern first last hold) v w t same shows
     a n.0 n.1 ∙ sym (b n.0 (sym same ∙ n.1))
 one_name_by project k d c (does.Effect e context clips names optional masks params) v w t same shows a b = absurd shows
 
--- entries of one node's frame have one name
-pub one_name : (g : Graph) (v w : Wanted) (t : ℤ) → v.node ≡ w.node → v.frame ≡ w.frame
-    → Shows (graph_nodes meaning_of g no_images v.node) t v.frame → IsNamedIn g v → IsNamedIn g w → v.name ≡ w.name
-one_name g v w t node frame shows a b = by_node (slice_get g.nodes v.node) refl
+-- entries of one node's frame have one name: at each take a source is as it is written
+pub one_name : (g : Graph) (takes : List (List Edit)) (i : ℕ) (v w : Wanted) (t : ℤ) → v.node ≡ w.node → v.frame ≡ w.frame
+    → Shows (graph_nodes meaning_of (graph_of_take g takes i) no_images v.node) t v.frame → IsNamedIn g v → IsNamedIn g w → v.name ≡ w.name
+one_name g takes i v w t node frame shows a b = by_node (slice_get h.nodes v.node) refl
   where
-    by_node : (o : Option (Shown Shipped)) → slice_get g.nodes v.node ≡ o → v.name ≡ w.name
-    by_node None none = absurd (shows_none g v.node t v.frame none shows)
+    h : Graph
+    h = graph_of_take g takes i
+
+    by_work : (n m : Shown Shipped) (work : Does Shipped) → n.does ≡ work → slice_get g.nodes v.node ≡ Some m → Stems m n
+        → Shows (node_of meaning_of g.project (no_images v.node) n.depth n.components work) t v.frame → v.name ≡ w.name
+    by_work n m (does.Source pattern first last hold) is there stems shown =
+        let same : m ≡ n = stems.source (subst IsSource (sym is) tt) in
+        let here : slice_get g.nodes v.node ≡ Some n = there ∙ ap (λ (x : Shown Shipped). Some x) same in
+        one_name_by g.project v.node n.depth n.components (does.Source pattern first last hold) v w t frame shown
+        (subst (λ (d : Does Shipped). IsNamedBy d v) is (a n here))
+        (subst (λ (d : Does Shipped). IsNamedBy d w) is (b n (ap (slice_get g.nodes) (sym node) ∙ here)))
+    by_work n m (does.Effect e context clips names optional masks params) is there stems shown = absurd shown
+
+    by_node : (o : Option (Shown Shipped)) → slice_get h.nodes v.node ≡ o → v.name ≡ w.name
+    by_node None none = absurd (shows_none h v.node t v.frame none shows)
     by_node (Some n) there =
-        one_name_by g.project v.node n.depth n.components n.does v w t frame
-        (subst (λ (s : Node). Shows s t v.frame) (node_is meaning_of g no_images v.node n n.does there refl) shows)
-        (a n there) (b n (ap (slice_get g.nodes) (sym node) ∙ there))
+        let from = from_take g.nodes takes i v.node n there in
+        by_work n from.node n.does refl from.there from.stems
+        (subst (λ (s : Node). Shows s t v.frame) (node_is meaning_of h no_images v.node n n.does there refl) shows)
 
 -- ---- two lists of what is used
 
@@ -122,9 +140,12 @@ same_use u v wanted from until =
 neither : (m n : ℕ) → (m < n → ⊥) → (n < m → ⊥) → m ≡ n
 neither m n low high = omega (arith, low, high)
 
-module _ (g : Graph) (a n : ℕ) where
+module _ (r : Reel) where
   abbrev W : ℕ → ℕ → ℤ → Type 0
-  W = wanting meaning_of g [] a n
+  W = wanting_in r
+
+  abbrev n : ℕ
+  n = moments_in r
 
   -- uses of one node's frame have the same moments
   same_moments : (u v : Use) → IsUse W n u → IsUse W n v → u.wanted.node ≡ v.wanted.node → u.wanted.frame ≡ v.wanted.frame
@@ -140,7 +161,7 @@ module _ (g : Graph) (a n : ℕ) where
       back : (j : ℕ) → W j v.wanted.node v.wanted.frame → W j u.wanted.node u.wanted.frame
       back j w = subst (λ (f : ℤ). W j u.wanted.node f) (sym frame) (subst (λ (k : ℕ). W j k v.wanted.frame) (sym node) w)
 
-  member : (us vs : List Use) → AreUsesOf g a n us → AreUsesOf g a n vs → (x : Use) → In us x → In vs x
+  member : (us vs : List Use) → AreUsesOf r us → AreUsesOf r vs → (x : Use) → In us x → In vs x
   member us vs p q x i =
       let c = contains_of us x i in
       let is = p.moments.each x c in
@@ -148,14 +169,93 @@ module _ (g : Graph) (a n : ℕ) where
       let end = is.end in
       let found = q.moments.all x.from x.wanted.node x.wanted.frame (omega (arith, order, end)) is.first in
       let y = found.use_ in
-      let there = wants_of g a n x.from x.wanted.node x.wanted.frame (omega (arith, order, end)) is.first in
-      let name = one_name g x.wanted y.wanted there.at (sym found.node) (sym found.frame) there.shows
-      (All-contains (λ (u : Use). IsNamedIn g u.wanted) us x p.names c) (All-contains (λ (u : Use). IsNamedIn g u.wanted) vs y q.names found.listed) in
+      let there = is.first in
+      let name = one_name r.graph r.edits (take_in r x.from) x.wanted y.wanted there.at (sym found.node) (sym found.frame) there.shows
+      (All-contains (λ (u : Use). IsNamedIn r.graph u.wanted) us x p.names c) (All-contains (λ (u : Use). IsNamedIn r.graph u.wanted) vs y q.names found.listed) in
       let moments = same_moments x y is (q.moments.each y found.listed) (sym found.node) (sym found.frame) in
       let same : x ≡ y = same_use x y (same_wanted x.wanted y.wanted (sym found.node) (sym found.frame) name) moments.0 moments.1 in
       subst (In vs) (sym same) (in_of vs y found.listed)
 
   -- they are one
-  pub uses_once : (us vs : List Use) → AreUsesOf g a n us → AreUsesOf g a n vs → us ≡ vs
-  uses_once us vs p q =
+  same_uses : (us vs : List Use) → AreUsesOf r us → AreUsesOf r vs → us ≡ vs
+  same_uses us vs p q =
       same_list us vs (rises_of us p.moments.order) (rises_of vs q.moments.order) (member us vs p q) (member vs us q p)
+
+-- ---- reels that render the same
+
+-- the same frames of the same graph, with takes whose edits show the same
+pub record SameReel (r s : Reel) : Type 0 where
+  pub graph : r.graph ≡ s.graph
+  pub edits : map (map edit_shown) r.edits ≡ map (map edit_shown) s.edits
+  pub first : r.first ≡ s.first
+  pub count : r.count ≡ s.count
+
+-- what moment j of such a reel wants, by what its edits show
+abbrev Wants : Graph → List (List EditShown) → ℕ → ℕ → ℕ → ℕ → ℤ → Type 0
+Wants g takes a n j k f =
+    let t = pos (frame_at a n j) in
+    IsWanted (graph_nodes meaning_of (record g { nodes = shown_nodes g.nodes takes (take_at n j) }) no_images) g.output t t k f
+
+abbrev WantsOver : Reel → ℕ → ℕ → ℤ → List (Shown Shipped) → Type 0
+WantsOver r j k f nodes =
+    let t = pos (frame_in r j) in IsWanted (graph_nodes meaning_of (record r.graph { nodes = nodes }) no_images) r.graph.output t t k f
+
+wants_shown : (r : Reel) (j k : ℕ) (f : ℤ) → wanting_in r j k f
+    → Wants r.graph (map (map edit_shown) r.edits) r.first r.count j k f
+wants_shown r j k f w = subst (WantsOver r j k f) (nodes_shown r.graph.nodes r.edits (take_in r j)) w
+
+shown_wants : (r : Reel) (j k : ℕ) (f : ℤ) → Wants r.graph (map (map edit_shown) r.edits) r.first r.count j k f
+    → wanting_in r j k f
+shown_wants r j k f w = subst (WantsOver r j k f) (sym (nodes_shown r.graph.nodes r.edits (take_in r j))) w
+
+same_wants : (r s : Reel) → SameReel r s → (j k : ℕ) (f : ℤ) → wanting_in r j k f → wanting_in s j k f
+same_wants r s same j k f w =
+    shown_wants s j k f
+    (subst (λ (n : ℕ). Wants s.graph (map (map edit_shown) s.edits) s.first n j k f) same.count
+    (subst (λ (a : ℕ). Wants s.graph (map (map edit_shown) s.edits) a r.count j k f) same.first
+    (subst (λ (es : List (List EditShown)). Wants s.graph es r.first r.count j k f) same.edits
+    (subst (λ (g : Graph). Wants g (map (map edit_shown) r.edits) r.first r.count j k f) same.graph (wants_shown r j k f w)))))
+
+pub other_way : (r s : Reel) → SameReel r s → SameReel s r
+other_way r s same = record { graph = sym same.graph; edits = sym same.edits; first = sym same.first; count = sym same.count }
+
+pub same_takes : (r s : Reel) → SameReel r s → takes_in r ≡ takes_in s
+same_takes r s same =
+    let a : length (map (map edit_shown) r.edits) ≡ length r.edits = length-map r.edits (map edit_shown) in
+    let b : length (map (map edit_shown) s.edits) ≡ length s.edits = length-map s.edits (map edit_shown) in
+    let long : length (map (map edit_shown) r.edits) ≡ length (map (map edit_shown) s.edits) = ap length same.edits in
+    omega (arith, a, b, long)
+
+pub same_count : (r s : Reel) → SameReel r s → moments_in r ≡ moments_in s
+same_count r s same = ap (λ n. n * takes_in r) same.count ∙ ap (λ n. s.count * n) (same_takes r s same)
+
+uses_as : (r s : Reel) → SameReel r s → (us : List Use) → AreUsesOf r us → AreUsesOf s us
+uses_as r s same us are =
+    record {
+      moments = subst (λ (n : ℕ). AreUses (wanting_in s) n us) (same_count r s same)
+          (record {
+            each = λ u c.
+                let is = are.moments.each u c in
+                record {
+                  order = is.order;
+                  end = is.end;
+                  first = there u.from u.wanted.node u.wanted.frame is.first;
+                  last = there u.until u.wanted.node u.wanted.frame is.last;
+                  none_before = λ i low w. is.none_before i low (back i u.wanted.node u.wanted.frame w);
+                  none_after = λ i low high w. is.none_after i low high (back i u.wanted.node u.wanted.frame w);
+                };
+            all = λ j k f low w. are.moments.all j k f low (back j k f w);
+            order = are.moments.order;
+          });
+      names = subst (λ (g : Graph). All (λ u. IsNamedIn g u.wanted) us) same.graph are.names;
+    }
+  where
+    there : (j k : ℕ) (f : ℤ) → wanting_in r j k f → wanting_in s j k f
+    there = same_wants r s same
+
+    back : (j k : ℕ) (f : ℤ) → wanting_in s j k f → wanting_in r j k f
+    back = same_wants s r (other_way r s same)
+
+-- their uses are one
+pub uses_once : (r s : Reel) (us vs : List Use) → SameReel r s → AreUsesOf r us → AreUsesOf s vs → us ≡ vs
+uses_once r s us vs same p q = same_uses s us vs (uses_as r s same us p) q

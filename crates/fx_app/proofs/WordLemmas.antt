@@ -12,7 +12,7 @@ use Rattle.fx_words.specs.declared.order.TheConstants.{MOST_CACHE, MOST_WORKERS}
 use Rattle.fx_base.specs.declared.limits.TheConstants.{LAST_FRAME, MOST_TILE_SIDE}
 use Rattle.std.specs.Prelude.{option_and_then, codes}
 use Rattle.std.proofs.lemmas.Option.{none-some, same_Some}
-use Rattle.fx_words.specs.declared.order.Mode.TheVariants.{Render, Check, Bench, Migrate}
+use Rattle.fx_words.specs.declared.order.Mode.TheVariants.{Render, Check, Bench, Migrate, Takes}
 use Rattle.fx_words.specs.declared.order.Mode.{Mode}
 use Rattle.fx_words.specs.Order.{order_of}
 
@@ -20,6 +20,7 @@ for_bench : (mode : Mode) (graph : List ℕ) → is_graph_for mode graph ≡ tru
 for_bench Render graph fits is = cc
 for_bench Check graph fits is = cc
 for_bench Migrate graph fits is = cc
+for_bench Takes graph fits is = cc
 for_bench Bench graph fits is = fits
 
 made_with : (mode : Mode) (graph : List ℕ) (first last tile cache workers : ℕ) (order : Ordered)

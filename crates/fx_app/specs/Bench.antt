@@ -13,9 +13,9 @@ use Rattle.fx_words.specs.Ordered.{Ordered}
 use Rattle.fx_words.specs.Texts.{bench_text}
 use Rattle.fx_words.specs.declared.fault.RunFault.{RunFault}
 use Rattle.fx_words.specs.declared.fault.RunFault.TheVariants as run
-use Rattle.fx_app.specs.Graphs.{Graph}
-use Rattle.fx_app.specs.Files.{AreImages, file_text, wanted_of}
-use Rattle.fx_app.specs.Run.{IsAccepted, Cause, count_in, first_in}
+use Rattle.fx_app.specs.Reels.{Reel, file_text}
+use Rattle.fx_app.specs.Files.{AreImages, wanted_of}
+use Rattle.fx_app.specs.Run.{IsAccepted, Cause, count_in}
 
 -- ---- what is rendered
 
@@ -43,9 +43,9 @@ made_for None = λ name. None
 
 -- ---- what it reports
 
--- the bytes of the files of n frames from a on, one file behind the other
-abbrev pub bytes_of : Graph → Images → ℕ → ℕ → List ℕ
-bytes_of g images a n = flat_map (file_text g images) (range_with_len a n)
+-- the bytes of the files of the first n moments, one file behind the other
+abbrev pub bytes_of : Reel → Images → ℕ → List ℕ
+bytes_of r images n = flat_map (file_text r images) (range_with_len 0 n)
 
 -- how many frames were rendered, how many bytes their files have, and the sum of these bytes
 pub record IsBenchReport (asked : Option Ordered) (text : List ℕ) : Type 0 where
@@ -53,7 +53,7 @@ pub record IsBenchReport (asked : Option Ordered) (text : List ℕ) : Type 0 whe
   pub images : Images
   pub are : AreImages (made_for asked) (wanted_of known.job.uses) images
   pub told :
-      let bytes = bytes_of known.job.graph images (first_in known.job) (count_in known.job) in
+      let bytes = bytes_of known.job.reel images (count_in known.job) in
       text ≡ bench_text (count_in known.job) (length bytes) (sum bytes)
 
 -- the report was written

@@ -9,7 +9,7 @@ use Rattle.fx_app.specs.Run.{Job, IsRefused, count_in}
 
 -- how many nodes the graph has, how many frames are to be rendered, and how many source frames they want
 abbrev pub check_report : {asked : Option Ordered} {library : Files} → Job asked library → List ℕ
-check_report job = check_text (length job.graph.nodes) (count_in job) (length job.uses)
+check_report job = check_text (length job.reel.graph.nodes) (count_in job) (length job.uses)
 
 -- the report was written
 abbrev pub HasChecked : Option Ordered → Files → List ℕ → List ℕ → Type 0

@@ -30,11 +30,11 @@ pub record KeepsCrew (old new : Crew) (count : TileCount) : Type 0 where
   pub shared : new.shared ≡ old.shared
   pub weight : seat_weight new.seat ≡ plus (seat_weight old.seat) (count_weight count)
 
--- those who rendered a scene of which this one has grown
+-- those who rendered a scene of which this one has grown, with as many nodes
 pub record KnewScene (scene : Shot Shipped) (crew : Crew) : Type 0 where
   pub was : Shot Shipped
   pub is : IsCrew was crew
-  pub graph : scene.graph ≡ was.graph
+  pub nodes : length scene.graph.nodes ≡ length was.graph.nodes
   pub grown : HasGrownTo was scene
 
 -- they render this scene over the same grid, with a directory of as many, and what landed and was found kept through

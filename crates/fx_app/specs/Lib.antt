@@ -1,5 +1,7 @@
 pub mod Words
+pub mod Takes
 pub mod Graphs
+pub mod Reels
 pub mod Texts
 pub mod Files
 pub mod Tiles

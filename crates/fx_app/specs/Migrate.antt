@@ -12,7 +12,7 @@ use Rattle.fx_words.specs.Ordered.{Ordered}
 use Rattle.fx_words.specs.Texts.{migrate_text}
 use Rattle.fx_words.specs.declared.fault.RunFault.{RunFault}
 use Rattle.fx_words.specs.declared.fault.RunFault.TheVariants as run
-use Rattle.fx_app.specs.Graphs.{Graph, graph_of, raw_of}
+use Rattle.fx_app.specs.Graphs.{FileShown, graph_of, raw_of}
 use Rattle.fx_app.specs.Files.{with_file}
 use Rattle.fx_app.specs.Run.{IsRefused}
 
@@ -36,16 +36,16 @@ pub record Migration (asked : Option Ordered) (library : Files) : Type 0 where
   pub ordered : asked ≡ Some order
   pub bytes : List ℕ
   pub told : library order.graph ≡ Some bytes
-  pub graph : Graph
-  pub is : graph_of bytes ≡ Ok graph
+  pub file : FileShown
+  pub is : graph_of bytes ≡ Ok file
   pub plain : slash_in bytes ≡ None
 
 -- a graph under the name, of which a name of format 1 has a slash
 pub record IsSlashed (library : Files) (name : List ℕ) (code : GraphCode) (path : List ℕ) : Type 0 where
   pub bytes : List ℕ
   pub told : library name ≡ Some bytes
-  pub graph : Graph
-  pub is : graph_of bytes ≡ Ok graph
+  pub file : FileShown
+  pub is : graph_of bytes ≡ Ok file
   pub slash : slash_in bytes ≡ Some (refusal code path)
 
 -- an order of such a graph
@@ -72,7 +72,7 @@ pub record HasMigrated (asked : Option Ordered) (library old new : Files) : Type
 
 -- how many nodes the graph has, with its groups expanded
 abbrev pub migrate_report : {asked : Option Ordered} {library : Files} → Migration asked library → List ℕ
-migrate_report migration = migrate_text (length migration.graph.nodes)
+migrate_report migration = migrate_text (length migration.file.graph.nodes)
 
 -- the report was written
 abbrev pub HasToldNodes : Option Ordered → Files → List ℕ → List ℕ → Type 0

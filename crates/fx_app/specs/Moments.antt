@@ -1,5 +1,5 @@
 -- The moments of a run, one after another: what is made of each, and how they end.
-use Rattle.std.specs.Prelude.{◌≡◌, ◌≢◌, ◌+◌, ℕ, ℤ, List, Option, Some, None, option_map}
+use Rattle.std.specs.Prelude.{◌≡◌, ◌≢◌, ℕ, List, Option, option_map}
 use Rattle.fx_outside.specs.Outside.{Files}
 use Rattle.fx_image.specs.Stored.{image_of}
 use Rattle.fx_seq.specs.declared.source.SourceFrame.{SourceFrame}
@@ -11,19 +11,19 @@ use Rattle.fx_words.specs.Ordered.{Ordered}
 use Rattle.fx_words.specs.declared.fault.RunFault.{RunFault}
 use Rattle.fx_words.specs.declared.fault.RunFault.TheVariants as run
 use Rattle.fx_app.specs.Ended.{Calls}
-use Rattle.fx_app.specs.Files.{AreImages, HasGained, file_name, file_text, wanted_of}
-use Rattle.fx_app.specs.Graphs.{Graph}
-use Rattle.fx_app.specs.Run.{Cause, IsAccepted, Leaves, LeavesDepot, LeavesLibrary, Rose, count_in, first_in}
+use Rattle.fx_app.specs.Files.{AreImages, HasGained, wanted_of}
+use Rattle.fx_app.specs.Reels.{Reel, file_name, file_text}
+use Rattle.fx_app.specs.Run.{Cause, IsAccepted, Leaves, LeavesDepot, LeavesLibrary, Rose, count_in}
 use Rattle.fx_app.specs.Tiles.{HasCounted}
 
 -- the images of frames that were read
 abbrev pub images_of : List SourceFrame → Images
 images_of frames n f = option_map image_of (frames_in frames n f)
 
--- the file of moment m of a run from frame a on, over the frames that were read up to it
-pub record IsMomentFile (g : Graph) (a : ℕ) (seen : List SourceFrame) (m : ℕ) (made : Made) : Type 0 where
-  pub name : made.name ≡ file_name g (a + m)
-  pub text : made.bytes.items ≡ file_text g (images_of seen) (a + m)
+-- the file of moment m, over the frames that were read up to it
+pub record IsMomentFile (r : Reel) (seen : List SourceFrame) (m : ℕ) (made : Made) : Type 0 where
+  pub name : made.name ≡ file_name r m
+  pub text : made.bytes.items ≡ file_text r (images_of seen) m
 
 -- Every moment's file was put, and nothing else; so many window tiles became what the count tells
 pub record HasRendered (tells : Type 0) (asked : Option Ordered) (library old new : Files) (count : TileCount)
@@ -31,10 +31,10 @@ pub record HasRendered (tells : Type 0) (asked : Option Ordered) (library old ne
   pub known : IsAccepted asked library
   pub images : Images
   pub are : AreImages library (wanted_of known.job.uses) images
-  pub gained : tells → HasGained known.job.graph images (first_in known.job) (count_in known.job) old new
+  pub gained : tells → HasGained known.job.reel images (count_in known.job) old new
   pub counted :
       let order = known.job.order in
-      HasCounted known.job.graph images order.tile order.cache (first_in known.job) (count_in known.job) count
+      HasCounted known.job.reel images order.tile order.cache (count_in known.job) count
 
 -- The moments end early, with a fault of a source frame, of a file, or want of memory
 pub record Stops (reads puts : Type 0) (asked : Option Ordered) (library : Files) (fetched put : Calls)

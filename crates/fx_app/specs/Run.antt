@@ -13,41 +13,39 @@ use Rattle.fx_seq.specs.Filling.{IsQuiet}
 use Rattle.fx_seq.specs.Moments.{due_until}
 use Rattle.fx_text.specs.declared.fault.GraphCode.{GraphCode}
 use Rattle.fx_graph.specs.Refusal.{refusal}
-use Rattle.fx_region.specs.Counts.{count_ends}
+use Rattle.fx_region.specs.Counts.{TileCounts, count_ends}
 use Rattle.fx_region.specs.Ends.{EndShown}
-use Rattle.fx_scene.specs.Scenes.{Images, graph_nodes}
-use Rattle.fx_shipped.specs.Shipped.{meaning_of}
-use Rattle.fx_tile.specs.Moments.{renders_for}
+use Rattle.fx_scene.specs.Scenes.{Images}
 use Rattle.fx_words.specs.Ordered.{Ordered}
-use Rattle.fx_words.specs.Texts.{render_text, report_text}
+use Rattle.fx_words.specs.Texts.{render_text, report_text, takes_text}
+use Rattle.fx_words.specs.declared.order.Mode.{Mode}
+use Rattle.fx_words.specs.declared.order.Mode.TheVariants.{Takes}
 use Rattle.fx_words.specs.declared.report.Report.{Report}
 use Rattle.fx_words.specs.declared.fault.FrameFault.{FrameFault}
 use Rattle.fx_words.specs.declared.fault.FrameFault.TheVariants as fault
 use Rattle.fx_words.specs.declared.fault.RunFault.{RunFault}
 use Rattle.fx_words.specs.declared.fault.RunFault.TheVariants as run
-use Rattle.fx_app.specs.Graphs.{Graph, graph_under, name_at, first_of, last_of, frame_count}
-use Rattle.fx_app.specs.Files.{AreAccepted, AreImages, AreUsesOf, HasGained, HasGainedBut, IsReachedAt, IsRefusedAt, file_name, wanted_of}
-use Rattle.fx_app.specs.Tiles.{ends_in}
+use Rattle.fx_app.specs.Graphs.{FileShown, Graph, graph_under, name_at}
+use Rattle.fx_app.specs.Reels.{IsReelOf, Reel, file_name, moments_in, takes_in}
+use Rattle.fx_app.specs.Files.{AreAccepted, AreImages, AreUsesOf, HasGained, HasGainedBut, IsReachedAt, IsRefusedAt, wanted_of}
+use Rattle.fx_app.specs.Tiles.{ends_in, renders_in}
 
 -- ---- what is asked for
 
--- an order of a graph that the library tells, whose frames use these source frames
+-- an order of a graph that the library tells, what it renders, and the source frames that its moments use
 pub record Job (asked : Option Ordered) (library : Files) : Type 0 where
   pub order : Ordered
   pub ordered : asked ≡ Some order
-  pub graph : Graph
-  pub there : graph_under library order.graph ≡ Some (Ok graph)
+  pub file : FileShown
+  pub there : graph_under library order.graph ≡ Some (Ok file)
+  pub reel : Reel
+  pub is : IsReelOf order file reel
   pub uses : List Use
-  pub are :
-      let a = first_of graph order in
-      AreUsesOf graph a (frame_count a (last_of graph order)) uses
+  pub are : AreUsesOf reel uses
 
--- the first frame of the job, and how many it has, which are its moments
-abbrev pub first_in : {asked : Option Ordered} {library : Files} → Job asked library → ℕ
-first_in job = first_of job.graph job.order
-
+-- how many moments the job has
 abbrev pub count_in : {asked : Option Ordered} {library : Files} → Job asked library → ℕ
-count_in job = frame_count (first_of job.graph job.order) (last_of job.graph job.order)
+count_in job = moments_in job.reel
 
 -- an order of a graph that the library tells, and at no moment a source frame is refused
 pub record IsAccepted (asked : Option Ordered) (library : Files) : Type 0 where
@@ -72,7 +70,7 @@ pub record HasPut (asked : Option Ordered) (library : Files) (n : ℕ) (old new 
   pub accepted : AreAccepted library job.uses n
   pub images : Images
   pub are : AreImages library (due_until job.uses n) images
-  pub gained : HasGained job.graph images (first_in job) n old new
+  pub gained : HasGained job.reel images n old new
 
 -- the same of n moments, but the file of the moment behind them, which has this name, holds anything or is absent
 pub record HasPutBut (asked : Option Ordered) (library : Files) (n : ℕ) (file : List ℕ) (old new : Files) : Type 0 where
@@ -81,31 +79,36 @@ pub record HasPutBut (asked : Option Ordered) (library : Files) (n : ℕ) (file 
   pub accepted : AreAccepted library job.uses (n + 1)
   pub images : Images
   pub are : AreImages library (due_until job.uses n) images
-  pub file_is : file ≡ file_name job.graph (first_in job + n)
-  pub gained : HasGainedBut job.graph images (first_in job) n old new
+  pub file_is : file ≡ file_name job.reel n
+  pub gained : HasGainedBut job.reel images n old new
 
 -- the file of every moment was put, and nothing else
 pub record HasPutAll (asked : Option Ordered) (library : Files) (old new : Files) : Type 0 where
   pub known : IsAccepted asked library
   pub images : Images
   pub are : AreImages library (wanted_of known.job.uses) images
-  pub gained : HasGained known.job.graph images (first_in known.job) (count_in known.job) old new
+  pub gained : HasGained known.job.reel images (count_in known.job) old new
 
 -- ---- what it reports
 
--- where the window tiles of the job's frames are found
+-- where the window tiles of the job's moments are found
 abbrev pub tile_ends : {asked : Option Ordered} {library : Files} → Job asked library → Images → List EndShown
-tile_ends job images = ends_in job.graph images job.order.tile (first_in job) (count_in job)
+tile_ends job images = ends_in job.reel images job.order.tile (count_in job)
 
 -- how many renders those of them need that are renders
-abbrev pub renders_in : {asked : Option Ordered} {library : Files} → Job asked library → Images → ℕ
-renders_in job images =
-    renders_for (graph_nodes meaning_of job.graph images) job.order.tile (tile_ends job images)
+abbrev pub tile_renders : {asked : Option Ordered} {library : Files} → Job asked library → Images → ℕ
+tile_renders job images = renders_in job.reel images job.order.tile (count_in job)
 
--- How many frames were rendered, and how many window tiles they have; how many of these are found nowhere, in a source's
--- frame, and in a render; how many renders landed, and how many were found kept. As many landed or were found kept, at
--- least, as are asked for. Where nothing may be kept, none was found kept, and at least as many landed as are asked for
--- and as these need.
+-- the lines of a report, in mode `takes` with the number of takes
+abbrev pub lines_for : Mode → ℕ → ℕ → TileCounts → ℕ → ℕ → List ℕ
+lines_for Takes takes frames n landed hits =
+    takes_text takes frames n.tiles n.void_tiles n.passed n.asked landed hits
+lines_for other takes frames n landed hits = render_text frames n.tiles n.void_tiles n.passed n.asked landed hits
+
+-- How many takes and frames were rendered, and how many window tiles they have; how many of these are found nowhere, in
+-- a source's frame, and in a render; how many renders landed, and how many were found kept. As many landed or were found
+-- kept, at least, as are asked for. Where nothing may be kept, none was found kept, and at least as many landed as are
+-- asked for and as these need.
 pub record IsRenderReport (asked : Option Ordered) (library : Files) (text : List ℕ) : Type 0 where
   pub known : IsAccepted asked library
   pub images : Images
@@ -113,13 +116,13 @@ pub record IsRenderReport (asked : Option Ordered) (library : Files) (text : Lis
   pub landed : ℕ
   pub hits : ℕ
   pub told :
-      let n = count_ends (tile_ends known.job images) in
-      text ≡ render_text (count_in known.job) n.tiles n.void_tiles n.passed n.asked landed hits
+      let job = known.job in
+      text ≡ lines_for job.order.mode (takes_in job.reel) (count_in job) (count_ends (tile_ends job images)) landed hits
   pub enough : (count_ends (tile_ends known.job images)).asked ≤ hits + landed
   pub none_kept :
       known.job.order.cache ≡ 0
       → (hits ≡ 0)
-      × ((count_ends (tile_ends known.job images)).asked + renders_in known.job images ≤ landed)
+      × ((count_ends (tile_ends known.job images)).asked + tile_renders known.job images ≤ landed)
 
 -- the report was written
 abbrev pub HasTold : Option Ordered → Files → List ℕ → List ℕ → Type 0
@@ -163,11 +166,11 @@ Cause asked library j run.Usage = asked ≡ None
 Cause asked library j (run.Graph code path) = IsRefused asked library code path
 Cause asked library j (run.Frame node t why) =
     (job : Job asked library) × (j < count_in job) × (first : SeqFault) × IsRefusedAt library job.uses j first
-    × IsToldAs job.graph first node t why
+    × IsToldAs job.reel.graph first node t why
 Cause asked library j (run.Read name) = IsReadName asked library j name
 Cause asked library j (run.Write name) =
     (job : Job asked library) × (j < count_in job) × AreAccepted library job.uses (j + 1)
-    × (file_name job.graph (first_in job + j) ≡ name)
+    × (file_name job.reel j ≡ name)
 Cause asked library j run.Memory = Unit {0}
 Cause asked library j run.Report = IsAccepted asked library
 

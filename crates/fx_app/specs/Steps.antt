@@ -14,7 +14,8 @@ use Rattle.fx_app.specs.declared.frames.PutFailure.{PutFailure}
 use Rattle.fx_app.specs.declared.frames.PutFailure.TheVariants as put
 use Rattle.fx_app.specs.declared.report.ReportFailure.{ReportFailure}
 use Rattle.fx_app.specs.declared.report.ReportFailure.TheVariants as report
-use Rattle.fx_app.specs.Graphs.{Graph, graph_of, graph_under, frame_count}
+use Rattle.fx_app.specs.Graphs.{FileShown, Graph, graph_of, graph_under}
+use Rattle.fx_app.specs.Reels.{Reel}
 use Rattle.fx_app.specs.Files.{AreUsesOf}
 use Rattle.fx_app.specs.Run.{IsToldAs}
 use Rattle.fx_app.specs.Migrate.{slash_in, IsSlashed}
@@ -57,9 +58,9 @@ GraphCause library name graph.Memory = Unit {0}
 
 -- ---- the source frames
 
--- the frames from a to b want that many source frames
-abbrev pub WantsAsMany : Graph → ℕ → ℕ → ℕ → Type 0
-WantsAsMany g a b count = (uses : List Use) × AreUsesOf g a (frame_count a b) uses × (count ≡ length uses)
+-- the moments want that many source frames
+abbrev pub WantsAsMany : Reel → ℕ → Type 0
+WantsAsMany r count = (uses : List Use) × AreUsesOf r uses × (count ≡ length uses)
 
 -- the refusal of a frame by the name of its node, where memory is there for that
 abbrev pub IsRefusedAs : Graph → SeqFault → RunFault → Type 0
@@ -125,10 +126,10 @@ AreShort files = (name : List ℕ) → length (bytes_under files name) ≤ MOST_
 pub record IsMigrationOf (library : Files) (name : List ℕ) (nodes : ℕ) (text : List ℕ) : Type 0 where
   pub bytes : List ℕ
   pub told : library name ≡ Some bytes
-  pub graph : Graph
-  pub is : graph_of bytes ≡ Ok graph
+  pub file : FileShown
+  pub is : graph_of bytes ≡ Ok file
   pub plain : slash_in bytes ≡ None
-  pub many : nodes ≡ length graph.nodes
+  pub many : nodes ≡ length file.graph.nodes
   pub made : IsMigrated bytes text
   pub same : graph_of text ≡ graph_of bytes
 
@@ -140,22 +141,22 @@ MigrationCause library name graph.Memory = Unit {0}
 
 -- the same of bytes
 pub record IsMigrationIn (bytes : List ℕ) (nodes : ℕ) (text : List ℕ) : Type 0 where
-  pub graph : Graph
-  pub is : graph_of bytes ≡ Ok graph
+  pub file : FileShown
+  pub is : graph_of bytes ≡ Ok file
   pub plain : slash_in bytes ≡ None
-  pub many : nodes ≡ length graph.nodes
+  pub many : nodes ≡ length file.graph.nodes
   pub made : IsMigrated bytes text
   pub same : graph_of text ≡ graph_of bytes
 
 -- the bytes' graph; a name of it has no slash, and a text that says the same in format 2 is the same graph
-pub record IsPlainGraph (bytes : List ℕ) (graph : Graph) : Type 0 where
-  pub is : graph_of bytes ≡ Ok graph
+pub record IsPlainGraph (bytes : List ℕ) (file : FileShown) : Type 0 where
+  pub is : graph_of bytes ≡ Ok file
   pub plain : slash_in bytes ≡ None
-  pub stays : (text : List ℕ) → IsSameGraph bytes text → graph_of text ≡ Ok graph
+  pub stays : (text : List ℕ) → IsSameGraph bytes text → graph_of text ≡ Ok file
 
 -- the bytes are no graph, or a name of format 1 has a slash
 abbrev pub MigrationRefused : List ℕ → GraphFault → Type 0
 MigrationRefused bytes fault.Memory = Unit {0}
 MigrationRefused bytes (fault.Refused code path) =
     (graph_of bytes ≡ Err (refusal code path))
-    ⊎ ((graph : Graph) × (graph_of bytes ≡ Ok graph) × (slash_in bytes ≡ Some (refusal code path)))
+    ⊎ ((file : FileShown) × (graph_of bytes ≡ Ok file) × (slash_in bytes ≡ Some (refusal code path)))

@@ -13,15 +13,16 @@ use Rattle.fx_app.specs.declared.making.Making.{Making}
 use Rattle.fx_app.specs.Graphs.{Graph}
 use Rattle.fx_app.specs.Making.{MayMake, Plan}
 use Rattle.fx_app.specs.Moments.{IsMomentFile}
+use Rattle.fx_app.specs.Reels.{moments_in}
 use Rattle.fx_app.specs.Steps.{IsSourceFault}
 
 -- the moments of the schedule, which are those of the plan, flow from a first state to one now, in which nothing waits
 -- that was read or made
 pub record IsUnderWay (reads puts : Type 0) (p : Plan) (schedule : Schedule) (start now : State) (line : Line)
     (m : Making) : Type 0 where
-  pub many : p.count ≡ schedule.moments
+  pub many : moments_in p.reel ≡ schedule.moments
   pub may : MayMake p schedule.uses.now 0 m
-  pub flows : FlowsIn reads puts (IsMomentFile p.graph p.first) schedule start now line
+  pub flows : FlowsIn reads puts (IsMomentFile p.reel) schedule start now line
   pub fetched : line.fetched.items ≡ []
   pub made : line.made.items ≡ []
 

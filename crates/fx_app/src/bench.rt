@@ -12,7 +12,6 @@ ghost use Rattle.fx_words.specs.Texts.{report_text};
 ghost use Rattle.fx_words.specs.declared.order.Mode.TheVariants as mode;
 ghost use Rattle.fx_words.specs.declared.fault.RunFault.TheVariants.{Memory as OutOfMemory};
 ghost use Rattle.fx_app.specs.Graphs.{frame_count};
-ghost use Rattle.fx_app.specs.Files.{file_name};
 ghost use Rattle.fx_app.specs.Bench.{number_of, made_files, made_of, IsBenchReport, HasBenched};
 ghost use Rattle.fx_app.specs.Ended.{calls, Ended};
 ghost use Rattle.fx_app.specs.Run.{IsAccepted};
@@ -45,7 +44,8 @@ pub(crate) fn bench<R: Threads + Wait + Clock + Sync, O: Sink, P: Pace>(
     order: &Order,
     out: &mut O,
 ) -> Result<(), RunFault>
-    requires { IsTrue (is_bench_number order.now.graph) }
+    requires number { IsTrue (is_bench_number order.now.graph) }
+    requires in_mode { order.now.mode ≡ mode.Bench }
     ensures benched { OnOk result (IsAccepted (Some order.now) (made_of order.now.graph)) }
     ensures told { O.tells → OnOk result (HasBenched (Some order.now) (O.written out.old) (O.written out.new)) }
     ensures quiet_out { OnOk result (O.faults out.new ≡ O.faults out.old) }
@@ -69,17 +69,18 @@ fn bench_report<R: Threads + Wait + Clock + Sync, P: Pace>(
     pace: &P,
     order: &Order,
 ) -> Result<Report, RunFault>
-    requires { IsTrue (is_bench_number order.now.graph) }
+    requires number { IsTrue (is_bench_number order.now.graph) }
+    requires in_mode { order.now.mode ≡ mode.Bench }
     ensures ok { IfOk result (λ report. IsBenchReport (Some order.now) (report_text report)) }
     ensures cause { IfErr result (λ e. IsMakingFault (Some order.now) e) }
 {
     let mut library = made_of(alloc, &order.graph)?;
     let mut depot = SureDepot::new(alloc);
-    let graph = graph_of(alloc, &order.graph, &mut library)?;
-    let first = first_of(&graph, order);
-    let last = last_of(&graph, order);
-    let names = file_names(alloc, &graph, first, last)?;
-    put_moments(rt, alloc, pace, order, graph, &mut library, &mut depot)?;
+    let file = graph_of(alloc, &order.graph, &mut library)?;
+    let first = first_of(&file.graph, order);
+    let last = last_of(&file.graph, order);
+    let names = file_names(alloc, &file.graph, first, last)?;
+    put_moments(rt, alloc, pace, order, file, &mut library, &mut depot)?;
     let totals = totals_of(&names, &depot);
     Ok(Report::Bench {
         frames: frame_count(first, last),
@@ -126,7 +127,7 @@ fn file_names(
 ) -> Result<Vec<Name>, RunFault>
     requires { last ≤ LAST_FRAME }
     ensures names { let n = frame_count first last in
-        IfOk result (λ names. names.items ≡ map (file_name (graph_shown graph.now)) (range_with_len first n)) }
+        IfOk result (λ names. names.items ≡ map (name_of (graph_shown graph.now).file) (range_with_len first n)) }
     ensures files { HasFiles (graph_shown graph.now) }
     ensures err { IfErr result (λ e. e ≡ OutOfMemory) }
 {

@@ -22,6 +22,7 @@ pub(crate) fn check<L: Library, O: Sink>(
     library: &mut L,
     out: &mut O,
 ) -> Result<(), RunFault>
+    requires { order.now.mode ≡ mode.Check }
     ensures checked { L.tells → OnOk result (Job (Some order.now) (L.file library.old)) }
     ensures told { L.tells → O.tells
         → OnOk result (HasChecked (Some order.now) (L.file library.old) (O.written out.old) (O.written out.new)) }
@@ -39,13 +40,13 @@ pub(crate) fn check<L: Library, O: Sink>(
         IfErr result (λ e. Ended (Some mode.Check) L.tells (Unit {0}) O.tells (Some order.now) (L.file library.old)
         fetches puts writes files texts e) }
 {
-    let graph = graph_of(alloc, &order.graph, library)?;
-    let first = first_of(&graph, order);
-    let last = last_of(&graph, order);
+    let file = graph_of(alloc, &order.graph, library)?;
+    let first = first_of(&file.graph, order);
+    let last = last_of(&file.graph, order);
     let report = Report::Check {
-        nodes: node_count(&graph),
+        nodes: node_count(&file.graph),
         frames: frame_count(first, last),
-        wanted: count_wanted(alloc, &graph, first, last)?,
+        wanted: count_wanted(alloc, &file.graph, first, last)?,
     };
     report_lines(alloc, out, &report)?;
     Ok(())

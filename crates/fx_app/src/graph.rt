@@ -1,10 +1,13 @@
-//! From a graph's name to the graph.
-ghost use Rattle.std.specs.Prelude.{◌≡◌, ◌≤◌, ◌⊎◌, Some, Ok, IfOk, IfErr, OnOk, length};
+//! From a graph's name to the graph with its takes.
+ghost use Rattle.std.specs.Prelude.{◌≡◌, ◌≤◌, ◌+◌, ◌⊎◌, Some, Ok, IfOk, IfErr, OnOk, length};
 ghost use Rattle.fx_outside.specs.Outside.{SameFiles};
 ghost use Rattle.fx_seq.specs.Filling.{IsQuiet};
 ghost use Rattle.fx_text.specs.Answers.{Refuses};
+ghost use Rattle.fx_text.specs.declared.raw.TheConstants.{MOST_TAKES};
 ghost use Rattle.fx_scene.specs.Scenes.{graph_shown};
-ghost use Rattle.fx_app.specs.Graphs.{accepted_of, graph_of, graph_under, raw_of};
+ghost use Rattle.fx_app.specs.Graphs.{accepted_of, file_shown, graph_of, graph_under, raw_of};
+ghost use Rattle.fx_app.specs.Reels.{takes_for};
+ghost use Rattle.fx_app.specs.Takes.{AreTakesOf};
 ghost use Rattle.fx_app.specs.Steps.{graph_fault, GraphCause, GraphFetch};
 ghost use Rattle.fx_app.specs.declared.graph.GraphFailure.TheVariants.{Memory as OutOfMemory, Read as NotRead};
 
@@ -14,10 +17,17 @@ use fx_graph::{Graph, accept};
 use fx_group::expand;
 use fx_outside::{FetchFault, Library};
 use fx_shipped::Shipped;
-use fx_takes::accept_takes;
+use fx_takes::{Takes, accept_takes};
 use fx_text::{GraphCode, GraphFault, GraphPath, RawGraph, read_graph};
-use fx_words::RunFault;
+use fx_words::{Mode, RunFault};
 use std::alloc::Global;
+
+/// The graph of a file as it is written, and its takes.
+#[derive(Drop)]
+pub(crate) struct GraphFile {
+    pub graph: Graph<Shipped>,
+    pub takes: Takes,
+}
 
 /// Why there is no graph.
 #[derive(Debug, Drop)]
@@ -50,13 +60,15 @@ impl From<GraphFailure> for RunFault {
     }
 }
 
-/// The graph whose bytes the library has under a name.
+/// The graph whose bytes the library has under a name, and its takes.
 pub(crate) fn graph_of<L: Library>(
     alloc: Global,
     name: &Name,
     library: &mut L,
-) -> Result<Graph<Shipped>, GraphFailure>
-    ensures ok { L.tells → IfOk result (λ g. graph_under (L.file library.old) name.now ≡ Some (Ok (graph_shown g))) }
+) -> Result<GraphFile, GraphFailure>
+    ensures ok { L.tells
+        → IfOk result (λ file. graph_under (L.file library.old) name.now ≡ Some (Ok (file_shown file))) }
+    ensures takes { IfOk result (λ file. AreTakesOf (graph_shown file.graph).nodes file.takes.list.items) }
     ensures quiet { let last = L.last library.new in
         OnOk result (IsQuiet (L.faults library.old) (L.faults library.new) (L.last library.old) last) }
     ensures cause { L.tells → IfErr result (λ e. GraphCause (L.file library.old) name.now e) }
@@ -67,7 +79,7 @@ pub(crate) fn graph_of<L: Library>(
 {
     let bytes = fetch(alloc, name, library)?;
     match graph_in(alloc, &bytes) {
-        Ok(graph) => Ok(graph),
+        Ok(file) => Ok(file),
         Err(GraphFault::Refused(code, path)) => Err(GraphFailure::Refused(code, path)),
         Err(GraphFault::Memory) => Err(GraphFailure::Memory),
     }
@@ -81,8 +93,9 @@ pub(crate) fn node_count(graph: &Graph<Shipped>) -> u64
 }
 
 // The graph that the bytes are.
-fn graph_in(alloc: Global, bytes: &[u8]) -> Result<Graph<Shipped>, GraphFault>
-    ensures ok { IfOk result (λ g. graph_of bytes.now ≡ Ok (graph_shown g)) }
+fn graph_in(alloc: Global, bytes: &[u8]) -> Result<GraphFile, GraphFault>
+    ensures ok { IfOk result (λ file. graph_of bytes.now ≡ Ok (file_shown file)) }
+    ensures takes { IfOk result (λ file. AreTakesOf (graph_shown file.graph).nodes file.takes.list.items) }
     ensures refused { Refuses result (graph_of bytes.now) }
 {
     let raw = raw_of(alloc, bytes)?;
@@ -98,15 +111,47 @@ pub(crate) fn raw_of(alloc: Global, bytes: &[u8]) -> Result<RawGraph, GraphFault
     expand(alloc, raw)
 }
 
-/// The graph that is said so, as it is written: its takes are looked at, and left.
-pub(crate) fn accepted_of(alloc: Global, mut raw: RawGraph) -> Result<Graph<Shipped>, GraphFault>
-    ensures ok { IfOk result (λ g. accepted_of raw ≡ Ok (graph_shown g)) }
+/// The graph that is said so, and its takes.
+pub(crate) fn accepted_of(alloc: Global, mut raw: RawGraph) -> Result<GraphFile, GraphFault>
+    ensures ok { IfOk result (λ file. accepted_of raw ≡ Ok (file_shown file)) }
+    ensures takes { IfOk result (λ file. AreTakesOf (graph_shown file.graph).nodes file.takes.list.items) }
     ensures refused { Refuses result (accepted_of raw) }
 {
     let takes = raw.take_takes(alloc);
     let graph = accept::<Shipped>(alloc, raw)?;
-    accept_takes(alloc, &graph, takes)?;
-    Ok(graph)
+    let takes = accept_takes(alloc, &graph, takes)?;
+    Ok(GraphFile { graph, takes })
+}
+
+/// The graph with those of its takes that are rendered in a mode: in mode `takes` all of them, and else none.
+pub(crate) fn ordered_takes(alloc: Global, mode: Mode, file: GraphFile) -> GraphFile
+    requires { AreTakesOf (graph_shown file.graph).nodes file.takes.list.items }
+    ensures shown { let takes = takes_for mode (file_shown file).takes in
+        file_shown result ≡ record (file_shown file) { takes = takes } }
+    ensures takes { AreTakesOf (graph_shown result.graph).nodes result.takes.list.items }
+{
+    match mode {
+        Mode::Takes => file,
+        Mode::Render | Mode::Check | Mode::Bench | Mode::Migrate => {
+            let GraphFile { graph, .. } = file;
+            let takes = Takes {
+                list: Vec::new(alloc),
+            };
+            GraphFile { graph, takes }
+        }
+    }
+}
+
+/// How many takes are rendered in a mode, the graph as written among them.
+pub(crate) fn take_count(mode: Mode, file: &GraphFile) -> u64
+    requires { length file.now.takes.list.items ≤ MOST_TAKES }
+    ensures count { result ≡ length (takes_for mode (file_shown file.now).takes) + 1 }
+    ensures few { result ≤ MOST_TAKES + 1 }
+{
+    match mode {
+        Mode::Takes => file.takes.list.len() as u64 + 1,
+        Mode::Render | Mode::Check | Mode::Bench | Mode::Migrate => 1,
+    }
 }
 
 /// The bytes that the library has under a graph's name.

@@ -2,22 +2,20 @@
 ghost use Rattle.std.specs.Prelude.{◌≡◌, ℕ, List, IfOk, IfErr, OnOk, Some, string_bytes};
 ghost use Rattle.fx_outside.specs.Outside.{Files, SameFiles};
 ghost use Rattle.fx_seq.specs.Filling.{IsQuiet};
-ghost use Rattle.fx_scene.specs.Scenes.{graph_shown};
 ghost use Rattle.fx_words.specs.declared.order.Mode.TheVariants as mode;
 ghost use Rattle.fx_app.specs.Files.{with_file};
+ghost use Rattle.fx_app.specs.Graphs.{file_shown};
 ghost use Rattle.fx_app.specs.Migrate.{migrated_name, Migration, HasMigrated, HasToldNodes};
 ghost use Rattle.fx_app.specs.Ended.{calls, Ended};
 ghost use Rattle.fx_app.specs.Steps.{GraphFetch, FilePut, LeavesFile};
 ghost use Rattle.fx_app.specs.Steps.{IsMigrationOf, MigrationCause, IsMigrationIn, IsPlainGraph, MigrationRefused};
 
 use crate::frames::PutFailure;
-use crate::graph::{GraphFailure, accepted_of, fetch, node_count, raw_of};
+use crate::graph::{GraphFailure, GraphFile, accepted_of, fetch, node_count, raw_of};
 use crate::report::report_lines;
 use fx_base::{Memory, Name};
-use fx_graph::Graph;
 use fx_group::check_names;
 use fx_outside::{Depot, Library, PutFault, Sink};
-use fx_shipped::Shipped;
 use fx_text::{GraphFault, migrated};
 use fx_words::{Order, Report, RunFault};
 use std::alloc::Global;
@@ -93,24 +91,24 @@ fn migration_in(alloc: Global, bytes: &[u8]) -> Result<FormatTwo, GraphFault>
     ensures ok { IfOk result (λ m. IsMigrationIn bytes.now m.nodes (string_bytes m.text)) }
     ensures refused { IfErr result (λ e. MigrationRefused bytes.now e) }
 {
-    let graph = plain_graph(alloc, bytes)?;
+    let file = plain_graph(alloc, bytes)?;
     let text = migrated(alloc, bytes)?;
     Ok(FormatTwo {
-        nodes: node_count(&graph),
+        nodes: node_count(&file.graph),
         text,
     })
 }
 
 // The graph of the bytes. A slash in a name of format 1 is refused after every other fault.
-fn plain_graph(alloc: Global, bytes: &[u8]) -> Result<Graph<Shipped>, GraphFault>
-    ensures ok { IfOk result (λ g. IsPlainGraph bytes.now (graph_shown g)) }
+fn plain_graph(alloc: Global, bytes: &[u8]) -> Result<GraphFile, GraphFault>
+    ensures ok { IfOk result (λ file. IsPlainGraph bytes.now (file_shown file)) }
     ensures refused { IfErr result (λ e. MigrationRefused bytes.now e) }
 {
     let raw = raw_of(alloc, bytes)?;
     let named = check_names(alloc, &raw);
-    let graph = accepted_of(alloc, raw)?;
+    let file = accepted_of(alloc, raw)?;
     named?;
-    Ok(graph)
+    Ok(file)
 }
 
 fn put_migrated<D: Depot>(

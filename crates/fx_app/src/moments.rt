@@ -1,9 +1,10 @@
 //! The moments of a run: the source frames of each are read, its picture is rendered, and its file is put before the
 //! next.
-ghost use Rattle.std.specs.Prelude.{◌≡◌, ◌≢◌, ◌≤◌, [], Some, Ok, IfErr, IfNone, IfOk, IfSome, OnOk};
+ghost use Rattle.std.specs.Prelude.{◌≡◌, ◌≢◌, ◌≤◌, ◌+◌, ◌*◌, length, [], Some, Ok, IfErr, IfNone, IfOk, IfSome, OnOk};
 ghost use Rattle.fx_base.specs.declared.limits.TheConstants.{LAST_FRAME, MOST_SIDE};
 ghost use Rattle.fx_life.specs.Posts.{HasLife};
 ghost use Rattle.fx_seq.specs.Filling.{IsQuiet};
+ghost use Rattle.fx_text.specs.declared.raw.TheConstants.{MOST_TAKES};
 ghost use Rattle.fx_pipe.specs.declared.end.PipeEnd.TheVariants.{Done};
 ghost use Rattle.fx_pipe.specs.Ends.{Ended, State, state_of};
 ghost use Rattle.fx_pipe.specs.Reads.{IsSchedule};
@@ -12,24 +13,27 @@ ghost use Rattle.fx_shipped.specs.Shipped.{number_of};
 ghost use Rattle.fx_words.specs.declared.fault.RunFault.TheVariants.{Memory as OutOfMemory};
 ghost use Rattle.fx_app.specs.declared.sources.TheConstants.{MOST_BYTES};
 ghost use Rattle.fx_app.specs.Ended.{calls};
-ghost use Rattle.fx_app.specs.Graphs.{graph_under};
+ghost use Rattle.fx_app.specs.Graphs.{file_shown, frame_count, graph_under};
 ghost use Rattle.fx_app.specs.Making.{IsMaking, MayMake, Plan, next_of, seen_by};
 ghost use Rattle.fx_app.specs.Moments.{HasRendered, IsMomentFile, Stops};
+ghost use Rattle.fx_app.specs.Reels.{moments_in, reel_with};
+ghost use Rattle.fx_app.specs.Takes.{AreTakesOf};
 ghost use Rattle.fx_app.specs.Turns.{IsFinished, IsUnderWay, QuietAtPut};
 
 use crate::crew::Crew;
+use crate::graph::{GraphFile, ordered_takes};
 use crate::making::{Making, more_is_same};
 use crate::order::{first_of, frame_count, last_of};
 use crate::sources::{MOST_BYTES, source_fault};
 use fx_base::Memory;
 use fx_base::limits::MOST_SIDE;
-use fx_graph::Graph;
 use fx_life::Life;
 use fx_outside::{Depot, Library, Pace};
 use fx_pipe::{Line, PipeEnd, PutStop, Schedule, put_block, read_on};
-use fx_scene::{Scene, uses};
+use fx_scene::Scene;
 use fx_seq::{Store, Use};
 use fx_shipped::{Shipped, all_effects};
+use fx_takes::uses;
 use fx_tile::TileCount;
 use fx_words::{Order, RunFault};
 use std::alloc::Global;
@@ -40,7 +44,7 @@ use std::sync::Wait;
 use std::thread::Threads;
 
 /// Takes the effects of the program through their order of life, and meanwhile reads the source frames of moment after
-/// moment, each just before the first moment that wants it, renders the moment's picture and puts its file, by as many
+/// moment, the frames of the graph as it is written and then of each take that is rendered, each just before the first moment that wants it, renders the moment's picture and puts its file, by as many
 /// workers, over tiles and with a directory as they are ordered. A source frame is dropped after the last moment that
 /// wants it. Every sequence is ended and every instance destroyed, whatever failed. With no frame there is no sequence.
 /// What landed and what was found kept is told by the directory, once it is closed.
@@ -49,36 +53,38 @@ pub(crate) fn put_moments<R: Threads + Wait + Clock + Sync, L: Library, D: Depot
     alloc: Global,
     pace: &P,
     order: &Order,
-    graph: Graph<Shipped>,
+    file: GraphFile,
     library: &mut L,
     depot: &mut D,
 ) -> Result<TileCount, RunFault>
-    ensures done { L.tells → graph_under (L.file library.old) order.now.graph ≡ Some (Ok (graph_shown graph))
+    requires takes { AreTakesOf (graph_shown file.graph).nodes file.takes.list.items }
+    ensures done { L.tells → graph_under (L.file library.old) order.now.graph ≡ Some (Ok (file_shown file))
         → IfOk result
         (HasRendered D.tells (Some order.now) (L.file library.old) (D.file depot.old) (D.file depot.new)) }
     ensures quiet_library { let last = L.last library.new in
         OnOk result (IsQuiet (L.faults library.old) (L.faults library.new) (L.last library.old) last) }
     ensures quiet_depot { let last = D.last depot.new in
         OnOk result (IsQuiet (D.faults depot.old) (D.faults depot.new) (D.last depot.old) last) }
-    ensures stops { (L.tells → graph_under (L.file library.old) order.now.graph ≡ Some (Ok (graph_shown graph)))
+    ensures stops { (L.tells → graph_under (L.file library.old) order.now.graph ≡ Some (Ok (file_shown file)))
         → IfErr result (Stops L.tells D.tells (Some order.now) (L.file library.old)
         (calls (L.faults library.old) (L.faults library.new) (L.last library.old) (L.last library.new))
         (calls (D.faults depot.old) (D.faults depot.new) (D.last depot.old) (D.last depot.new))
         (D.file depot.old) (D.file depot.new)) }
 {
-    let first = first_of(&graph, order);
-    let last = last_of(&graph, order);
-    let Ok(uses) = uses(alloc, &graph, first, last) else {
+    let file = ordered_takes(alloc, order.mode, file);
+    let first = first_of(&file.graph, order);
+    let last = last_of(&file.graph, order);
+    let Ok(uses) = uses(alloc, &file.graph, &file.takes, first, last) else {
         return Err(RunFault::Memory);
     };
     if last < first {
         return Ok(TileCount::none());
     }
-    more_is_same(&graph);
-    let Ok((mut making, life)) = begun(alloc, order, graph, first, last) else {
+    more_is_same(&file.graph);
+    let moments = moment_count(first, last, &file);
+    let Ok((mut making, life)) = begun(alloc, order, file, first, last) else {
         return Err(RunFault::Memory);
     };
-    let moments = frame_count(first, last);
     let end = put_each(
         rt,
         alloc,
@@ -94,31 +100,49 @@ pub(crate) fn put_moments<R: Threads + Wait + Clock + Sync, L: Library, D: Depot
     finished(alloc, making, end)
 }
 
-// What stands before the first moment of the frames from `first` to `last`, and the life of the graph's effects.
+// How many moments there are: the frames from `first` to `last`, as the graph is written and at each take.
+fn moment_count(first: u32, last: u32, file: &GraphFile) -> u64
+    requires last { last ≤ LAST_FRAME }
+    requires few { length file.now.takes.list.items ≤ MOST_TAKES }
+    ensures { result ≡ frame_count first last * (length file.now.takes.list.items + 1) }
+{
+    frame_count(first, last) * (file.takes.list.len() as u64 + 1)
+}
+
+// What stands before the first moment of the frames from `first` to `last`, and the life of the graph's effects. The
+// scene remembers all takes before the directory gets its name.
 fn begun(
     alloc: Global,
     order: &Order,
-    graph: Graph<Shipped>,
+    file: GraphFile,
     first: u32,
     last: u32,
 ) -> Result<(Making, Life<Shipped>), Memory>
+    requires takes { AreTakesOf (graph_shown file.graph).nodes file.takes.list.items }
     requires order { first ≤ last }
     requires last { last ≤ LAST_FRAME }
-    ensures graph { IfOk result (λ r. r.0.scene.graph ≡ graph_shown graph) }
-    ensures life { IfOk result (λ r. HasLife number_of r.0.scene.graph r.1) }
-    ensures making { (p : Plan) → p.graph ≡ graph_shown graph → p.first ≡ first → p.side ≡ order.now.tile
-        → p.cache ≡ order.now.cache → IfOk result (λ r. IsMaking p r.0) }
+    ensures written { IfOk result (λ r. r.0.scene.script.written ≡ graph_shown file.graph) }
+    ensures life { IfOk result (λ r. HasLife number_of r.0.scene.script.written r.1) }
+    ensures making { let reel = reel_with (graph_shown file.graph) file.takes.list.items first last in
+        (p : Plan) → p.reel ≡ reel → p.side ≡ order.now.tile → p.cache ≡ order.now.cache
+        → IfOk result (λ r. IsMaking p r.0) }
     ensures next { IfOk result (λ r. r.0.next ≡ 0) }
     ensures seen { IfOk result (λ r. seen_by r.0 ≡ []) }
 {
-    let (scene, permit) = Scene::new(graph, Store::empty(alloc), 0);
+    let GraphFile { graph, takes } = file;
+    let (mut scene, permit) = Scene::new(graph, Store::empty(alloc), 0);
+    scene.remember(&takes);
     let crew = Crew::of(alloc, &scene, permit, order)?;
     let life = Life::start(alloc, scene.graph(), all_effects(alloc)?, first, last)?;
     let making = Making {
         scene,
         crew: Some(crew),
         sum: TileCount::none(),
+        takes: VecDeque::from(takes.list),
+        file: None,
         first,
+        last,
+        frame: first,
         next: 0,
         spare: Vec::new(alloc),
     };
@@ -137,18 +161,18 @@ fn put_each<R: Threads + Wait + Clock + Sync, L: Library, D: Depot, P: Pace>(
     library: &mut L,
     depot: &mut D,
 ) -> PipeEnd
-    requires life { HasLife number_of making.old.scene.graph life.now }
-    requires may { (p : Plan) × (p.count ≡ moments) × MayMake p uses.now 0 making.old }
+    requires life { HasLife number_of making.old.scene.script.written life.now }
+    requires may { (p : Plan) × (moments_in p.reel ≡ moments) × MayMake p uses.now 0 making.old }
     requires next { making.old.next ≡ 0 }
-    ensures graph { making.new.scene.graph ≡ making.old.scene.graph }
-    ensures ends { (p : Plan) → p.count ≡ moments → MayMake p uses.now 0 making.old
+    ensures written { making.new.scene.script.written ≡ making.old.scene.script.written }
+    ensures ends { (p : Plan) → moments_in p.reel ≡ moments → MayMake p uses.now 0 making.old
         → (let see = state_of L.file L.faults L.last D.file D.faults D.last seen_by next_of in
-        Ended L.tells D.tells (IsMomentFile p.graph p.first)
+        Ended L.tells D.tells (IsMomentFile p.reel)
         (record { uses = uses.entry; moments = moments; limit = MOST_BYTES; most_side = MOST_SIDE; ahead = 0 })
         (see library.old depot.old making.old) (see library.new depot.new making.new) result) }
     ensures quiet { let last = L.last library.new in
         QuietAtPut (L.faults library.old) (L.faults library.new) (L.last library.old) last result }
-    ensures making { (p : Plan) → p.count ≡ moments → MayMake p uses.now 0 making.old
+    ensures making { (p : Plan) → moments_in p.reel ≡ moments → MayMake p uses.now 0 making.old
         → result ≡ Done → IsMaking p making.new }
 {
     let schedule = Schedule {
@@ -188,11 +212,11 @@ fn turn<R: Threads + Wait + Clock + Sync, L: Library, D: Depot, P: Pace>(
 ) -> Option<PipeEnd>
     requires schedule { IsSchedule schedule.now }
     requires single { schedule.now.ahead ≤ 1 }
-    requires life { HasLife number_of making.old.scene.graph life.now }
+    requires life { HasLife number_of making.old.scene.script.written life.now }
     requires way { let see = state_of L.file L.faults L.last D.file D.faults D.last seen_by next_of in
         let now = see library.old depot.old making.old in
         (p : Plan) × (start : State) × IsUnderWay L.tells D.tells p schedule.now start now line.old making.old }
-    ensures graph { making.new.scene.graph ≡ making.old.scene.graph }
+    ensures written { making.new.scene.script.written ≡ making.old.scene.script.written }
     ensures way { let see = state_of L.file L.faults L.last D.file D.faults D.last seen_by next_of in
         let old = see library.old depot.old making.old in let new = see library.new depot.new making.new in
         (p : Plan) (start : State) → IsUnderWay L.tells D.tells p schedule.now start old line.old making.old
@@ -200,7 +224,7 @@ fn turn<R: Threads + Wait + Clock + Sync, L: Library, D: Depot, P: Pace>(
     ensures ends { let see = state_of L.file L.faults L.last D.file D.faults D.last seen_by next_of in
         let old = see library.old depot.old making.old in let new = see library.new depot.new making.new in
         (p : Plan) (start : State) → IsUnderWay L.tells D.tells p schedule.now start old line.old making.old
-        → IfSome result (Ended L.tells D.tells (IsMomentFile p.graph p.first) schedule.now start new) }
+        → IfSome result (Ended L.tells D.tells (IsMomentFile p.reel) schedule.now start new) }
     ensures quiet { let see = state_of L.file L.faults L.last D.file D.faults D.last seen_by next_of in
         let old = see library.old depot.old making.old in let last = L.last library.new in
         (p : Plan) (start : State) → IsUnderWay L.tells D.tells p schedule.now start old line.old making.old
@@ -242,8 +266,10 @@ fn turn<R: Threads + Wait + Clock + Sync, L: Library, D: Depot, P: Pace>(
 // The count of a run whose moments ended so, or its fault.
 fn finished(alloc: Global, making: Making, end: PipeEnd) -> Result<TileCount, RunFault>
     requires making { end ≡ Done → (p : Plan) × IsMaking p making }
-    ensures { IsFinished making.scene.graph end making.sum result }
+    ensures { IsFinished making.scene.script.written end making.sum result }
 {
+    // Asking it tells the proof that the nodes of the take have the names of those as written.
+    making.scene.is_played();
     match end {
         PipeEnd::Done => closed(alloc, making),
         PipeEnd::Source(fault) => Err(source_fault(alloc, making.scene.graph(), fault)),

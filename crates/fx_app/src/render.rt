@@ -1,4 +1,5 @@
-//! The mode `render`: the frames of a graph, each put under its name.
+//! The modes `render` and `takes`: the frames of a graph, each put under its name, as the graph is written and, in mode
+//! `takes`, then at each of its takes.
 ghost use Rattle.std.specs.Prelude.{◌≡◌, ℕ, List, Some, IfErr, OnOk};
 ghost use Rattle.fx_outside.specs.Outside.{Files};
 ghost use Rattle.fx_seq.specs.Filling.{IsQuiet};
@@ -6,7 +7,7 @@ ghost use Rattle.fx_words.specs.declared.order.Mode.TheVariants as mode;
 ghost use Rattle.fx_app.specs.Run.{IsAccepted, HasPutAll, HasTold};
 ghost use Rattle.fx_app.specs.Ended.{calls, Ended};
 
-use crate::graph::graph_of;
+use crate::graph::{graph_of, take_count};
 use crate::moments::put_moments;
 use crate::order::{first_of, frame_count, last_of};
 use crate::report::report_frames;
@@ -17,7 +18,7 @@ use std::rt::Clock;
 use std::sync::Wait;
 use std::thread::Threads;
 
-/// Renders the graph's frames and puts them.
+/// Renders the graph's frames, and those of the takes that are ordered, and puts them.
 pub(crate) fn render<R: Threads + Wait + Clock + Sync, L: Library, D: Depot, O: Sink, P: Pace>(
     rt: &R,
     alloc: Global,
@@ -46,9 +47,10 @@ pub(crate) fn render<R: Threads + Wait + Clock + Sync, L: Library, D: Depot, O: 
         IfErr result (λ e. Ended (Some mode.Render) L.tells D.tells O.tells (Some order.now) (L.file library.old)
         fetches puts writes files texts e) }
 {
-    let graph = graph_of(alloc, &order.graph, library)?;
-    let frames = frame_count(first_of(&graph, order), last_of(&graph, order));
-    let count = put_moments(rt, alloc, pace, order, graph, library, depot)?;
-    report_frames(alloc, out, frames, count)?;
+    let file = graph_of(alloc, &order.graph, library)?;
+    let takes = take_count(order.mode, &file);
+    let frames = takes * frame_count(first_of(&file.graph, order), last_of(&file.graph, order));
+    let count = put_moments(rt, alloc, pace, order, file, library, depot)?;
+    report_frames(alloc, out, order.mode, takes, frames, count)?;
     Ok(())
 }

@@ -7,7 +7,7 @@ ghost use Rattle.fx_app.specs.Steps.{report_fault, BeginsReport, ReportRose};
 use fx_base::Memory;
 use fx_outside::{PutFault, Sink};
 use fx_tile::TileCount;
-use fx_words::{Report, RunFault, report_text};
+use fx_words::{Mode, Report, RunFault, report_text};
 use std::alloc::Global;
 
 /// Why the report was not written.
@@ -40,40 +40,62 @@ impl From<ReportFailure> for RunFault {
     }
 }
 
-/// Writes how many frames were rendered and what became of their window tiles, in one write. `Memory` comes too where
-/// there are more tiles than can be counted.
+/// Writes how many frames were rendered and what became of their window tiles, in one write; in mode `takes` also how
+/// many takes were. `Memory` comes too where there are more tiles than can be counted.
 pub(crate) fn report_frames<O: Sink>(
     alloc: Global,
     out: &mut O,
+    mode: Mode,
+    takes: u64,
     frames: u64,
     count: TileCount,
 ) -> Result<(), ReportFailure>
-    ensures ok { let text = report_text (report_of frames count) in
+    ensures ok { let text = report_text (report_of mode takes frames count) in
         O.tells → OnOk result (O.written out.new ≡ O.written out.old ++ text) }
-    ensures leaves { let text = report_text (report_of frames count) in
+    ensures leaves { let text = report_text (report_of mode takes frames count) in
         O.tells → IfErr result (λ e. BeginsReport text e (O.written out.old) (O.written out.new)) }
     ensures rose { IfErr result (λ e. ReportRose (O.faults out.old) (O.faults out.new) e) }
     ensures quiet { OnOk result (O.faults out.new ≡ O.faults out.old) }
 {
-    match report_of(frames, count) {
+    match report_of(mode, takes, frames, count) {
         Some(report) => report_lines(alloc, out, &report),
         None => Err(ReportFailure::Memory),
     }
 }
 
-// The report of so many frames, where their tiles can be counted.
-fn report_of(frames: u64, count: TileCount) -> Option<Report>
-    ensures { IfSome result (λ report. report ≡ report_of frames count) }
+// The report of so many takes and frames, where their tiles can be counted.
+fn report_of(mode: Mode, takes: u64, frames: u64, count: TileCount) -> Option<Report>
+    ensures { IfSome result (λ report. report ≡ report_of mode takes frames count) }
 {
-    let found = count.void_tiles.checked_add(count.passed)?;
-    Some(Report::Render {
-        frames,
-        tiles: found.checked_add(count.asked)?,
-        void_tiles: count.void_tiles,
-        passed: count.passed,
-        asked: count.asked,
-        landed: count.landed,
-        hits: count.hits,
+    let TileCount {
+        void_tiles,
+        passed,
+        asked,
+        landed,
+        hits,
+    } = count;
+    let found = void_tiles.checked_add(passed)?;
+    let tiles = found.checked_add(asked)?;
+    Some(match mode {
+        Mode::Takes => Report::Takes {
+            takes,
+            frames,
+            tiles,
+            void_tiles,
+            passed,
+            asked,
+            landed,
+            hits,
+        },
+        Mode::Render | Mode::Check | Mode::Bench | Mode::Migrate => Report::Render {
+            frames,
+            tiles,
+            void_tiles,
+            passed,
+            asked,
+            landed,
+            hits,
+        },
     })
 }
 

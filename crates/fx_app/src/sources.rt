@@ -4,22 +4,23 @@ ghost use Rattle.fx_base.specs.declared.limits.TheConstants.{LAST_FRAME};
 ghost use Rattle.fx_scene.specs.Scenes.{graph_shown};
 ghost use Rattle.fx_words.specs.declared.fault.RunFault.TheVariants.{Memory as OutOfMemory};
 ghost use Rattle.fx_app.specs.Graphs.{name_at};
+ghost use Rattle.fx_app.specs.Reels.{plain_reel};
 ghost use Rattle.fx_app.specs.Run.{frame_fault};
 ghost use Rattle.fx_app.specs.Steps.{IsSourceFault, WantsAsMany};
 
 use fx_base::{Memory, Name};
 use fx_graph::Graph;
 use fx_pam::PamFault;
-use fx_scene::uses;
 use fx_seq::SeqFault;
 use fx_shipped::Shipped;
+use fx_takes::{Takes, uses};
 use fx_words::{FrameFault, RunFault};
 use std::alloc::Global;
 
 /// As many bytes as the pixels of the source frames may have together that are held at once.
 pub(crate) const MOST_BYTES: u64 = 1 << 31;
 
-/// How many source frames the frames from `first` to `last` want.
+/// How many source frames the frames from `first` to `last` want of the graph as it is written.
 pub(crate) fn count_wanted(
     alloc: Global,
     graph: &Graph<Shipped>,
@@ -27,10 +28,13 @@ pub(crate) fn count_wanted(
     last: u32,
 ) -> Result<u64, RunFault>
     requires { last ≤ LAST_FRAME }
-    ensures ok { let g = graph_shown graph.now in IfOk result (λ count. WantsAsMany g first last count) }
+    ensures ok { IfOk result (λ count. WantsAsMany (plain_reel (graph_shown graph.now) first last) count) }
     ensures err { IfErr result (λ e. e ≡ OutOfMemory) }
 {
-    match uses(alloc, graph, first, last) {
+    let none = Takes {
+        list: Vec::new(alloc),
+    };
+    match uses(alloc, graph, &none, first, last) {
         Ok(uses) => Ok(uses.len() as u64),
         Err(Memory) => Err(RunFault::Memory),
     }

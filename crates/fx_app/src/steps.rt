@@ -4,11 +4,11 @@ ghost use Rattle.fx_outside.specs.Outside.{AddsPrefix, Files, HasRisen};
 ghost use Rattle.fx_seq.specs.Filling.{IsQuiet};
 ghost use Rattle.fx_words.specs.Ordered.{Ordered};
 ghost use Rattle.fx_words.specs.Texts.{fault_text};
-ghost use Rattle.fx_words.specs.declared.order.Mode.TheVariants.{Render, Check, Bench, Migrate};
+ghost use Rattle.fx_words.specs.declared.order.Mode.TheVariants.{Check, Bench, Migrate};
 ghost use Rattle.fx_words.specs.declared.fault.RunFault.{RunFault};
 ghost use Rattle.fx_words.specs.declared.fault.RunFault.TheVariants.{Memory as OutOfMemory, Usage as OtherWords};
 ghost use Rattle.fx_words.specs.Order.{order_of};
-ghost use Rattle.fx_app.specs.Words.{mode_in, Orders};
+ghost use Rattle.fx_app.specs.Words.{mode_in, Orders, OrdersFiles};
 ghost use Rattle.fx_app.specs.Texts.{status_of, GainsLine};
 ghost use Rattle.fx_app.specs.Run.{is_status, Job, IsAccepted, NamesNoGraph, HasPutAll, HasTold};
 ghost use Rattle.fx_app.specs.Check.{HasChecked};
@@ -28,8 +28,8 @@ use std::rt::Clock;
 use std::sync::Wait;
 use std::thread::Threads;
 
-/// Does what the words order: it renders the frames of a graph and puts their files, checks a graph, writes it again
-/// in format 2, or renders in memory what is made of a number. The answer is the exit status of the program: 0 done, 1
+/// Does what the words order: it renders the frames of a graph and puts their files, as it is written alone or also at
+/// each of its takes, checks a graph, writes it again in format 2, or renders in memory what is made of a number. The answer is the exit status of the program: 0 done, 1
 /// words that are no use of the command, 2 a graph that is refused, 3 a source frame that is refused, 4 a fetch that
 /// failed, 5 a put that failed, 6 want of memory, 7 a report that could not be written. Each other than 0 writes its
 /// line on `err`. A check fetches the graph alone and puts nothing, a migration puts one file, and a bench does
@@ -46,16 +46,16 @@ pub fn run<R: Threads + Wait + Clock + Sync, L: Library, D: Depot, O: Sink, F: S
     err: &mut F,
     pace: &P,
 ) -> u8
-    // A render at status 0 was accepted; the depot has gained the file of each frame's picture, and nothing else; the
-    // report was written.
-    ensures accepted { Orders (map string_bytes words.now) Render → L.tells → result ≡ 0
+    // A render, of takes too, at status 0 was accepted; the depot has gained the file of each frame's picture, take by
+    // take, and nothing else; the report was written.
+    ensures accepted { OrdersFiles (map string_bytes words.now) → L.tells → result ≡ 0
         → IsAccepted (order_of (map string_bytes words.now)) (L.file library.old) }
-    ensures frames { Orders (map string_bytes words.now) Render → L.tells → D.tells → result ≡ 0
+    ensures frames { OrdersFiles (map string_bytes words.now) → L.tells → D.tells → result ≡ 0
         → HasPutAll (order_of (map string_bytes words.now)) (L.file library.old) (D.file depot.old) (D.file depot.new) }
-    ensures reports { Orders (map string_bytes words.now) Render → L.tells → O.tells → result ≡ 0
+    ensures reports { OrdersFiles (map string_bytes words.now) → L.tells → O.tells → result ≡ 0
         → HasTold (order_of (map string_bytes words.now)) (L.file library.old) (O.written out.old) (O.written out.new) }
     // Where it is accepted, and no count of faults rose, the status is 0 or want of memory.
-    ensures completes { Orders (map string_bytes words.now) Render → L.tells
+    ensures completes { OrdersFiles (map string_bytes words.now) → L.tells
         → IsAccepted (order_of (map string_bytes words.now)) (L.file library.old)
         → (HasRisen (L.faults library.old) (L.faults library.new) → ⊥)
         → (HasRisen (D.faults depot.old) (D.faults depot.new) → ⊥)
@@ -165,13 +165,13 @@ fn outcome<R: Threads + Wait + Clock + Sync, L: Library, D: Depot, O: Sink, P: P
     depot: &mut D,
     out: &mut O,
 ) -> Result<(), RunFault>
-    ensures accepted { Orders (map string_bytes words.now) Render → L.tells
+    ensures accepted { OrdersFiles (map string_bytes words.now) → L.tells
         → OnOk result (IsAccepted (order_of (map string_bytes words.now)) (L.file library.old)) }
     ensures done { let asked = order_of (map string_bytes words.now) in
-        Orders (map string_bytes words.now) Render → L.tells → D.tells
+        OrdersFiles (map string_bytes words.now) → L.tells → D.tells
         → OnOk result (HasPutAll asked (L.file library.old) (D.file depot.old) (D.file depot.new)) }
     ensures told { let asked = order_of (map string_bytes words.now) in
-        Orders (map string_bytes words.now) Render → L.tells → O.tells
+        OrdersFiles (map string_bytes words.now) → L.tells → O.tells
         → OnOk result (HasTold asked (L.file library.old) (O.written out.old) (O.written out.new)) }
     ensures checked { Orders (map string_bytes words.now) Check → L.tells
         → OnOk result (Job (order_of (map string_bytes words.now)) (L.file library.old)) }
@@ -212,7 +212,7 @@ fn outcome<R: Threads + Wait + Clock + Sync, L: Library, D: Depot, O: Sink, P: P
 {
     let order = ordered(alloc, words)?;
     match order.mode {
-        Mode::Render => render(rt, alloc, pace, &order, library, depot, out),
+        Mode::Render | Mode::Takes => render(rt, alloc, pace, &order, library, depot, out),
         Mode::Check => check(alloc, &order, library, out),
         Mode::Bench => bench(rt, alloc, pace, &order, out),
         Mode::Migrate => migrate(alloc, &order, library, depot, out),

@@ -1,4 +1,5 @@
 pub mod FrameLemmas
+pub mod PlainReels
 pub mod SplitFiles
 pub mod SplitImages
 pub mod SplitLemmas

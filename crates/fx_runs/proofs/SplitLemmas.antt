@@ -28,18 +28,19 @@ use Rattle.fx_scene.proofs.Members.{In, in_of}
 use Rattle.fx_scene.proofs.WantLemmas.{contains_of}
 use Rattle.fx_shipped.specs.Shipped.{meaning_of}
 use Rattle.fx_app.specs.Graphs.{Graph, frame_count}
-use Rattle.fx_app.specs.Files.{AreImages, AreUsesOf, IsFileOf, file_name, file_text, wanted_of}
-use Rattle.fx_runs.specs.Stretches.{AreStretches, HasRun, HaveRun, IsIn, Stretch, StretchesMakeWhole, StretchesWantNoMore}
+use Rattle.fx_app.specs.Reels.{Reel, moments_in, picture_text, plain_reel}
+use Rattle.fx_app.specs.Files.{AreImages, AreUsesOf, HasGained, IsFileOf, wanted_of}
+use Rattle.fx_runs.specs.Stretches.{AreStretches, HasRun, HaveRun, IsIn, RunsAreSuch, Stretch, StretchesMakeWhole, StretchesWantNoMore}
 use Rattle.fx_base.specs.declared.limits.TheConstants.{MOST_SIDE}
+use Rattle.fx_runs.proofs.PlainReels.{frame_name, is_plain, moment_wants, moments_are, moments_are_frames, wants_of, with_frames}
 use Rattle.fx_runs.proofs.SplitFiles.{IsOf, hit, miss, seek}
 use Rattle.fx_runs.proofs.SplitImages.{frame_image, same_image}
-use Rattle.fx_app.proofs.ReadLemmas.{moment_wants, wants_of}
 use Rattle.fx_app.proofs.UsesLemmas.{from_wanted, one_name}
 
 -- ---- what is wanted
 
 -- what a frame wants is used by a run over a stretch that has the frame
-used_at : (g : Graph) (p : Stretch) (uses : List Use) → AreUsesOf g p.first (frame_count p.first p.last) uses → (t : ℕ) → IsIn p t
+used_at : (g : Graph) (p : Stretch) (uses : List Use) → AreUsesOf (plain_reel g p.first p.last) uses → (t : ℕ) → IsIn p t
     → (k : ℕ) (f : ℤ) → IsWanted (graph_nodes meaning_of g no_images) g.output (pos t) (pos t) k f → ListsUse uses k f
 used_at g p uses are t is k f w =
     let from = is.from in
@@ -47,8 +48,8 @@ used_at g p uses are t is k f w =
     let n = frame_count p.first p.last in
     let at : p.first + (t - p.first) ≡ t = omega (arith, from) in
     let low : t - p.first < n = omega (arith, from, to) in
-    are.moments.all (t - p.first) k f low
-    (moment_wants g p.first n (t - p.first) k f low (subst (λ (u : ℕ). IsWanted (graph_nodes meaning_of g no_images) g.output (pos u) (pos u) k f) (sym at) w))
+    are.moments.all (t - p.first) k f (subst (λ (m : ℕ). t - p.first < m) (sym (moments_are g p.first p.last)) low)
+    (moment_wants g p.first p.last (t - p.first) k f low (subst (λ (u : ℕ). IsWanted (graph_nodes meaning_of g no_images) g.output (pos u) (pos u) k f) (sym at) w))
 
 lists_in : (uses : List Use) (n : ℕ) (f : ℤ) → ListsUse uses n f → Lists (wanted_of uses) n f
 lists_in uses n f l =
@@ -64,10 +65,9 @@ want_no_more g whole p uses some inside all of w listed =
     let u = from_wanted some w listed in
     let is = of.moments.each u.0 u.1 in
     let order = is.order in
-    let end = is.end in
-    let n = frame_count p.first p.last in
+    let end : u.0.until < frame_count p.first p.last = subst (λ (m : ℕ). u.0.until < m) (moments_are g p.first p.last) is.end in
     let t = p.first + u.0.from in
-    let there = wants_of g p.first n u.0.from u.0.wanted.node u.0.wanted.frame (omega (arith, order, end)) is.first in
+    let there = wants_of g p.first p.last u.0.from u.0.wanted.node u.0.wanted.frame (omega (arith, order, end)) is.first in
     let l = used_at g whole uses all t (inside t (record { from = omega arith; to = omega (arith, order, end) })) u.0.wanted.node u.0.wanted.frame there in
     subst (λ (v : Wanted). Lists (wanted_of uses) v.node v.frame) u.2 (lists_in uses u.0.wanted.node u.0.wanted.frame l)
 
@@ -153,12 +153,17 @@ same_file library name other a b same p q =
 
 -- ---- runs over stretches of a whole
 
+-- a run over a stretch leaves the files of its frames
+gained_in : (g : Graph) (library : Files) (p : Stretch) (old new : Files) (run : HasRun g library p old new) (name : List ℕ)
+    → new name ≡ with_frames g run.images p.first (frame_count p.first p.last) old name
+gained_in g library p old new run name = run.gained name ∙ moments_are_frames g run.images p.first p.last old name
+
 module _ (g : Graph) (one : runs g.file ≡ 1) (depend : PicturesDependOnWanted meaning_of g) (library : Files) (whole : Stretch)
     (few : whole.last ≤ LAST_FRAME) where
   -- a frame's file in a run over a stretch is that in a run over the whole
   module _ (start end : Files) (all : HasRun g library whole start end) where
     text : ℕ → List ℕ
-    text t = file_text g all.images t
+    text t = picture_text g all.images t
 
     agree : (p : Stretch) (old new : Files) (run : HasRun g library p old new) → ((t : ℕ) → IsIn p t → IsIn whole t) → (t : ℕ) → IsIn p t
         → scene.AgreeOnWanted meaning_of g g.output (pos t) (pos t) run.images all.images
@@ -169,7 +174,7 @@ module _ (g : Graph) (one : runs g.file ≡ 1) (depend : PicturesDependOnWanted 
         let shows : Shows (graph_nodes meaning_of g no_images e.use_.wanted.node) w.at e.use_.wanted.frame =
         subst (λ (n : ℕ). Shows (graph_nodes meaning_of g no_images n) w.at e.use_.wanted.frame) (sym e.node)
         (subst (λ (h : ℤ). Shows (graph_nodes meaning_of g no_images k) w.at h) (sym e.frame) w.shows) in
-        let name = one_name g e.use_.wanted d.use_.wanted w.at (e.node ∙ sym d.node) (e.frame ∙ sym d.frame) shows
+        let name = one_name g [] 0 e.use_.wanted d.use_.wanted w.at (e.node ∙ sym d.node) (e.frame ∙ sym d.frame) shows
         (All-contains (λ (u : Use). IsNamedIn g u.wanted) run.uses e.use_ run.are.names e.listed)
         (All-contains (λ (u : Use). IsNamedIn g u.wanted) all.uses d.use_ all.are.names d.listed) in
         same_file library e.use_.wanted.name d.use_.wanted.name (run.images k f) (all.images k f) name
@@ -177,8 +182,8 @@ module _ (g : Graph) (one : runs g.file ≡ 1) (depend : PicturesDependOnWanted 
         (has_file library (wanted_of all.uses) all.images all.shown k f (lists_in all.uses k f d))
 
     same_text : (p : Stretch) (old new : Files) (run : HasRun g library p old new) → ((t : ℕ) → IsIn p t → IsIn whole t) → (t : ℕ) → IsIn p t
-        → file_text g run.images t ≡ text t
-    unfolding file_text text
+        → picture_text g run.images t ≡ text t
+    unfolding picture_text text
     same_text p old new run inside t is =
         ap (pam_text g.format)
         (depend (pos t) (pos t) run.images all.images (images_are library (wanted_of run.uses) run.images run.shown)
@@ -192,45 +197,45 @@ module _ (g : Graph) (one : runs g.file ≡ 1) (depend : PicturesDependOnWanted 
 
     -- the file of a frame of the stretch is put
     run_hit : (p : Stretch) (old new : Files) → HasRun g library p old new → ((t : ℕ) → IsIn p t → IsIn whole t) → (t : ℕ) → IsIn p t
-        → new (file_name g t) ≡ Some (text t)
+        → new (frame_name g t) ≡ Some (text t)
     run_hit p old new run inside t is =
         let from = is.from in
         let to = is.to in
         let last = (inside p.last (record { from = omega (arith, from, to); to = omega arith })).to in
-        run.gained (file_name g t)
+        gained_in g library p old new run (frame_name g t)
         ∙ hit g one run.images p.first (frame_count p.first p.last) old t (omega (arith, from, to, last, few)) (of_stretch p t is)
         ∙ ap Some (same_text p old new run inside t is)
 
     -- the file of a frame of the whole stays
     run_keep : (p : Stretch) (old new : Files) → HasRun g library p old new → ((t : ℕ) → IsIn p t → IsIn whole t) → (t : ℕ) → IsIn whole t
-        → old (file_name g t) ≡ Some (text t) → new (file_name g t) ≡ Some (text t)
-    run_keep p old new run inside t is before = by (seek g one p.first (frame_count p.first p.last) (file_name g t))
+        → old (frame_name g t) ≡ Some (text t) → new (frame_name g t) ≡ Some (text t)
+    run_keep p old new run inside t is before = by (seek g one p.first (frame_count p.first p.last) (frame_name g t))
       where
-        by : ((u : ℕ) × IsOf p.first (frame_count p.first p.last) u × (file_name g u ≡ file_name g t))
-            ⊎ ((u : ℕ) → IsOf p.first (frame_count p.first p.last) u → file_name g u ≡ file_name g t → ⊥)
-            → new (file_name g t) ≡ Some (text t)
+        by : ((u : ℕ) × IsOf p.first (frame_count p.first p.last) u × (frame_name g u ≡ frame_name g t))
+            ⊎ ((u : ℕ) → IsOf p.first (frame_count p.first p.last) u → frame_name g u ≡ frame_name g t → ⊥)
+            → new (frame_name g t) ≡ Some (text t)
         by (inl found) =
             let at = in_stretch p found.0 found.1 in
             let low = (inside found.0 at).to in
             let high = is.to in
             let same : found.0 ≡ t = name_of-apart g.file found.0 t one (omega (arith, low, few)) (omega (arith, high, few)) found.2 in
             run_hit p old new run inside t (subst (IsIn p) same at)
-        by (inr none) = run.gained (file_name g t) ∙ miss g one run.images p.first (frame_count p.first p.last) old (file_name g t) none ∙ before
+        by (inr none) = gained_in g library p old new run (frame_name g t) ∙ miss g one run.images p.first (frame_count p.first p.last) old (frame_name g t) none ∙ before
 
     -- a name of no frame of the whole has what it had
     run_miss : (p : Stretch) (old new : Files) → HasRun g library p old new → ((t : ℕ) → IsIn p t → IsIn whole t) → (name : List ℕ)
-        → ((t : ℕ) → IsIn whole t → file_name g t ≡ name → ⊥) → new name ≡ old name
+        → ((t : ℕ) → IsIn whole t → frame_name g t ≡ name → ⊥) → new name ≡ old name
     run_miss p old new run inside name none =
-        run.gained name ∙ miss g one run.images p.first (frame_count p.first p.last) old name (λ t is. none t (inside t (in_stretch p t is)))
+        gained_in g library p old new run name ∙ miss g one run.images p.first (frame_count p.first p.last) old name (λ t is. none t (inside t (in_stretch p t is)))
 
     runs_keep : (stretches : List Stretch) (old new : Files) → HaveRun g library stretches old new → ((p : Stretch) → In stretches p → (t : ℕ) → IsIn p t → IsIn whole t)
-        → (t : ℕ) → IsIn whole t → old (file_name g t) ≡ Some (text t) → new (file_name g t) ≡ Some (text t)
-    runs_keep [] old new run inside t is before = run (file_name g t) ∙ before
+        → (t : ℕ) → IsIn whole t → old (frame_name g t) ≡ Some (text t) → new (frame_name g t) ≡ Some (text t)
+    runs_keep [] old new run inside t is before = run (frame_name g t) ∙ before
     runs_keep (p ∷ ps) old new run inside t is before =
         runs_keep ps run.0 new run.2 (λ q i. inside q (inr i)) t is (run_keep p old run.0 run.1 (inside p (inl refl)) t is before)
 
     runs_hit : (stretches : List Stretch) (old new : Files) → HaveRun g library stretches old new → ((p : Stretch) → In stretches p → (t : ℕ) → IsIn p t → IsIn whole t)
-        → (p : Stretch) → In stretches p → (t : ℕ) → IsIn p t → new (file_name g t) ≡ Some (text t)
+        → (p : Stretch) → In stretches p → (t : ℕ) → IsIn p t → new (frame_name g t) ≡ Some (text t)
     runs_hit [] old new run inside p there t is = absurd there
     runs_hit (q ∷ ps) old new run inside p there t is = elim there [
       | inl e ↦
@@ -240,7 +245,7 @@ module _ (g : Graph) (one : runs g.file ≡ 1) (depend : PicturesDependOnWanted 
     ]
 
     runs_miss : (stretches : List Stretch) (old new : Files) → HaveRun g library stretches old new → ((p : Stretch) → In stretches p → (t : ℕ) → IsIn p t → IsIn whole t)
-        → (name : List ℕ) → ((t : ℕ) → IsIn whole t → file_name g t ≡ name → ⊥) → new name ≡ old name
+        → (name : List ℕ) → ((t : ℕ) → IsIn whole t → frame_name g t ≡ name → ⊥) → new name ≡ old name
     runs_miss [] old new run inside name none = run name
     runs_miss (p ∷ ps) old new run inside name none =
         runs_miss ps run.0 new run.2 (λ q i. inside q (inr i)) name none ∙ run_miss p old run.0 run.1 (inside p (inl refl)) name none
@@ -251,8 +256,8 @@ module _ (g : Graph) (one : runs g.file ≡ 1) (depend : PicturesDependOnWanted 
         inside : (p : Stretch) → In stretches p → (t : ℕ) → IsIn p t → IsIn whole t
         inside p i t is = are.only p t (contains_of stretches p i) is
 
-        by : ((u : ℕ) × IsOf whole.first (frame_count whole.first whole.last) u × (file_name g u ≡ name))
-            ⊎ ((u : ℕ) → IsOf whole.first (frame_count whole.first whole.last) u → file_name g u ≡ name → ⊥) → new name ≡ end name
+        by : ((u : ℕ) × IsOf whole.first (frame_count whole.first whole.last) u × (frame_name g u ≡ name))
+            ⊎ ((u : ℕ) → IsOf whole.first (frame_count whole.first whole.last) u → frame_name g u ≡ name → ⊥) → new name ≡ end name
         by (inl found) =
             let t = found.0 in
             let at = in_stretch whole t found.1 in
@@ -261,12 +266,24 @@ module _ (g : Graph) (one : runs g.file ≡ 1) (depend : PicturesDependOnWanted 
             let whole_has = run_hit whole start end all (λ u is. is) t at in
             subst (λ (n : List ℕ). new n ≡ end n) found.2 (stretches_have ∙ sym whole_has)
         by (inr none) =
-            let none_in : (t : ℕ) → IsIn whole t → file_name g t ≡ name → ⊥ = λ t is. none t (of_stretch whole t is) in
+            let none_in : (t : ℕ) → IsIn whole t → frame_name g t ≡ name → ⊥ = λ t is. none t (of_stretch whole t is) in
             runs_miss stretches start new run inside name none_in ∙ sym (run_miss whole start end all (λ u is. is) name none_in)
 
 pub stretches_make_whole : (g : Graph) → runs g.file ≡ 1 → PicturesDependOnWanted meaning_of g → StretchesMakeWhole g
 stretches_make_whole g one depend library whole stretches old new other few are run all =
     whole_made g one depend library whole few old other all stretches new are run
+
+-- what a run in mode `render` leaves is what such a run does
+pub runs_are_such : RunsAreSuch
+runs_are_such asked library old new put render =
+    let same = is_plain put.known.job render in
+    record {
+      uses = put.known.job.uses;
+      are = subst (λ (r : Reel). AreUsesOf r put.known.job.uses) same put.known.job.are;
+      images = put.images;
+      shown = put.are;
+      gained = subst (λ (r : Reel). HasGained r put.images (moments_in r) old new) same put.gained;
+    }
 
 -- the output's pattern has one run of signs
 pub one_run : (file : List ℕ) → IsTrue (is_output file) → runs file ≡ 1

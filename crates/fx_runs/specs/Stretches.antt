@@ -1,5 +1,5 @@
 -- A range of frames that is rendered in stretches, by runs in any order.
-use Rattle.std.specs.Prelude.{◌≤◌, ℕ, List, [], ◌∷◌, Contains, Option}
+use Rattle.std.specs.Prelude.{◌≡◌, ◌≤◌, ℕ, List, [], ◌∷◌, Contains, Option}
 use Rattle.fx_base.specs.declared.limits.TheConstants.{LAST_FRAME}
 use Rattle.fx_outside.specs.Outside.{Files, SameFiles}
 use Rattle.fx_seq.specs.declared.used.Use.{Use}
@@ -7,9 +7,11 @@ use Rattle.fx_seq.specs.declared.wanted.Wanted.{Wanted}
 use Rattle.fx_scene.specs.Scenes.{Images}
 use Rattle.fx_scene.specs.Wants.{Lists}
 use Rattle.fx_words.specs.Ordered.{Ordered}
-use Rattle.fx_app.specs.Graphs.{Graph, frame_count, last_of}
+use Rattle.fx_words.specs.declared.order.Mode.TheVariants.{Render}
+use Rattle.fx_app.specs.Graphs.{Graph, first_of, last_of}
+use Rattle.fx_app.specs.Reels.{moments_in, plain_reel}
 use Rattle.fx_app.specs.Files.{AreImages, AreUsesOf, HasGained, wanted_of}
-use Rattle.fx_app.specs.Run.{HasPutAll, Job, first_in}
+use Rattle.fx_app.specs.Run.{HasPutAll, Job}
 
 -- the frames from a first one to a last one
 pub record Stretch : Type 0 where
@@ -20,24 +22,27 @@ pub record IsIn (p : Stretch) (t : ℕ) : Type 0 where
   pub from : p.first ≤ t
   pub to : t ≤ p.last
 
--- A run over a stretch: each source frame that its frames want has the image of its file, and the files of its frames
--- are put, and nothing else.
+-- A run over a stretch of the graph as it is written: each source frame that its frames want has the image of its file,
+-- and the files of its frames are put, and nothing else.
 pub record HasRun (g : Graph) (library : Files) (p : Stretch) (old new : Files) : Type 0 where
   pub uses : List Use
-  pub are : AreUsesOf g p.first (frame_count p.first p.last) uses
+  pub are : AreUsesOf (plain_reel g p.first p.last) uses
   pub images : Images
   pub shown : AreImages library (wanted_of uses) images
-  pub gained : HasGained g images p.first (frame_count p.first p.last) old new
+  pub gained :
+      let r = plain_reel g p.first p.last in
+      HasGained r images (moments_in r) old new
 
 -- the frames that an order asks for
 abbrev pub stretch_of : {asked : Option Ordered} {library : Files} → Job asked library → Stretch
-stretch_of job = record { first = first_in job; last = last_of job.graph job.order }
+stretch_of job = record { first = first_of job.file.graph job.order; last = last_of job.file.graph job.order }
 
--- what a run of the program leaves that put the files of all its frames
+-- what a run of the program in mode `render` leaves that put the files of all its frames
 abbrev pub RunsAreSuch : Type 0
 RunsAreSuch =
     (asked : Option Ordered) (library old new : Files) (put : HasPutAll asked library old new)
-    → HasRun put.known.job.graph library (stretch_of put.known.job) old new
+    → put.known.job.order.mode ≡ Render
+    → HasRun put.known.job.file.graph library (stretch_of put.known.job) old new
 
 -- runs over stretches, one after another
 abbrev pub HaveRun : Graph → Files → List Stretch → Files → Files → Type 0
@@ -61,6 +66,6 @@ StretchesMakeWhole g =
 abbrev pub StretchesWantNoMore : Graph → Type 0
 StretchesWantNoMore g =
     (whole p : Stretch) (uses some : List Use) → ((t : ℕ) → IsIn p t → IsIn whole t)
-    → AreUsesOf g whole.first (frame_count whole.first whole.last) uses
-    → AreUsesOf g p.first (frame_count p.first p.last) some
+    → AreUsesOf (plain_reel g whole.first whole.last) uses
+    → AreUsesOf (plain_reel g p.first p.last) some
     → (w : Wanted) → Contains (wanted_of some) w → Lists (wanted_of uses) w.node w.frame

@@ -8,9 +8,9 @@ use fx_graph::Graph;
 use fx_scene::laws::value_depends_on_reach;
 use fx_shipped::Shipped;
 
-/// A range of frames may be rendered in stretches, by runs in any order and on any machines, and a stretch more than
-/// once: the files are those of one run, and a stretch wants no source frame that the range doesn't want. It computes
-/// nothing.
+/// A range of frames may be rendered in stretches, in mode `render`, by runs in any order and on any machines, and a
+/// stretch more than once: the files are those of one run, and a stretch wants no source frame that the range doesn't
+/// want. It computes nothing.
 pub fn stretches_make_the_whole(graph: &Graph<Shipped>)
     ensures runs { RunsAreSuch }
     ensures files { StretchesMakeWhole (graph_shown graph.now) }

@@ -1,14 +1,15 @@
 use Rattle.std.proofs.Common.{rules, ◌≡◌, ◌≢◌, ◌∙◌, List, map, ap, sym, subst, refl}
 use Rattle.std.specs.List.{AllPairs, Contains}
 use Rattle.fx_seq.proofs.MomentLemmas.{begins}
-use Rattle.fx_scene.specs.Scenes.{Shot, fetched_in}
+use Rattle.fx_scene.specs.Scenes.{Shot, graph_shown}
+use Rattle.fx_scene.specs.Takes.{edits_of}
 use Rattle.fx_shipped.specs.declared.shipped.Shipped.{Shipped}
 use Rattle.fx_shipped.specs.Shipped.{number_of}
 use Rattle.fx_shipped.proofs.NumberLaws.{numbers_differ, number_among}
+use Rattle.fx_life.specs.Posts.{HasLife}
 use Rattle.fx_life.proofs.LifeLemmas.{started_life}
 use Rattle.fx_app.specs.Graphs.{Graph}
-use Rattle.fx_app.specs.Tiles.{HasCounted}
-use Rattle.fx_app.proofs.CountLemmas.{counted_none}
+use Rattle.fx_app.proofs.StartLemmas.{first_script, stands_first}
 use Rattle.fx_app.proofs.moments.begun.Goals as goal
 
 pub start-requires-clause-numbers : goal.start-requires-clause-numbers
@@ -21,25 +22,22 @@ start-requires-clause-among c = λ k used at.
 
 pub returns-clause-life : goal.returns-clause-life
 returns-clause-life c =
-    started_life number_of c.graph.result.now.nodes.items c.args.first c.args.last c.new-scene.result.0.graph c.in_ok-life.life
-    (ap (λ (s : Graph). s.nodes) c.graph.ensures.shown) c.in_ok-life.ensures.life
+    let nodes = ap (λ (s : Graph). s.nodes) c.graph.ensures.shown in
+    let written : c.remember.new.self.script.written ≡ c.remember.new.self.graph = search rules in
+    subst (λ (s : Graph). HasLife number_of s c.in_ok-life.life) (sym written)
+    (started_life number_of c.graph.result.now.nodes.items c.args.first c.args.last c.remember.new.self.graph c.in_ok-life.life nodes
+    c.in_ok-life.ensures.life)
 
 pub returns-clause-making : goal.returns-clause-making
-returns-clause-making c = λ p graph first side cache.
-    let crew = c.in_ok-crew.crew in
+returns-clause-making c = λ p reel side cache.
     let is = c.in_ok-crew.ensures in
-    let store = c.new-scene.result.0.store in
-    record {
-      graph = ap (λ (s : Shot Shipped). s.graph) c.new-scene.ensures.scene ∙ sym graph;
-      first = sym first;
-      read = begins p.uses store (search rules) (search rules);
-      crew = crew;
-      crew_is = record {
-        there = refl;
-        is = is.crew;
-        side = is.new.side ∙ sym side;
-        capacity = is.new.capacity ∙ sym cache;
-        weight = rw c.none.ensures is.new.nothing;
-      };
-      counted = subst (HasCounted p.graph (fetched_in store) p.side p.cache p.first 0) (sym c.none.ensures) (counted_none p.graph (fetched_in store) p.side p.cache p.first 0 refl);
-    }
+    let scene = c.remember.new.self in
+    let takes = c.args.file.takes.list.items in
+    let script : scene.script ≡ first_script (graph_shown c.args.file.graph) takes =
+    ap (λ (s : Shot Shipped). s.script) c.remember.ensures
+    ∙ ap (λ (s : Shot Shipped). record s.script { takes = edits_of takes }) c.new-scene.ensures.scene in
+    let graph : scene.graph ≡ graph_shown c.args.file.graph =
+    ap (λ (s : Shot Shipped). s.graph) c.remember.ensures ∙ ap (λ (s : Shot Shipped). s.graph) c.new-scene.ensures.scene in
+    stands_first (graph_shown c.args.file.graph) takes c.args.first c.args.last c.requires.order p reel _ script graph (search rules) refl refl refl
+    refl refl c.in_ok-crew.crew refl is.crew (is.new.side ∙ sym side) (is.new.capacity ∙ sym cache) is.new.nothing c.none.ensures
+    (begins p.uses scene.store (search rules) (search rules))

@@ -1,6 +1,7 @@
 use Rattle.std.proofs.Common.{◌≡◌}
 use Rattle.fx_pipe.specs.Ends.{state_of}
 use Rattle.fx_app.specs.Making.{MayMake, Plan, next_of, seen_by}
+use Rattle.fx_app.specs.Reels.{moments_in}
 use Rattle.fx_app.specs.Turns.{IsUnderWay}
 use Rattle.fx_app.proofs.moments.put_each.Given as goal
 
@@ -10,7 +11,7 @@ invariant-loop g l =
     let d = g.D.Depot in
     let see = state_of lib.file lib.faults lib.last d.file d.faults d.last seen_by next_of in
     record {
-      graph : l.making.scene.graph ≡ l.fn.making.scene.graph;
-      way : (p : Plan) → p.count ≡ l.moments → MayMake p l.uses 0 l.fn.making
+      written : l.making.scene.script.written ≡ l.fn.making.scene.script.written;
+      way : (p : Plan) → moments_in p.reel ≡ l.moments → MayMake p l.uses 0 l.fn.making
           → IsUnderWay lib.tells d.tells p l.schedule (see l.fn.library l.fn.depot l.fn.making) (see l.library l.depot l.making) l.line l.making;
     }

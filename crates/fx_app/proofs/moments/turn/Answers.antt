@@ -1,7 +1,7 @@
-use Rattle.std.proofs.Common.{rules, ◌≡◌, ◌≢◌, ◌≤◌, ◌+◌, ◌∙◌, [], length, true, Some, Ok, Err, sym, ap, subst, arith, refl}
+use Rattle.std.proofs.Common.{rules, ◌≡◌, ◌≢◌, [], length, true, Some, Ok, Err, ap, arith}
 use Rattle.fx_seq.specs.declared.fault.SeqFault.TheVariants as seq
 use Rattle.fx_pipe.specs.declared.put.PutStop.TheVariants as stop
-use Rattle.fx_pipe.specs.Blocks.{Makes, Puts, fetched_in}
+use Rattle.fx_pipe.specs.Blocks.{Puts, fetched_in}
 use Rattle.fx_pipe.specs.Ends.{state_of}
 use Rattle.fx_app.specs.Making.{MayMake, next_of, seen_by}
 use Rattle.fx_app.specs.Moments.{IsMomentFile}
@@ -17,7 +17,7 @@ make_block-made-requires-clause-due g c κs within =
     let line = c.args.line.now in
     let new = c.read_on.new in
     let none : new.fault ≢ Some seq.Memory = search rules in
-    block_due l.tells d.tells (IsMomentFile w.0.graph w.0.first) c.args.schedule.now w.1 old line.reader new.reader line.fault new.fault
+    block_due l.tells d.tells (IsMomentFile w.0.reel) c.args.schedule.now w.1 old line.reader new.reader line.fault new.fault
     (fetched_in new.fetched.items) old.next (l.file new.library) (l.faults new.library) (l.last new.library)
     (flows_now l.tells d.tells w.0 c.args.schedule.now w.1 old line c.args.making.now w.2) c.read_on.ensures.reads c.read_on.ensures.same none
 
@@ -30,7 +30,7 @@ make_block-made-requires-clause-may g c κs within =
     let line = c.args.line.now in
     let new = c.read_on.new in
     let none : new.fault ≢ Some seq.Memory = search rules in
-    let few = block_few l.tells d.tells (IsMomentFile w.0.graph w.0.first) c.args.schedule.now w.1 old line.reader new.reader line.fault new.fault
+    let few = block_few l.tells d.tells (IsMomentFile w.0.reel) c.args.schedule.now w.1 old line.reader new.reader line.fault new.fault
     (fetched_in new.fetched.items) old.next (l.file new.library) (l.faults new.library) (l.last new.library)
     (flows_now l.tells d.tells w.0 c.args.schedule.now w.1 old line c.args.making.now w.2) c.read_on.ensures.reads c.read_on.ensures.same none in
     let many = w.2.many in
@@ -40,7 +40,7 @@ pub returns-then-not-made-clause-ends : goal.returns-then-not-made-clause-ends
 returns-then-not-made-clause-ends g c = λ p start w.
     let l = g.L.Library in
     let d = g.D.Depot in
-    let right = IsMomentFile p.graph p.first in
+    let right = IsMomentFile p.reel in
     let see = state_of l.file l.faults l.last d.file d.faults d.last seen_by next_of in
     let old = see c.args.library.now c.args.depot.now c.args.making.now in
     let line = c.args.line.now in
@@ -63,7 +63,7 @@ pub returns-in-Err-Failed-clause-ends : goal.returns-in-Err-Failed-clause-ends
 returns-in-Err-Failed-clause-ends g c = λ p start w.
     let l = g.L.Library in
     let d = g.D.Depot in
-    let right = IsMomentFile p.graph p.first in
+    let right = IsMomentFile p.reel in
     let see = state_of l.file l.faults l.last d.file d.faults d.last seen_by next_of in
     let old = see c.args.library.now c.args.depot.now c.args.making.now in
     let line = c.args.line.now in
@@ -90,7 +90,7 @@ pub returns-in-Err-Failed-clause-quiet : goal.returns-in-Err-Failed-clause-quiet
 returns-in-Err-Failed-clause-quiet g c = λ p start w.
     let l = g.L.Library in
     let d = g.D.Depot in
-    let right = IsMomentFile p.graph p.first in
+    let right = IsMomentFile p.reel in
     let see = state_of l.file l.faults l.last d.file d.faults d.last seen_by next_of in
     let old = see c.args.library.now c.args.depot.now c.args.making.now in
     let line = c.args.line.now in
@@ -118,7 +118,7 @@ pub returns-clause-ends : goal.returns-clause-ends
 returns-clause-ends g c = λ p start w.
     let l = g.L.Library in
     let d = g.D.Depot in
-    let right = IsMomentFile p.graph p.first in
+    let right = IsMomentFile p.reel in
     let see = state_of l.file l.faults l.last d.file d.faults d.last seen_by next_of in
     let old = see c.args.library.now c.args.depot.now c.args.making.now in
     let line = c.args.line.now in
@@ -145,7 +145,7 @@ pub returns-in-Ok-clause-way : goal.returns-in-Ok-clause-way
 returns-in-Ok-clause-way g c = λ p start w.
     let l = g.L.Library in
     let d = g.D.Depot in
-    let right = IsMomentFile p.graph p.first in
+    let right = IsMomentFile p.reel in
     let see = state_of l.file l.faults l.last d.file d.faults d.last seen_by next_of in
     let old = see c.args.library.now c.args.depot.now c.args.making.now in
     let line = c.args.line.now in
@@ -181,7 +181,7 @@ pub returns-then-wants_memory-clause-ends : goal.returns-then-wants_memory-claus
 returns-then-wants_memory-clause-ends g c = λ p start w.
     let l = g.L.Library in
     let d = g.D.Depot in
-    let right = IsMomentFile p.graph p.first in
+    let right = IsMomentFile p.reel in
     let old = state_of l.file l.faults l.last d.file d.faults d.last seen_by next_of c.args.library.now c.args.depot.now c.args.making.now in
     let line = c.args.line.now in
     let read = c.read_on.new in

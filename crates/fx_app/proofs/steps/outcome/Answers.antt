@@ -1,4 +1,4 @@
-use Rattle.std.proofs.Common.{◌∙◌, Option, Some, sym, subst, map, string_bytes, ap, rules}
+use Rattle.std.proofs.Common.{◌∙◌, Option, Some, sym, subst, map, string_bytes, ap}
 use Rattle.std.specs.Prelude.{OnOk}
 use Rattle.std.proofs.lemmas.Result.{err_from_is_err_and}
 use Rattle.fx_words.specs.Order.{order_of}
@@ -12,15 +12,16 @@ use Rattle.fx_app.proofs.WordLemmas.{bench_number}
 use Rattle.fx_app.proofs.EndedLemmas as end
 use Rattle.fx_app.proofs.steps.outcome.Goals as goal
 
-pub bench-requires : goal.bench-requires
-bench-requires g c = (
-  search rules,
-  (
-    search rules,
+pub bench-requires-clause-number : goal.bench-requires-clause-number
+bench-requires-clause-number g c κs within =
     bench_number (map string_bytes c.args.words.now) c.in_ok-order.order c.in_ok-order.ensures.ok
-        (sym (ap (λ (o : Ordered). o.mode) c.order.view_is) ∙ c.in-Bench.is),
-  ),
-)
+    (sym (ap (λ (o : Ordered). o.mode) c.order.view_is) ∙ c.in-Bench.is)
+
+pub bench-requires-clause-in_mode : goal.bench-requires-clause-in_mode
+bench-requires-clause-in_mode g c κs within = sym (ap (λ (o : Ordered). o.mode) c.order.view_is) ∙ c.in-Bench.is
+
+pub check-requires : goal.check-requires
+check-requires g c = sym (ap (λ (o : Ordered). o.mode) c.order.view_is) ∙ c.in-Check.is
 
 pub returns-in-Render-clause-told : goal.returns-in-Render-clause-told
 returns-in-Render-clause-told g c = λ render tells told.
@@ -49,11 +50,11 @@ returns-in-Render-clause-ended g c =
     let D = g.D.Depot in
     let O = g.O.Sink in
     let asked = order_of (map string_bytes c.args.words.now) in
-    end.ended_in L.tells D.tells O.tells (L.file c.args.library.now)
+    end.files_ended L.tells D.tells O.tells (L.file c.args.library.now)
     (calls (L.faults c.args.library.now) (L.faults c.render.new.library) (L.last c.args.library.now) (L.last c.render.new.library))
     (calls (D.faults c.args.depot.now) (D.faults c.render.new.depot) (D.last c.args.depot.now) (D.last c.render.new.depot))
     (O.faults c.args.out.now, O.faults c.render.new.out) (D.file c.args.depot.now, D.file c.render.new.depot) (O.written c.args.out.now, O.written c.render.new.out)
-    c.render.result asked c.in_ok-order.order mode.Render c.in_ok-order.ensures.ok (sym (ap (λ (o : Ordered). o.mode) c.order.view_is) ∙ c.in-Render.is) c.render.ensures.ended
+    c.render.result asked c.in_ok-order.order c.order.inside.mode c.in_ok-order.ensures.ok (sym (ap (λ (o : Ordered). o.mode) c.order.view_is)) c.in-Render.is c.render.ensures.ended
 
 pub returns-in-Check-clause-ended : goal.returns-in-Check-clause-ended
 returns-in-Check-clause-ended g c =

@@ -1,5 +1,5 @@
 use Rattle.std.proofs.Common.{inr, map, string_bytes}
-use Rattle.fx_words.specs.declared.order.Mode.TheVariants.{Render, Check, Bench, Migrate}
+use Rattle.fx_words.specs.declared.order.Mode.TheVariants.{Check, Bench, Migrate}
 use Rattle.fx_words.specs.Order.{order_of}
 use Rattle.fx_app.proofs.StepsLemmas.{only_memory, ends_by_memory}
 use Rattle.fx_app.proofs.MigrateLemmas as migrate
@@ -42,7 +42,7 @@ returns-in-Err-clause-completes g c = λ render told known fetched wrote reporte
     (library.faults c.args.library.now, library.faults c.outcome.new.library, library.last c.outcome.new.library)
     (depot.faults c.args.depot.now, depot.faults c.outcome.new.depot, depot.last c.outcome.new.depot)
     (sink.faults c.args.out.now, sink.faults c.outcome.new.out)
-    c.in-Err.fault known (mode.cause_at Render library.tells (order_of (map string_bytes c.args.words.now)) (library.file c.args.library.now) c.in-Err.ensures.ended.moment c.in-Err.fault render c.in-Err.ensures.ended.cause told)
+    c.in-Err.fault known (mode.cause_of_files library.tells (order_of (map string_bytes c.args.words.now)) (library.file c.args.library.now) c.in-Err.ensures.ended.moment c.in-Err.fault render c.in-Err.ensures.ended.cause told)
     c.in-Err.ensures.ended.rose fetched wrote reported)
 
 pub returns-in-Err-clause-check_completes : goal.returns-in-Err-clause-check_completes

@@ -1,4 +1,3 @@
-use Rattle.std.proofs.Common.{◌+◌}
 use Rattle.fx_seq.specs.Held.{got_frames}
 use Rattle.fx_seq.proofs.MomentLemmas.{due_is_new, goes_on}
 use Rattle.fx_app.proofs.making.Making.advance.Goals as goal

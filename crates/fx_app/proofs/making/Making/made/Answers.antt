@@ -1,89 +1,163 @@
-use Rattle.std.proofs.Common.{◌≡◌, ◌+◌, ◌∙◌, ℕ, List, [], sym, ap, subst, refl}
-use Rattle.fx_base.specs.Pattern.{name_of}
-use Rattle.fx_seq.specs.Moments.{AreOnce}
+use Rattle.std.proofs.Common.{◌≡◌, ◌+◌, ◌∙◌, ℕ, List, [], sym, ap, subst, refl, arith}
+use Rattle.fx_seq.specs.Held.{HasRead, got_frames}
+use Rattle.fx_seq.specs.Lists.{AreFramesOf}
+use Rattle.fx_seq.specs.Moments.{AreOnce, due_at}
+use Rattle.fx_seq.specs.declared.store.Store.{Store}
 use Rattle.fx_seq.specs.declared.used.Use.{Use}
 use Rattle.fx_region.specs.Held.{EndsReached, EndsStay}
 use Rattle.fx_life.specs.Posts.{HasLife}
 use Rattle.fx_scene.specs.Holds.{PicturesStay}
+use Rattle.fx_scene.specs.Scenes.{Shot}
+use Rattle.fx_shipped.specs.declared.shipped.Shipped.{Shipped}
 use Rattle.fx_shipped.specs.Shipped.{meaning_of, number_of}
-use Rattle.fx_app.specs.declared.crew.Crew.{Crew}
 use Rattle.fx_app.specs.declared.making.Making.{Making}
 use Rattle.fx_app.specs.Graphs.{Graph}
-use Rattle.fx_app.specs.Making.{HasDrawn}
-use Rattle.fx_app.proofs.MakingLemmas.{goes_on, knew, place_is, text_now, wants_now}
+use Rattle.fx_app.specs.Making.{MayMake}
+use Rattle.fx_app.specs.Moments.{images_of}
+use Rattle.fx_app.specs.Reels.{file_name, file_text}
+use Rattle.fx_app.proofs.MakingLemmas.{at_renewed, frame_low, goes_on, here_renewed, knew, moments_few, name_is, next_renewed, read_renewed, text_now, wants_now}
 use Rattle.fx_app.proofs.ReadLemmas.{uses_are_once}
+use Rattle.fx_app.proofs.TakeLemmas.{life_at}
 use Rattle.fx_app.proofs.making.Making.made.Goals as goal
 
-pub advance-requires-clause-once : goal.advance-requires-clause-once
-advance-requires-clause-once g c =
+pub begin-requires : goal.begin-requires
+begin-requires g c = let w = c.requires.may in record { at = (w.0, w.1.plan, w.1.making.at) }
+
+pub advance-requires : goal.advance-requires
+advance-requires g c =
     let p = c.requires.may.0 in
     let may = c.requires.may.1 in
-    subst (λ (us : List Use). AreOnce us) may.uses_are (uses_are_once p.graph p.first p.count p.uses may.plan.are)
+    let uses = c.args.uses.now in
+    let begun = c.in_ok-begin.ensures in
+    let next : c.args.self.now.next ≡ c.begin.new.self.next = sym (ap (λ (m : Making). m.next) begun.rest) in
+    record {
+      once = subst (λ (us : List Use). AreOnce us) may.uses_are (uses_are_once p.reel p.uses may.plan.are);
+      read =
+          subst (λ (s : Store). HasRead uses c.begin.new.self.next s) (sym begun.store)
+          (subst (λ (n : ℕ). HasRead uses n c.args.self.now.scene.store) next
+          (subst (λ (us : List Use). HasRead us c.args.self.now.next c.args.self.now.scene.store) may.uses_are may.making.read));
+      due = subst (λ (n : ℕ). AreFramesOf (due_at uses n) c.args.frames.items) next c.requires.due;
+    }
 
 pub renew-requires : goal.renew-requires
 renew-requires g c =
-    let is = c.in_ok-advance.ensures in
-    record { knew = knew c.requires.may.0 c.args.uses.now c.args.self.now c.advance.new.self c.requires.may.1 is.rest is.graph is.grown }
+    let begun = c.in_ok-begin.ensures in
+    let came = c.in_ok-advance.ensures in
+    record {
+      knew = knew c.requires.may.0 c.args.self.now c.begin.new.self c.advance.new.self c.requires.may.1.making begun.rest begun.grown begun.nodes
+          came.rest came.graph came.grown;
+    }
 
 pub text-requires-clause-life : goal.text-requires-clause-life
 text-requires-clause-life g c κs within =
-    let same : c.renew.new.self.scene.graph ≡ c.args.self.now.scene.graph =
-    ap (λ (m : Making). m.scene.graph) c.in_ok-renew.ensures.rest ∙ c.in_ok-advance.ensures.graph in
-    subst (λ (s : Graph). HasLife number_of s c.args.life.now) (sym same) c.requires.life
+    let p = c.requires.may.0 in
+    let may = c.requires.may.1 in
+    let begun = c.in_ok-begin.ensures.at p may.plan may.making.at in
+    let came = c.in_ok-advance.ensures in
+    let ren = c.renew.new.self in
+    let at = at_renewed p c.begin.new.self c.advance.new.self ren begun.0 begun.1 came.rest came.graph came.script c.in_ok-renew.ensures.rest in
+    subst (λ (h : Graph). HasLife number_of h c.args.life.now) (sym at.graph)
+    (life_at number_of p.reel.graph p.reel.edits ren.scene.script.take c.args.life.now
+    (subst (λ (h : Graph). HasLife number_of h c.args.life.now) may.making.at.written c.requires.life))
 
 pub text-requires-clause-crew : goal.text-requires-clause-crew
 text-requires-clause-crew g c κs within =
     let making = c.requires.may.1.making in
-    let there = ap (λ (m : Making). m.crew) c.in_ok-advance.ensures.rest ∙ making.crew_is.there in
+    let there =
+    ap (λ (m : Making). m.crew) c.in_ok-advance.ensures.rest ∙ ap (λ (m : Making). m.crew) c.in_ok-begin.ensures.rest ∙ making.crew_is.there in
     let again = c.in_ok-renew.ensures.renewed making.crew there in
     (again.0, again.1, again.2.is)
 
+pub text-requires-clause-frame : goal.text-requires-clause-frame
+text-requires-clause-frame g c κs within =
+    let p = c.requires.may.0 in
+    let may = c.requires.may.1 in
+    let begun = c.in_ok-begin.ensures.at p may.plan may.making.at in
+    let came = c.in_ok-advance.ensures in
+    let ren = c.renew.new.self in
+    let at = at_renewed p c.begin.new.self c.advance.new.self ren begun.0 begun.1 came.rest came.graph came.script c.in_ok-renew.ensures.rest in
+    let here = here_renewed p c.begin.new.self c.advance.new.self ren begun.0 begun.1 came.rest came.graph came.script c.in_ok-renew.ensures.rest in
+    frame_low p ren at here may.plan
+
 pub text-requires-clause-holds : goal.text-requires-clause-holds
 text-requires-clause-holds g c κs within =
+    let p = c.requires.may.0 in
+    let may = c.requires.may.1 in
+    let begin = c.in_ok-begin.ensures in
+    let begun = begin.at p may.plan may.making.at in
     let came = c.in_ok-advance.ensures in
-    wants_now c.requires.may.0 c.args.uses.now c.args.self.now c.advance.new.self c.renew.new.self c.requires.may.1 came.rest came.graph came.read
-    c.in_ok-renew.ensures.rest
+    let ren = c.renew.new.self in
+    let rest = c.in_ok-renew.ensures.rest in
+    let next : ren.next ≡ c.args.self.now.next =
+    next_renewed p c.begin.new.self c.advance.new.self ren begun.0 begun.1 came.rest came.graph came.script rest ∙ ap (λ (m : Making). m.next) begin.rest in
+    let few = may.few in
+    let read = read_renewed p c.begin.new.self c.advance.new.self ren begun.0 begun.1 came.rest came.graph came.script rest c.args.uses.now may.uses_are came.read in
+    wants_now p c.begin.new.self c.advance.new.self ren begun.0 begun.1 came.rest came.graph came.script rest may.plan (omega (arith, few, next)) read
+
+pub overflow_add-self-2 : goal.overflow_add-self-2
+overflow_add-self-2 g c =
+    let may = c.requires.may.1 in
+    let few = may.few in
+    let all = moments_few c.requires.may.0 may.plan in
+    let next : c.text.new.self.next ≡ c.args.self.now.next =
+    ap (λ (m : Making). m.next) c.in_ok-bytes.ensures.rest ∙ ap (λ (m : Making). m.next) c.in_ok-renew.ensures.rest
+    ∙ ap (λ (m : Making). m.next) c.in_ok-advance.ensures.rest ∙ ap (λ (m : Making). m.next) c.in_ok-begin.ensures.rest in
+    omega (arith, few, all, next)
 
 pub returns-clause-file : goal.returns-clause-file
 returns-clause-file g c = λ p may.
+    let begin = c.in_ok-begin.ensures in
+    let begun = begin.at p may.plan may.making.at in
     let came = c.in_ok-advance.ensures in
-    let renewed = c.in_ok-renew.ensures in
-    let old = c.args.self.now in
     let ren = c.renew.new.self in
-    let frame = ren.first + ren.next in
-    let at : frame ≡ p.first + old.next = place_is p c.args.uses.now old c.advance.new.self ren may came.rest renewed.rest in
-    let graph : ren.scene.graph ≡ p.graph = ap (λ (m : Making). m.scene.graph) renewed.rest ∙ came.graph ∙ may.making.graph in
-    let pattern : c.graph-2.result.now.file ≡ p.graph.file = ap (λ (s : Graph). s.file) (c.graph-2.ensures.shown ∙ graph) in
-    let stay : PicturesStay meaning_of p.graph [] =
-    subst (λ (s : Graph). PicturesStay meaning_of s []) (c.graph.ensures.shown ∙ may.making.graph) c.more_is_same.ensures.pictures in
-    let wants = wants_now p c.args.uses.now old c.advance.new.self ren may came.rest came.graph came.read renewed.rest in
+    let rest = c.in_ok-renew.ensures.rest in
+    let at = at_renewed p c.begin.new.self c.advance.new.self ren begun.0 begun.1 came.rest came.graph came.script rest in
+    let here = here_renewed p c.begin.new.self c.advance.new.self ren begun.0 begun.1 came.rest came.graph came.script rest in
+    let next : ren.next ≡ c.args.self.now.next =
+    next_renewed p c.begin.new.self c.advance.new.self ren begun.0 begun.1 came.rest came.graph came.script rest ∙ ap (λ (m : Making). m.next) begin.rest in
+    let few = may.few in
+    let read = read_renewed p c.begin.new.self c.advance.new.self ren begun.0 begun.1 came.rest came.graph came.script rest c.args.uses.now may.uses_are came.read in
+    let stay : PicturesStay meaning_of ren.scene.graph [] =
+    subst (λ (h : Graph). PicturesStay meaning_of h []) c.graph.ensures.shown (c.more_is_same.ensures.pictures [] (λ k. tt)) in
+    let drawn : c.text.new.self.scene ≡ ren.scene = ap (λ (m : Making). m.scene) c.in_ok-bytes.ensures.rest in
     record {
-      name = c.in_ok-name.ensures.value ∙ ap (λ (f : List ℕ). name_of f frame) pattern ∙ ap (name_of p.graph.file) at;
-      text = c.in_ok-bytes.ensures.text ∙ text_now p stay ren.scene c.text.new.self.scene frame old.next graph at c.in_ok-bytes.ensures.scene wants;
+      name = c.in_ok-name.ensures ∙ name_is p ren at here ∙ ap (file_name p.reel) next;
+      text =
+          c.in_ok-bytes.ensures.text
+          ∙ text_now p c.begin.new.self c.advance.new.self ren begun.0 begun.1 came.rest came.graph came.script rest may.plan (omega (arith, few, next)) read stay
+          ∙ ap (λ (s : Shot Shipped). file_text p.reel (images_of (got_frames s.store)) ren.next) (sym drawn)
+          ∙ ap (file_text p.reel (images_of (got_frames c.text.new.self.scene.store))) next;
     }
 
 pub returns-clause-making : goal.returns-clause-making
 returns-clause-making g c = λ p may.
+    let begin = c.in_ok-begin.ensures in
+    let begun = begin.at p may.plan may.making.at in
     let came = c.in_ok-advance.ensures in
-    let renewed = c.in_ok-renew.ensures in
-    let drawn = c.in_ok-bytes.ensures in
-    let old = c.args.self.now in
     let ren = c.renew.new.self in
     let txt = c.text.new.self in
-    let at : ren.first + ren.next ≡ p.first + old.next = place_is p c.args.uses.now old c.advance.new.self ren may came.rest renewed.rest in
-    let same : _ ≡ p.graph = c.graph.ensures.shown ∙ may.making.graph in
-    let ends : EndsStay meaning_of p.graph = subst (λ (s : Graph). EndsStay meaning_of s) same c.more_is_same.ensures.ends in
-    let lead : EndsReached meaning_of p.graph = subst (λ (s : Graph). EndsReached meaning_of s) same c.more_is_same.ensures.reached in
-    let final : Making = record txt { next = txt.next + 1 } in
-    goes_on p ends lead c.args.uses.now c.args.frames.items old c.advance.new.self ren txt may
+    let old = c.args.self.now in
+    let next : c.begin.new.self.next ≡ old.next = ap (λ (m : Making). m.next) begin.rest in
+    let ends : EndsStay meaning_of ren.scene.graph = subst (λ (h : Graph). EndsStay meaning_of h) c.graph.ensures.shown c.more_is_same.ensures.ends in
+    let lead : EndsReached meaning_of ren.scene.graph =
+    subst (λ (h : Graph). EndsReached meaning_of h) c.graph.ensures.shown c.more_is_same.ensures.reached in
+    let final : Making = record txt { frame = txt.frame + 1; next = txt.next + 1 } in
+    let of : MayMake p p.uses 1 old = record { plan = may.plan; uses_are = refl; few = may.few; making = may.making } in
+    goes_on p c.args.frames.items old c.begin.new.self c.advance.new.self ren txt of
     (record {
+      rest_begun = begin.rest;
+      store = begin.store;
+      at = begun.0;
+      here = begun.1;
       rest_came = came.rest;
       graph = came.graph;
-      read = came.read;
+      script = came.script;
+      read =
+          subst (λ (us : List Use). HasRead us (old.next + 1) c.advance.new.self.scene.store) (sym may.uses_are)
+          (subst (λ (n : ℕ). HasRead c.args.uses.now (n + 1) c.advance.new.self.scene.store) next came.read);
       seen = came.seen;
-      rest_renewed = renewed.rest;
-      again = renewed.renewed;
-      scene_drawn = drawn.scene;
-      place = drawn.place;
-      drew = λ crew there. subst (λ (t : ℕ). HasDrawn t crew ren txt) at (drawn.drawn crew there);
-    }) final refl
+      rest_renewed = c.in_ok-renew.ensures.rest;
+      again = c.in_ok-renew.ensures.renewed;
+      rest_drawn = c.in_ok-bytes.ensures.rest;
+      drew = c.in_ok-bytes.ensures.drawn;
+    }) ends lead final refl

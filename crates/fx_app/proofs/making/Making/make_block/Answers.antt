@@ -16,16 +16,16 @@ pub loop-frames-init : goal.loop-frames-init
 loop-frames-init g c =
     let block = fetched_in c.args.fetched.now.items in
     record {
-      graph = refl;
+      written = refl;
       count = refl;
       due = c.requires.due;
       may = λ p may. may;
-      made = λ p may. rw c.requires.empty (made_none (IsMomentFile p.graph p.first) (seen_by c.args.self.now) c.args.self.now.next block);
+      made = λ p may. rw c.requires.empty (made_none (IsMomentFile p.reel) (seen_by c.args.self.now) c.args.self.now.next block);
     }
 
 pub returns-then-is_err-clause-makes : goal.returns-then-is_err-clause-makes
 returns-then-is_err-clause-makes g c = λ p may.
-    let right = IsMomentFile p.graph p.first in
+    let right = IsMomentFile p.reel in
     let seen = seen_by c.args.self.now in
     let now = seen_by c.loop-frames.self in
     let block = fetched_in c.args.fetched.now.items in
@@ -43,7 +43,7 @@ returns-then-is_err-clause-makes g c = λ p may.
 
 pub returns-in-Err-clause-makes : goal.returns-in-Err-clause-makes
 returns-in-Err-clause-makes g c = λ p may.
-    let right = IsMomentFile p.graph p.first in
+    let right = IsMomentFile p.reel in
     let seen = seen_by c.args.self.now in
     let now = seen_by c.loop-frames.self in
     let block = fetched_in c.args.fetched.now.items in
@@ -74,7 +74,7 @@ loop-frames-preserved g c =
     let due : AreDue uses m (f ∷ left) = rw c.in-Some.ensures.items at before.due in
     let pushed : c.push_back.new.self.items ≡ c.loop-frames.made.items ++ d ∷ [] = search rules in
     record {
-      graph = search rules;
+      written = search rules;
       count = omega (arith, count, next);
       due = subst (λ (n : ℕ). AreDue uses n left) (sym next) due.1;
       may = λ p may.
@@ -87,7 +87,7 @@ loop-frames-preserved g c =
             making = c.in-Ok.ensures.making p (record { plan = b.plan; uses_are = b.uses_are; few = omega (arith, few); making = b.making });
           };
       made = λ p may.
-          let right = IsMomentFile p.graph p.first in
+          let right = IsMomentFile p.reel in
           let b : MayMake p uses (length (f ∷ left)) c.loop-frames.self = rw c.in-Some.ensures.items at before.may p may in
           let few = b.few in
           let made : HasMade right seen c.args.self.now.next block (f ∷ left) c.loop-frames.made.items now = rw c.in-Some.ensures.items at before.made p may in
@@ -101,7 +101,7 @@ loop-frames-preserved g c =
 
 pub made-requires-clause-life : goal.made-requires-clause-life
 made-requires-clause-life g c κs within =
-    subst (λ (s : Graph). HasLife number_of s c.args.life.now) (sym c.loop-frames.invariant.graph) c.requires.life
+    subst (λ (s : Graph). HasLife number_of s c.args.life.now) (sym c.loop-frames.invariant.written) c.requires.life
 
 pub made-requires-clause-may : goal.made-requires-clause-may
 made-requires-clause-may g c κs within =
@@ -117,7 +117,7 @@ returns-clause-makes g c = λ p may.
     let left = fetched_in c.loop-frames.fetched.items in
     let empty : c.loop-frames.fetched.items ≡ [] = search rules in
     let none : left ≡ [] = ap fetched_in empty in
-    made_whole (IsMomentFile p.graph p.first) (seen_by c.args.self.now) c.args.self.now.next (fetched_in c.args.fetched.now.items) left
+    made_whole (IsMomentFile p.reel) (seen_by c.args.self.now) c.args.self.now.next (fetched_in c.args.fetched.now.items) left
     c.loop-frames.made.items (seen_by c.loop-frames.self) c.loop-frames.self.next (c.loop-frames.invariant.made p may) none c.loop-frames.invariant.count
 
 pub returns-clause-may : goal.returns-clause-may

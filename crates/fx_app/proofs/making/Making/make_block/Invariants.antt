@@ -12,12 +12,12 @@ invariant-loop-frames g l =
     let block = fetched_in l.fn.fetched.items in
     let left = fetched_in l.fetched.items in
     record {
-      graph : l.self.scene.graph ≡ l.fn.self.scene.graph;
+      written : l.self.scene.script.written ≡ l.fn.self.scene.script.written;
       count : l.self.next + length left ≡ l.fn.self.next + length block;
       due : AreDue uses l.self.next left;
       may : (p : Plan) → MayMake p uses (length block) l.fn.self → MayMake p uses (length left) l.self;
       made : (p : Plan) → MayMake p uses (length block) l.fn.self
-          → HasMade (IsMomentFile p.graph p.first) (seen_by l.fn.self) l.fn.self.next block left l.made.items (seen_by l.self);
+          → HasMade (IsMomentFile p.reel) (seen_by l.fn.self) l.fn.self.next block left l.made.items (seen_by l.self);
     }
 
 abbrev pub decreases-loop-frames : goal.decreases-loop-frames
