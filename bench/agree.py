@@ -129,24 +129,41 @@ def made(number):
     return str(number), graph, files, ["render", "g.json", *options(dice)]
 
 
-def differs(graph, files, words, wanted, report):
-    """What the program leaves otherwise than host.py does, if anything."""
+def left_by(graph, files, words):
+    """What the program prints and the files that it puts, or how it ended otherwise than well."""
+    given = {**files, "g.json": json.dumps(graph).encode()}
     with tempfile.TemporaryDirectory() as folder:
-        for name, data in {**files, "g.json": json.dumps(graph).encode()}.items():
+        for name, data in given.items():
             with open(f"{folder}/{name}", "wb") as it:
                 it.write(data)
         ran = subprocess.run([PROGRAM, *words], cwd=folder, capture_output=True, text=True)
         if ran.returncode:
-            return f"status {ran.returncode}: {ran.stderr}"
-        for name, data in wanted.items():
+            return None, {}, f"status {ran.returncode}: {ran.stderr}"
+        left = {}
+        for name in sorted(set(os.listdir(folder)) - set(given)):
             with open(f"{folder}/{name}", "rb") as it:
-                if it.read() != data:
-                    return f"{name} differs"
-    # a cache that lets tiles go has its own count of those
-    lines = 2 if host.option(words, "--cache", 4096) == 1 else 3
-    if ran.stdout.splitlines()[:lines] != report.splitlines()[:lines]:
-        return f"reports {ran.stdout!r} in place of {report!r}"
-    return None
+                left[name] = it.read()
+    return ran.stdout, left, None
+
+
+def other_files(left, wanted):
+    """The first name under which there is another file than is wanted, if there is one."""
+    return next((f"{name} differs" for name in sorted({*left, *wanted}) if left.get(name) != wanted.get(name)), None)
+
+
+def other_report(said, report, words):
+    """Whether another report was printed."""
+    said, wanted = said.splitlines(), report.splitlines()
+    # a cache that lets tiles go has its own count of those that landed or were found
+    if host.option(words, "--cache", 4096) == 1:
+        said, wanted = said[:-1], wanted[:-1]
+    return None if said == wanted else f"reports {said} in place of {wanted}"
+
+
+def differs(graph, files, words, wanted, report):
+    """What the program leaves otherwise than host.py does, if anything."""
+    said, left, why = left_by(graph, files, words)
+    return why or other_files(left, wanted) or other_report(said, report, words)
 
 
 def hold(runs):

@@ -34,7 +34,7 @@ _ofxr() {
     done
     mapfile -t COMPREPLY < <(compgen -W "$options" -- "$word")
   elif [ "$count" -eq 0 ]; then
-    mapfile -t COMPREPLY < <(compgen -W 'render check bench migrate' -- "$word")
+    mapfile -t COMPREPLY < <(compgen -W 'render takes check bench migrate' -- "$word")
   elif [ "$count" -eq 1 ] && [ "$mode" != bench ]; then
     compopt -o filenames 2>/dev/null
     mapfile -t COMPREPLY < <(compgen -d -- "$word"; compgen -f -X '!*.json' -- "$word")
