@@ -1,7 +1,9 @@
-//! The unit tests of fx_tile and of a scene: frames by workers over effects that note and count their calls, and the parts
-//! and keys of their scene.
+//! The unit tests of fx_tile, of a scene and of fx_plan: frames by workers over effects that note and count their calls,
+//! the parts and keys of their scene, and what frames demand.
 #![tactic(auto)]
 
+#[cfg(test)]
+mod plan;
 #[cfg(test)]
 mod same;
 #[cfg(test)]

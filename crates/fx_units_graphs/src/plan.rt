@@ -1,0 +1,301 @@
+//! What frames demand, over graphs of the effects that are shipped, worked by hand.
+ghost use Rattle.std.specs.Prelude.{◌≤◌, IfOk, pos};
+ghost use Rattle.fx_scene.specs.Right.{HasWanted};
+ghost use Rattle.fx_scene.specs.Scenes.{graph_shown, images_in};
+ghost use Rattle.fx_shipped.specs.Shipped.{meaning_of};
+
+use crate::same::same_at;
+use fx_base::{Grid, Name};
+use fx_graph::{Graph, accept};
+use fx_outside::SureLibrary;
+use fx_plan::{Entry, plan};
+use fx_region::Regions;
+use fx_scene::{Scene, wants};
+use fx_seq::Store;
+use fx_shipped::Shipped;
+use fx_text::{GraphFault, read_graph};
+use std::alloc::{AllocError, Global};
+use std::test::Fail;
+
+// A graph whose output is the node `n`: the sides of the project, those of the file `s.pam`, the side of a tile, and
+// the nodes.
+#[derive(Clone, Copy, Debug)]
+struct Planned<'a> {
+    project: (u32, u32),
+    file: (u32, u32),
+    side: u32,
+    nodes: &'a str,
+}
+
+// A node, a frame, and the left, bottom, right and top of a region.
+type Row = (u32, i64, i64, i64, i64, i64);
+
+// A generator is rendered where the picture is.
+const SOLID: Planned<'static> = Planned {
+    project: (2, 1),
+    file: (1, 1),
+    side: 64,
+    nodes: r#"{"name":"n","effect":"solid","params":{"r":1,"g":"0.5","b":0,"a":1}}"#,
+};
+
+// The tiles of a picture that is a column wider and a row higher than one.
+const FOUR_TILES: Planned<'static> = Planned {
+    project: (65, 65),
+    ..SOLID
+};
+
+// Nothing is rendered of an identity that ends in a source's frame.
+const FADE_BEFORE: Planned<'static> = Planned {
+    project: (1, 1),
+    file: (1, 1),
+    side: 64,
+    nodes: r#"{"name":"f","source":"s.pam","first":0,"last":0},{"name":"t","source":"s.pam","first":0,"last":0},{"name":"n","effect":"dissolve","clips":{"SourceFrom":"f","SourceTo":"t"},"params":{"Transition":0}}"#,
+};
+
+// Half way it is rendered.
+const FADE: Planned<'static> = Planned {
+    nodes: r#"{"name":"f","source":"s.pam","first":0,"last":0},{"name":"t","source":"s.pam","first":0,"last":0},{"name":"n","effect":"dissolve","clips":{"SourceFrom":"f","SourceTo":"t"},"params":{"Transition":"0.5"}}"#,
+    ..FADE_BEFORE
+};
+
+// A frame that the source hasn't is found nowhere.
+const LATE: Planned<'static> = Planned {
+    nodes: r#"{"name":"s","source":"s.pam","first":0,"last":0},{"name":"n","effect":"timeoffset","clips":{"Source":"s"},"params":{"offset":5}}"#,
+    ..FADE_BEFORE
+};
+
+// Both clips of the sum need the same four tiles of the blur.
+const DIAMOND: Planned<'static> = Planned {
+    project: (128, 128),
+    file: (128, 128),
+    side: 64,
+    nodes: r#"{"name":"s","source":"s.pam","first":0,"last":0},{"name":"b","effect":"boxblur","clips":{"Source":"s"},"params":{"rx":1,"ry":1}},{"name":"n","effect":"merge","clips":{"A":"b","B":"b"},"params":{"operation":"plus"}}"#,
+};
+
+// The blur's nine tiles need each of the nine below up to nine times.
+const BLUR: Planned<'static> = Planned {
+    project: (192, 192),
+    file: (192, 192),
+    side: 64,
+    nodes: r#"{"name":"s","source":"s.pam","first":0,"last":0},{"name":"i","effect":"invert","clips":{"Source":"s"}},{"name":"n","effect":"boxblur","clips":{"Source":"i"},"params":{"rx":1,"ry":1}}"#,
+};
+
+// A blur has pixels beside its source, and they are moved into the picture.
+const MOVED_BLUR: Planned<'static> = Planned {
+    project: (5, 1),
+    file: (3, 1),
+    side: 64,
+    nodes: r#"{"name":"s","source":"s.pam","first":0,"last":0},{"name":"b","effect":"boxblur","clips":{"Source":"s"},"params":{"rx":1,"ry":0}},{"name":"n","effect":"translate","clips":{"Source":"b"},"params":{"dx":1}}"#,
+};
+
+// A gain of 1 is the same as its clip, so the blur needs the tiles of the generator below it, and none of the gain's.
+const IDENTITY: Planned<'static> = Planned {
+    project: (3, 2),
+    file: (1, 1),
+    side: 2,
+    nodes: r#"{"name":"c","effect":"solid"},{"name":"g","effect":"gain","clips":{"Source":"c"}},{"name":"n","effect":"boxblur","clips":{"Source":"g"},"params":{"rx":1,"ry":0}}"#,
+};
+
+// Three frames of a generator.
+const FRAMES: Planned<'static> = Planned {
+    project: (1, 1),
+    file: (1, 1),
+    side: 64,
+    nodes: r#"{"name":"c","effect":"solid"},{"name":"n","effect":"frameblend","clips":{"Source":"c"},"params":{"radius":1}}"#,
+};
+
+// A graph, and what its frame 0 demands.
+const AT_FIRST: &[(Planned<'static>, &[Row])] = &[
+    (SOLID, &[(0, 0, 0, 0, 2, 1)]),
+    (
+        FOUR_TILES,
+        &[
+            (0, 0, 0, 0, 64, 64),
+            (0, 0, 64, 0, 65, 64),
+            (0, 0, 0, 64, 64, 65),
+            (0, 0, 64, 64, 65, 65),
+        ],
+    ),
+    (FADE_BEFORE, &[]),
+    (FADE, &[(2, 0, 0, 0, 1, 1)]),
+    (LATE, &[]),
+    (
+        DIAMOND,
+        &[
+            (1, 0, 0, 0, 64, 64),
+            (1, 0, 64, 0, 128, 64),
+            (1, 0, 0, 64, 64, 128),
+            (1, 0, 64, 64, 128, 128),
+            (2, 0, 0, 0, 64, 64),
+            (2, 0, 64, 0, 128, 64),
+            (2, 0, 0, 64, 64, 128),
+            (2, 0, 64, 64, 128, 128),
+        ],
+    ),
+    (
+        BLUR,
+        &[
+            (1, 0, 0, 0, 64, 64),
+            (1, 0, 64, 0, 128, 64),
+            (1, 0, 128, 0, 192, 64),
+            (1, 0, 0, 64, 64, 128),
+            (1, 0, 64, 64, 128, 128),
+            (1, 0, 128, 64, 192, 128),
+            (1, 0, 0, 128, 64, 192),
+            (1, 0, 64, 128, 128, 192),
+            (1, 0, 128, 128, 192, 192),
+            (2, 0, 0, 0, 64, 64),
+            (2, 0, 64, 0, 128, 64),
+            (2, 0, 128, 0, 192, 64),
+            (2, 0, 0, 64, 64, 128),
+            (2, 0, 64, 64, 128, 128),
+            (2, 0, 128, 64, 192, 128),
+            (2, 0, 0, 128, 64, 192),
+            (2, 0, 64, 128, 128, 192),
+            (2, 0, 128, 128, 192, 192),
+        ],
+    ),
+    (
+        MOVED_BLUR,
+        &[(1, 0, -1, 0, 0, 1), (1, 0, 0, 0, 4, 1), (2, 0, 0, 0, 5, 1)],
+    ),
+    (
+        IDENTITY,
+        &[
+            (0, 0, 0, 0, 2, 2),
+            (0, 0, 2, 0, 3, 2),
+            (2, 0, 0, 0, 2, 2),
+            (2, 0, 2, 0, 3, 2),
+        ],
+    ),
+    (
+        FRAMES,
+        &[
+            (0, -1, 0, 0, 1, 1),
+            (0, 0, 0, 0, 1, 1),
+            (0, 1, 0, 0, 1, 1),
+            (1, 0, 0, 0, 1, 1),
+        ],
+    ),
+];
+
+// And what its frame 7 does.
+const LATER: &[(Planned<'static>, &[Row])] = &[
+    (SOLID, &[(0, 7, 0, 0, 2, 1)]),
+    (
+        FRAMES,
+        &[
+            (0, 6, 0, 0, 1, 1),
+            (0, 7, 0, 0, 1, 1),
+            (0, 8, 0, 0, 1, 1),
+            (1, 7, 0, 0, 1, 1),
+        ],
+    ),
+    // Behind its only frame the source has no pixel.
+    (MOVED_BLUR, &[]),
+];
+
+fn graph_of(alloc: Global, planned: &Planned<'_>) -> Result<Graph<Shipped>, GraphFault> {
+    let (width, height) = planned.project;
+    let nodes = planned.nodes;
+    let project = format!(in alloc;
+        r#""width":{width},"height":{height},"depth":"byte","components":"RGBA""#
+    )?;
+    let text = format!(in alloc;
+        r#"{{"ofxr":1,"project":{{{project}}},"output":{{"node":"n","file":"o#.pam","format":"RGB_ALPHA"}},"range":{{"first":0,"last":9}},"nodes":[{nodes}]}}"#
+    )?;
+    let raw = read_graph(alloc, text.as_bytes(), 16, 8192)?;
+    accept(alloc, raw)
+}
+
+// The file of grey zeros.
+fn file(alloc: Global, sides: (u32, u32)) -> Result<(Name, Vec<u8>), AllocError> {
+    let (width, height) = sides;
+    let header = format!(in alloc;
+        "P7\nWIDTH {width}\nHEIGHT {height}\nDEPTH 1\nMAXVAL 255\nENDHDR\n"
+    )?;
+    let mut bytes = header.as_bytes().to_vec(alloc)?;
+    for _ in 0..height {
+        for _ in 0..width {
+            bytes.push(0)?;
+        }
+    }
+    Ok((Name::of(String::from_str(alloc, "s.pam")?), bytes))
+}
+
+// The frames that a graph wants at a frame.
+fn store_of(
+    alloc: Global,
+    library: &mut SureLibrary,
+    graph: &Graph<Shipped>,
+    at: u32,
+) -> Result<Store, Fail>
+    requires { at ≤ 999999 }
+    ensures { let g = graph_shown graph.now in
+        IfOk result (λ store. HasWanted meaning_of g (images_in store) g.output (pos at)) }
+{
+    let wanted = wants(alloc, graph, at, at)?;
+    match Store::fill(alloc, library, &wanted, 1_000_000, 8192) {
+        Ok(store) => Ok(store),
+        Err(_) => Err(Fail::from("a frame is refused")),
+    }
+}
+
+fn scene_of(alloc: Global, planned: &Planned<'_>, at: u32) -> Result<Scene<Shipped>, Fail>
+    requires { at ≤ 999999 }
+    ensures { IfOk result (λ s. HasWanted meaning_of s.graph (images_in s.store) s.graph.output (pos at)) }
+{
+    let graph = graph_of(alloc, planned).ok().ok_or("the graph is refused")?;
+    let mut library = SureLibrary::new(alloc, vec![in alloc; file(alloc, planned.file)?]?);
+    let store = store_of(alloc, &mut library, &graph, at)?;
+    let (scene, _) = Scene::new(graph, store, 7);
+    Ok(scene)
+}
+
+fn grid_of(side: u32) -> Result<Grid, Fail> {
+    if side == 0 || side > 1024 {
+        return Err(Fail::from("no side of a tile"));
+    }
+    Ok(Grid { side })
+}
+
+fn row_of(entry: &Entry) -> Row {
+    let region = entry.region;
+    (
+        entry.node,
+        entry.frame,
+        region.x1,
+        region.y1,
+        region.x2,
+        region.y2,
+    )
+}
+
+// What a frame of a graph demands.
+fn rows_of(alloc: Global, planned: &Planned<'_>, at: u32) -> Result<Vec<Row>, Fail>
+    requires { at ≤ 999999 }
+{
+    let scene = scene_of(alloc, planned, at)?;
+    let at = i64::from(at);
+    let regions = Regions::of(alloc, &scene, at)?;
+    let entries = plan(alloc, &scene, &regions, at, grid_of(planned.side)?)?;
+    let mut rows = Vec::new(alloc);
+    for entry in &entries {
+        rows.push(row_of(entry))?;
+    }
+    Ok(rows)
+}
+
+#[test]
+fn a_frame_demands_renders(rt: HostRuntime) -> Result<(), Fail> {
+    let alloc = rt.alloc();
+    for (planned, wanted) in AT_FIRST {
+        let rows = rows_of(alloc, planned, 0)?;
+        same_at(&rt, planned, rows.as_slice(), *wanted);
+    }
+    for (planned, wanted) in LATER {
+        let rows = rows_of(alloc, planned, 7)?;
+        same_at(&rt, planned, rows.as_slice(), *wanted);
+    }
+    Ok(())
+}
