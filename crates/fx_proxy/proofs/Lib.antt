@@ -1,0 +1,10 @@
+pub mod BlockLaws
+pub mod ViewLaws
+pub mod MadeLaws
+pub mod LengthLemmas
+pub mod ScaledLemmas
+pub mod TakeLemmas
+pub mod FrameLemmas
+pub mod WholeLemmas
+pub mod NeedLemmas
+pub mod ShippedLemmas
