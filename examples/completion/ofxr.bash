@@ -11,7 +11,7 @@ _ofxr() {
   for ((at = 1; at < COMP_CWORD; at++)); do
     one=${COMP_WORDS[at]}
     case $one in
-      --first | --last | --tile | --cache | --workers) given+="$one " waits=yes ;;
+      --first | --last | --tile | --cache | --workers | --ahead) given+="$one " waits=yes ;;
       --*=*) given+="${one%%=*} " ;;
       =) ;;
       *)
@@ -29,7 +29,7 @@ _ofxr() {
 
   if [[ $word == -* ]]; then
     local option options=''
-    for option in --first --last --tile --cache --workers; do
+    for option in --first --last --tile --cache --workers --ahead; do
       [[ $given == *" $option "* ]] || options+="$option "
     done
     mapfile -t COMPREPLY < <(compgen -W "$options" -- "$word")

@@ -209,14 +209,14 @@ bench_is order library old new file count a b frames size total made there none 
 
 -- nothing was read, put or written
 module _ (a : ℕ) (x : List ℕ) where
-  no_fetch : (e : RunFault) → LeavesLibrary e a a x x
-  no_fetch run.Usage = no_call a x
-  no_fetch (run.Graph code path) = no_call a x
-  no_fetch (run.Frame node t why) = no_call a x
-  no_fetch (run.Read name) = tt
-  no_fetch (run.Write name) = no_call a x
-  no_fetch run.Memory = tt
-  no_fetch run.Report = no_call a x
+  no_fetch : (asked : Option Ordered) (e : RunFault) → LeavesLibrary asked e a a x x
+  no_fetch asked run.Usage = no_call a x
+  no_fetch asked (run.Graph code path) = no_call a x
+  no_fetch asked (run.Frame node t why) = no_call a x
+  no_fetch asked (run.Read name) = tt
+  no_fetch asked (run.Write name) = λ none. no_call a x
+  no_fetch asked run.Memory = tt
+  no_fetch asked run.Report = no_call a x
 
   no_put : (e : RunFault) → LeavesDepot e a a x x
   no_put run.Usage = no_call a x
@@ -256,7 +256,7 @@ module _ {o : Type 0} (order : Ordered) (library depot : Files) (a p : ℕ) (x q
         cause = m.cause;
         leaves = λ one two. untouched depot;
         tells = λ one. not_told (Some order) out e m.no_report;
-        fetched = no_fetch a x e;
+        fetched = no_fetch a x (Some order) e;
         put = no_put p q e;
         wrote = same_out w e;
         usage = λ is. absurd (m.words is);

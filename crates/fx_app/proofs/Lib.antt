@@ -19,4 +19,5 @@ pub mod GrownLemmas
 pub mod EndsLemmas
 pub mod MakingLemmas
 pub mod TurnLemmas
+pub mod RoundLemmas
 pub mod StartLemmas

@@ -206,7 +206,7 @@ module _ {l d o : Type 0} (order : Ordered) (library : Files) where
         cause = (order, refl, failed.2, λ one. ordered_migration order library nodes made (m one));
         leaves = λ one two. subst (λ (n : List ℕ). SameBut n old new) failed.2 (leaves two);
         tells = λ one. refl;
-        fetched = quiet;
+        fetched = λ none. quiet;
         put = tt;
         wrote = refl;
         usage = λ is. absurd cc;

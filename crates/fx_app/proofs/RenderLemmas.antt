@@ -87,14 +87,15 @@ rose_since a b c z depot out (run.Write name) same other rose = rose
 rose_since a b c z depot out run.Memory same other rose = tt
 rose_since a b c z depot out run.Report same other rose = absurd (other refl)
 
-fetches_since : (a b c : ℕ) (x y z : List ℕ) (e : RunFault) → IsQuiet a b x y → LeavesLibrary e b c y z → LeavesLibrary e a c x z
-fetches_since a b c x y z run.Usage quiet leaves = quiet_more quiet leaves
-fetches_since a b c x y z (run.Graph code path) quiet leaves = quiet_more quiet leaves
-fetches_since a b c x y z (run.Frame node t why) quiet leaves = quiet_more quiet leaves
-fetches_since a b c x y z (run.Read name) quiet leaves = tt
-fetches_since a b c x y z (run.Write name) quiet leaves = quiet_more quiet leaves
-fetches_since a b c x y z run.Memory quiet leaves = tt
-fetches_since a b c x y z run.Report quiet leaves = quiet_more quiet leaves
+fetches_since : (asked : _) (a b c : ℕ) (x y z : List ℕ) (e : RunFault) → IsQuiet a b x y → LeavesLibrary asked e b c y z
+    → LeavesLibrary asked e a c x z
+fetches_since asked a b c x y z run.Usage quiet leaves = quiet_more quiet leaves
+fetches_since asked a b c x y z (run.Graph code path) quiet leaves = quiet_more quiet leaves
+fetches_since asked a b c x y z (run.Frame node t why) quiet leaves = quiet_more quiet leaves
+fetches_since asked a b c x y z (run.Read name) quiet leaves = tt
+fetches_since asked a b c x y z (run.Write name) quiet leaves = λ none. quiet_more quiet (leaves none)
+fetches_since asked a b c x y z run.Memory quiet leaves = tt
+fetches_since asked a b c x y z run.Report quiet leaves = quiet_more quiet leaves
 
 not_told : (asked : _) (library : Files) (text : List ℕ) (e : RunFault) → e ≢ run.Report
     → LeavesReport e text text × LeavesOwnReport asked library e text text
@@ -159,7 +160,7 @@ module _ {l d o : Type 0} (order : Ordered) (library : Files) where
         cause = λ one. subst (λ (f : Files). Cause (Some order) f s.moment e) (same one) (s.cause one);
         leaves = λ one two. subst (λ (f : Files). Leaves (Some order) f s.moment e old new) (same one) (s.leaves one two);
         tells = λ one. (told.0, λ two. told.1);
-        fetched = fetches_since a b c x y z e quiet s.fetches;
+        fetched = fetches_since (Some order) a b c x y z e quiet s.fetches;
         put = s.places;
         wrote = same_out w e;
         usage = λ is. absurd (s.ordered is);

@@ -1,8 +1,6 @@
 -- One moment of a run: it is read, made and put.
 use Rattle.std.proofs.Common.{◌≡◌, ◌≢◌, ◌≤◌, ℕ, IfSome, ◌+◌, List, [], ◌∷◌, ◌++◌, length, true, Bool, Option, Some, None, Ok, Err, refl, sym, ap, ◌∙◌, subst, arith, append-nil}
 use Rattle.std.proofs.lemmas.List.{length-append}
-use Rattle.std.specs.declared.alloc.Global.{Global}
-use Rattle.std.specs.declared.vec.Vec.{Vec}
 use Rattle.fx_outside.specs.Outside.{Files, SameFiles}
 use Rattle.fx_seq.specs.declared.fault.SeqFault.{SeqFault}
 use Rattle.fx_seq.specs.declared.fault.SeqFault.TheVariants as seq
@@ -55,16 +53,16 @@ made_whole right seen first block left made now next h none count =
 
 -- what flows between two turns, where nothing waits
 pub flows_now : (reads puts : Type 0) (p : Plan) (schedule : Schedule) (start now : State) (line : Line) (m : Making)
-    → IsUnderWay reads puts p schedule start now line m
+    → IsUnderWay reads puts p schedule start now line m → schedule.ahead ≡ 0
     → Flows reads puts (IsMomentFile p.reel) schedule start now line.reader line.fault [] now.next []
-flows_now reads puts p schedule start now line m w =
+flows_now reads puts p schedule start now line m w one =
     let right = IsMomentFile p.reel in
     let h = w.flows in
     let at : line.next ≡ now.next = h.at_next ∙ sym h.next in
     subst (λ (n : ℕ). Flows reads puts right schedule start now line.reader line.fault [] n []) at
-    (subst (λ (ds : List Made). Flows reads puts right schedule start now line.reader line.fault [] line.next ds) w.made
+    (subst (λ (ds : List Made). Flows reads puts right schedule start now line.reader line.fault [] line.next ds) (w.made one)
     (subst (λ (fs : List (List SourceFrame)). Flows reads puts right schedule start now line.reader line.fault fs line.next line.made.items)
-    (ap fetched_in w.fetched) h))
+    (ap fetched_in (w.fetched one)) h))
 
 -- nothing was put
 puts_none : (tells : Type 0) (files : Files) (faults : ℕ) (last : List ℕ) → Puts tells [] files files faults faults last last (Ok tt)
@@ -163,9 +161,9 @@ module _ (reads puts : Type 0) (right : List SourceFrame → ℕ → Made → Ty
             has_made (sees_none seen) put
 
 -- what bytes are spare is no matter
-pub spare_may : (p : Plan) (uses : List Use) (more : ℕ) (m : Making) (spare : Vec ℕ Global) → MayMake p uses more m
-    → MayMake p uses more (record m { spare = spare })
-spare_may p uses more m spare may =
+pub spare_may : (p : Plan) (uses : List Use) (more : ℕ) (m other : Making) → MayMake p uses more m
+    → MayMake p uses more (record m { spare = other.spare })
+spare_may p uses more m other may =
     record {
       plan = may.plan;
       uses_are = may.uses_are;

@@ -27,7 +27,7 @@ pub record Ended (mode : Option Mode) (library_tells depot_tells out_tells : Typ
   pub cause : CauseIn mode library_tells asked library moment fault
   pub leaves : library_tells → depot_tells → LeavesIn mode asked library moment fault depot.0 depot.1
   pub tells : out_tells → LeavesReportIn mode library_tells asked library fault report.0 report.1
-  pub fetched : LeavesLibrary fault fetches.before fetches.now fetches.was fetches.last
+  pub fetched : LeavesLibrary asked fault fetches.before fetches.now fetches.was fetches.last
   pub put : LeavesDepot fault puts.before puts.now puts.was puts.last
   pub wrote : LeavesOut fault writes.0 writes.1
   pub usage : fault ≡ run.Usage → asked ≡ None

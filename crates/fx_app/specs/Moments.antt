@@ -43,7 +43,7 @@ pub record Stops (reads puts : Type 0) (asked : Option Ordered) (library : Files
   pub rose : Rose (fetched.before, fetched.now, fetched.last) (put.before, put.now, put.last) (0, 0) fault
   pub cause : reads → Cause asked library moment fault
   pub leaves : reads → puts → Leaves asked library moment fault old new
-  pub fetches : LeavesLibrary fault fetched.before fetched.now fetched.was fetched.last
+  pub fetches : LeavesLibrary asked fault fetched.before fetched.now fetched.was fetched.last
   pub places : LeavesDepot fault put.before put.now put.was put.last
   pub ordered : fault ≢ run.Usage
   pub no_report : fault ≢ run.Report

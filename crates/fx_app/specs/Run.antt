@@ -201,11 +201,17 @@ abbrev pub LeavesOwnReport : Option Ordered → Files → RunFault → List ℕ 
 LeavesOwnReport asked library run.Report old new = HasBegunToTell asked library old new
 LeavesOwnReport asked library other old new = Unit {0}
 
--- no fetch failed, but at a fault of reading or of memory
-abbrev pub LeavesLibrary : RunFault → ℕ → ℕ → List ℕ → List ℕ → Type 0
-LeavesLibrary (run.Read name) before now was last = Unit {0}
-LeavesLibrary run.Memory before now was last = Unit {0}
-LeavesLibrary other before now was last = IsQuiet before now was last
+-- how many moments a block has that is read ahead
+abbrev pub ahead_in : Option Ordered → ℕ
+ahead_in None = 0
+ahead_in (Some order) = order.ahead
+
+-- no fetch failed, but at a fault of reading or of memory; and at a fault of writing, where later moments are read ahead
+abbrev pub LeavesLibrary : Option Ordered → RunFault → ℕ → ℕ → List ℕ → List ℕ → Type 0
+LeavesLibrary asked (run.Read name) before now was last = Unit {0}
+LeavesLibrary asked (run.Write name) before now was last = ahead_in asked ≡ 0 → IsQuiet before now was last
+LeavesLibrary asked run.Memory before now was last = Unit {0}
+LeavesLibrary asked other before now was last = IsQuiet before now was last
 
 -- no put failed, but at a fault of writing
 abbrev pub LeavesDepot : RunFault → ℕ → ℕ → List ℕ → List ℕ → Type 0

@@ -15,6 +15,7 @@ mod moments;
 mod order;
 mod render;
 mod report;
+mod rounds;
 mod sources;
 mod steps;
 mod tell;

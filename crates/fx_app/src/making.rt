@@ -49,8 +49,8 @@ pub(crate) struct Making {
     pub frame: u32,
     /// The number of the next moment.
     pub next: u64,
-    /// Bytes of a file that was put, whose memory serves for the next one.
-    pub spare: Vec<u8>,
+    /// Bytes of files that were put, whose memory serves for the next ones.
+    pub spare: VecDeque<Vec<u8>>,
 }
 
 impl Making {
@@ -243,7 +243,7 @@ impl Making {
             → OnOk result (HasDrawn self.old.frame crew self.old self.new) }
     {
         let image = self.picture(rt, alloc, pace, life)?;
-        let mut text = mem::replace(&mut self.spare, Vec::new(alloc));
+        let mut text = self.spare.pop_front().unwrap_or(Vec::new(alloc));
         text.clear();
         write(alloc, &image, self.scene.graph().format, &mut text)?;
         Ok(text)

@@ -1,5 +1,5 @@
 //! The moments of a run: the source frames of each are read, its picture is rendered, and its file is put before the
-//! next.
+//! next; or blocks of moments are, beside each other.
 ghost use Rattle.std.specs.Prelude.{◌≡◌, ◌≢◌, ◌≤◌, ◌+◌, ◌*◌, length, [], Some, Ok, IfErr, IfNone, IfOk, IfSome, OnOk};
 ghost use Rattle.fx_base.specs.declared.limits.TheConstants.{LAST_FRAME, MOST_SIDE};
 ghost use Rattle.fx_life.specs.Posts.{HasLife};
@@ -18,12 +18,13 @@ ghost use Rattle.fx_app.specs.Making.{IsMaking, MayMake, Plan, next_of, seen_by}
 ghost use Rattle.fx_app.specs.Moments.{HasRendered, IsMomentFile, Stops};
 ghost use Rattle.fx_app.specs.Reels.{moments_in, reel_with};
 ghost use Rattle.fx_app.specs.Takes.{AreTakesOf};
-ghost use Rattle.fx_app.specs.Turns.{IsFinished, IsUnderWay, QuietAtPut};
+ghost use Rattle.fx_app.specs.Turns.{IsFinished, IsUnderWay, Moves, QuietAtPut};
 
 use crate::crew::Crew;
 use crate::graph::{GraphFile, ordered_takes};
 use crate::making::{Making, more_is_same};
-use crate::order::{first_of, frame_count, last_of};
+use crate::order::{ahead_of, first_of, frame_count, last_of};
+use crate::rounds::round;
 use crate::sources::{MOST_BYTES, source_fault};
 use fx_base::Memory;
 use fx_base::limits::MOST_SIDE;
@@ -44,11 +45,18 @@ use std::sync::Wait;
 use std::thread::Threads;
 
 /// Takes the effects of the program through their order of life, and meanwhile reads the source frames of moment after
-/// moment, the frames of the graph as it is written and then of each take that is rendered, each just before the first moment that wants it, renders the moment's picture and puts its file, by as many
-/// workers, over tiles and with a directory as they are ordered. A source frame is dropped after the last moment that
-/// wants it. Every sequence is ended and every instance destroyed, whatever failed. With no frame there is no sequence.
-/// What landed and what was found kept is told by the directory, once it is closed.
-pub(crate) fn put_moments<R: Threads + Wait + Clock + Sync, L: Library, D: Depot, P: Pace>(
+/// moment, the frames of the graph as it is written and then of each take that is rendered, each just before the first
+/// moment that wants it, renders the moment's picture and puts its file, by as many workers, over tiles and with a
+/// directory as they are ordered. Where blocks of moments are ordered, one is read and one is put while the moments of
+/// the block between them are rendered. A source frame is dropped after the last moment that wants it. Every sequence is
+/// ended and every instance destroyed, whatever failed. With no frame there is no sequence. What landed and what was
+/// found kept is told by the directory, once it is closed.
+pub(crate) fn put_moments<
+    R: Threads + Wait + Clock + Sync,
+    L: Library + Send,
+    D: Depot + Send,
+    P: Pace,
+>(
     rt: &R,
     alloc: Global,
     pace: &P,
@@ -92,6 +100,7 @@ pub(crate) fn put_moments<R: Threads + Wait + Clock + Sync, L: Library, D: Depot
         &life,
         &uses,
         moments,
+        ahead_of(order),
         &mut making,
         library,
         depot,
@@ -144,19 +153,21 @@ fn begun(
         last,
         frame: first,
         next: 0,
-        spare: Vec::new(alloc),
+        spare: VecDeque::new(alloc),
     };
     Ok((making, life))
 }
 
-// Reads, makes and puts moment after moment, up to the first that is not read or not put.
-fn put_each<R: Threads + Wait + Clock + Sync, L: Library, D: Depot, P: Pace>(
+// Reads, makes and puts moment after moment, or block after block of `ahead` moments, up to the first that is not read
+// or not put.
+fn put_each<R: Threads + Wait + Clock + Sync, L: Library + Send, D: Depot + Send, P: Pace>(
     rt: &R,
     alloc: Global,
     pace: &P,
     life: &Life<Shipped>,
     uses: &[Use],
     moments: u64,
+    ahead: u32,
     making: &mut Making,
     library: &mut L,
     depot: &mut D,
@@ -168,10 +179,10 @@ fn put_each<R: Threads + Wait + Clock + Sync, L: Library, D: Depot, P: Pace>(
     ensures ends { (p : Plan) → moments_in p.reel ≡ moments → MayMake p uses.now 0 making.old
         → (let see = state_of L.file L.faults L.last D.file D.faults D.last seen_by next_of in
         Ended L.tells D.tells (IsMomentFile p.reel)
-        (record { uses = uses.entry; moments = moments; limit = MOST_BYTES; most_side = MOST_SIDE; ahead = 0 })
+        (record { uses = uses.entry; moments = moments; limit = MOST_BYTES; most_side = MOST_SIDE; ahead = ahead })
         (see library.old depot.old making.old) (see library.new depot.new making.new) result) }
     ensures quiet { let last = L.last library.new in
-        QuietAtPut (L.faults library.old) (L.faults library.new) (L.last library.old) last result }
+        ahead ≡ 0 → QuietAtPut (L.faults library.old) (L.faults library.new) (L.last library.old) last result }
     ensures making { (p : Plan) → moments_in p.reel ≡ moments → MayMake p uses.now 0 making.old
         → result ≡ Done → IsMaking p making.new }
 {
@@ -180,14 +191,14 @@ fn put_each<R: Threads + Wait + Clock + Sync, L: Library, D: Depot, P: Pace>(
         moments,
         limit: MOST_BYTES,
         most_side: MOST_SIDE,
-        ahead: 0,
+        ahead,
     };
     let mut line = Line::new(alloc);
     for _ in rt.forever() {
         if line.is_over(moments) {
             return line.end();
         }
-        let end = turn(
+        let end = step(
             rt, alloc, pace, life, &schedule, making, library, depot, &mut line,
         );
         if let Some(end) = end {
@@ -195,6 +206,43 @@ fn put_each<R: Threads + Wait + Clock + Sync, L: Library, D: Depot, P: Pace>(
         }
     }
     unreachable!()
+}
+
+// One moment after another, or one round where blocks are ordered.
+fn step<R: Threads + Wait + Clock + Sync, L: Library + Send, D: Depot + Send, P: Pace>(
+    rt: &R,
+    alloc: Global,
+    pace: &P,
+    life: &Life<Shipped>,
+    schedule: &Schedule<'_>,
+    making: &mut Making,
+    library: &mut L,
+    depot: &mut D,
+    line: &mut Line,
+) -> Option<PipeEnd>
+    requires schedule { IsSchedule schedule.now }
+    requires life { HasLife number_of making.old.scene.script.written life.now }
+    requires way { let see = state_of L.file L.faults L.last D.file D.faults D.last seen_by next_of in
+        let now = see library.old depot.old making.old in
+        (p : Plan) × (start : State) × IsUnderWay L.tells D.tells p schedule.now start now line.old making.old }
+    ensures moves { let see = state_of L.file L.faults L.last D.file D.faults D.last seen_by next_of in
+        Moves L.tells D.tells schedule.now (see library.old depot.old making.old)
+        (see library.new depot.new making.new) line.old line.new making.old making.new result }
+    ensures quiet { let see = state_of L.file L.faults L.last D.file D.faults D.last seen_by next_of in
+        let old = see library.old depot.old making.old in let last = L.last library.new in
+        schedule.now.ahead ≡ 0 → (p : Plan) (start : State)
+        → IsUnderWay L.tells D.tells p schedule.now start old line.old making.old
+        → IfSome result (QuietAtPut start.read_faults (L.faults library.new) start.read_last last) }
+{
+    if schedule.ahead == 0 {
+        turn(
+            rt, alloc, pace, life, schedule, making, library, depot, line,
+        )
+    } else {
+        round(
+            rt, alloc, pace, life, schedule, making, library, depot, line,
+        )
+    }
 }
 
 // One moment: its frames are read, its file is made, and it is put. It is the end where the file was not put or memory
@@ -211,25 +259,18 @@ fn turn<R: Threads + Wait + Clock + Sync, L: Library, D: Depot, P: Pace>(
     line: &mut Line,
 ) -> Option<PipeEnd>
     requires schedule { IsSchedule schedule.now }
-    requires single { schedule.now.ahead ≤ 1 }
+    requires single { schedule.now.ahead ≡ 0 }
     requires life { HasLife number_of making.old.scene.script.written life.now }
     requires way { let see = state_of L.file L.faults L.last D.file D.faults D.last seen_by next_of in
         let now = see library.old depot.old making.old in
         (p : Plan) × (start : State) × IsUnderWay L.tells D.tells p schedule.now start now line.old making.old }
-    ensures written { making.new.scene.script.written ≡ making.old.scene.script.written }
-    ensures way { let see = state_of L.file L.faults L.last D.file D.faults D.last seen_by next_of in
-        let old = see library.old depot.old making.old in let new = see library.new depot.new making.new in
-        (p : Plan) (start : State) → IsUnderWay L.tells D.tells p schedule.now start old line.old making.old
-        → IfNone result (IsUnderWay L.tells D.tells p schedule.now start new line.new making.new) }
-    ensures ends { let see = state_of L.file L.faults L.last D.file D.faults D.last seen_by next_of in
-        let old = see library.old depot.old making.old in let new = see library.new depot.new making.new in
-        (p : Plan) (start : State) → IsUnderWay L.tells D.tells p schedule.now start old line.old making.old
-        → IfSome result (Ended L.tells D.tells (IsMomentFile p.reel) schedule.now start new) }
+    ensures moves { let see = state_of L.file L.faults L.last D.file D.faults D.last seen_by next_of in
+        Moves L.tells D.tells schedule.now (see library.old depot.old making.old)
+        (see library.new depot.new making.new) line.old line.new making.old making.new result }
     ensures quiet { let see = state_of L.file L.faults L.last D.file D.faults D.last seen_by next_of in
         let old = see library.old depot.old making.old in let last = L.last library.new in
         (p : Plan) (start : State) → IsUnderWay L.tells D.tells p schedule.now start old line.old making.old
         → IfSome result (QuietAtPut start.read_faults (L.faults library.new) start.read_last last) }
-    ensures not_done { IfSome result (λ end. end ≢ Done) }
 {
     read_on(
         alloc,

@@ -6,7 +6,7 @@ ghost use Rattle.fx_app.specs.Graphs.{first_of, last_of, frame_count};
 
 use fx_graph::Graph;
 use fx_shipped::Shipped;
-use fx_words::Order;
+use fx_words::{Mode, Order};
 
 /// The first frame that is rendered: that of the graph's range, or a later one that is ordered.
 pub(crate) fn first_of(graph: &Graph<Shipped>, order: &Order) -> u32
@@ -29,4 +29,14 @@ pub(crate) fn frame_count(first: u32, last: u32) -> u64
     ensures { result ≡ frame_count first last }
 {
     (u64::from(last) + 1).saturating_sub(u64::from(first))
+}
+
+/// How many moments a block has that is read ahead. The files of a bench are in memory: none is read ahead.
+pub(crate) fn ahead_of(order: &Order) -> u32
+    ensures { order.now.ahead ≡ 0 → result ≡ 0 }
+{
+    match order.mode {
+        Mode::Bench => 0,
+        Mode::Render | Mode::Takes | Mode::Check | Mode::Migrate => order.ahead,
+    }
 }

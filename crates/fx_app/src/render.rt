@@ -19,7 +19,13 @@ use std::sync::Wait;
 use std::thread::Threads;
 
 /// Renders the graph's frames, and those of the takes that are ordered, and puts them.
-pub(crate) fn render<R: Threads + Wait + Clock + Sync, L: Library, D: Depot, O: Sink, P: Pace>(
+pub(crate) fn render<
+    R: Threads + Wait + Clock + Sync,
+    L: Library + Send,
+    D: Depot + Send,
+    O: Sink,
+    P: Pace,
+>(
     rt: &R,
     alloc: Global,
     pace: &P,

@@ -10,7 +10,7 @@ ghost use Rattle.fx_words.specs.declared.fault.RunFault.TheVariants.{Memory as O
 ghost use Rattle.fx_words.specs.Order.{order_of};
 ghost use Rattle.fx_app.specs.Words.{mode_in, Orders, OrdersFiles};
 ghost use Rattle.fx_app.specs.Texts.{status_of, GainsLine};
-ghost use Rattle.fx_app.specs.Run.{is_status, Job, IsAccepted, NamesNoGraph, HasPutAll, HasTold};
+ghost use Rattle.fx_app.specs.Run.{ahead_in, is_status, Job, IsAccepted, NamesNoGraph, HasPutAll, HasTold};
 ghost use Rattle.fx_app.specs.Check.{HasChecked};
 ghost use Rattle.fx_app.specs.Bench.{made_for, HasBenched};
 ghost use Rattle.fx_app.specs.Migrate.{Migration, HasMigrated, HasToldNodes, NamesSlash};
@@ -29,14 +29,23 @@ use std::sync::Wait;
 use std::thread::Threads;
 
 /// Does what the words order: it renders the frames of a graph and puts their files, as it is written alone or also at
-/// each of its takes, checks a graph, writes it again in format 2, or renders in memory what is made of a number. The answer is the exit status of the program: 0 done, 1
-/// words that are no use of the command, 2 a graph that is refused, 3 a source frame that is refused, 4 a fetch that
-/// failed, 5 a put that failed, 6 want of memory, 7 a report that could not be written. Each other than 0 writes its
-/// line on `err`. A check fetches the graph alone and puts nothing, a migration puts one file, and a bench does
-/// neither. Frames are rendered one after another, each in tiles of the side that is ordered, by as many workers as
-/// are ordered; as many tiles are kept as are ordered. These three options change no byte of a file. Each worker calls
-/// `pace.before_draw` before each of its draws.
-pub fn run<R: Threads + Wait + Clock + Sync, L: Library, D: Depot, O: Sink, F: Sink, P: Pace>(
+/// each of its takes, checks a graph, writes it again in format 2, or renders in memory what is made of a number. The
+/// answer is the exit status of the program: 0 done, 1 words that are no use of the command, 2 a graph that is refused,
+/// 3 a source frame that is refused, 4 a fetch that failed, 5 a put that failed, 6 want of memory, 7 a report that could
+/// not be written. Each other than 0 writes its line on `err`. A check fetches the graph alone and puts nothing, a
+/// migration puts one file, and a bench does neither. Frames are rendered one after another, each in tiles of the side
+/// that is ordered, by as many workers as are ordered; as many tiles are kept as are ordered. Where blocks of frames are
+/// ordered, the source frames of one are read and the files of one are put while the frames of the block between them
+/// are rendered; the fault that is told is the first in the order without blocks. These four options change no byte of a
+/// file. Each worker calls `pace.before_draw` before each of its draws.
+pub fn run<
+    R: Threads + Wait + Clock + Sync,
+    L: Library + Send,
+    D: Depot + Send,
+    O: Sink,
+    F: Sink,
+    P: Pace,
+>(
     rt: &R,
     alloc: Global,
     words: &[String],
@@ -132,8 +141,9 @@ pub fn run<R: Threads + Wait + Clock + Sync, L: Library, D: Depot, O: Sink, F: S
         → GainsLine (fault_text fault) (F.written err.old) (F.written err.new) (F.faults err.old) (F.faults err.new)) }
     ensures memory_line { F.tells → result ≡ 6
         → AddsPrefix (fault_text OutOfMemory) (F.written err.old) (F.written err.new) }
-    // But at 4 and 6 no fetch failed, and but at 5 and 6 no put.
-    ensures fetches { result ≢ 4 → result ≢ 6
+    // But at 4 and 6 no fetch failed, and but at 5 and 6 no put. Where later moments are read ahead, a fetch may have
+    // failed at 5 too.
+    ensures fetches { result ≢ 4 → result ≢ 6 → (result ≡ 5 → ahead_in (order_of (map string_bytes words.now)) ≡ 0)
         → IsQuiet (L.faults library.old) (L.faults library.new) (L.last library.old) (L.last library.new) }
     ensures puts { result ≢ 5 → result ≢ 6
         → IsQuiet (D.faults depot.old) (D.faults depot.new) (D.last depot.old) (D.last depot.new) }
@@ -156,7 +166,7 @@ pub fn run<R: Threads + Wait + Clock + Sync, L: Library, D: Depot, O: Sink, F: S
 }
 
 // The steps of what the words order, up to the first that fails.
-fn outcome<R: Threads + Wait + Clock + Sync, L: Library, D: Depot, O: Sink, P: Pace>(
+fn outcome<R: Threads + Wait + Clock + Sync, L: Library + Send, D: Depot + Send, O: Sink, P: Pace>(
     rt: &R,
     alloc: Global,
     pace: &P,

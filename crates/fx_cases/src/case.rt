@@ -115,7 +115,7 @@ impl<'v> CaseFile<'v> {
     /// One of them.
     pub(crate) fn case(self, own: &'v Value) -> Result<Case<'v>, CaseFault> {
         let keys = [
-            "about", "name", "words", "graph", "files", "fails", "pace", "wanted",
+            "about", "name", "words", "graph", "files", "fails", "pace", "meet", "wanted",
         ];
         check_members(own, &keys, "a case")?;
         Ok(Case {
@@ -184,6 +184,20 @@ impl<'v> Case<'v> {
             Some(Some("hold")) => Ok(true),
             Some(_) => Err(CaseFault::Form("pace")),
             None => Ok(false),
+        }
+    }
+
+    /// The names of a fetch and of a put that wait for each other, where there are some.
+    pub(crate) fn meets(self) -> Result<Option<(&'v str, &'v str)>, CaseFault> {
+        let Some(meet) = self.own.get("meet") else {
+            return Ok(None);
+        };
+        check_members(meet, &["fetch", "put"], "meet")?;
+        let fetch = meet.get("fetch").and_then(Value::as_str);
+        let put = meet.get("put").and_then(Value::as_str);
+        match (fetch, put) {
+            (Some(fetch), Some(put)) => Ok(Some((fetch, put))),
+            _ => Err(CaseFault::Form("meet")),
         }
     }
 

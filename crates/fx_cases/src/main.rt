@@ -7,6 +7,7 @@ mod bytes;
 mod case;
 mod fault;
 mod graph;
+mod meeting;
 mod noted;
 mod outcome;
 mod pace;

@@ -1,6 +1,7 @@
-//! A library and a depot that note in which order their calls came.
+//! A library and a depot that note in which order their calls came, and of which two calls may wait for each other.
 ghost use Rattle.fx_outside.specs.Objects.{depot_calls, depot_files, library_calls, library_files};
 
+use crate::meeting::Meeting;
 use fx_outside::{Depot, FetchFault, Library, MemoryDepot, MemoryLibrary, PutFault};
 use std::alloc::{AllocError, Global};
 use std::sync::atomic::{AtomicU64, Ordering};
@@ -37,11 +38,27 @@ impl<'t> Calls<'t> {
     }
 }
 
+/// The call of this name waits for another one.
+#[derive(Clone, Copy)]
+pub(crate) struct Awaited<'t> {
+    pub(crate) name: &'t str,
+    pub(crate) meeting: &'t Meeting,
+}
+
+// Where the call of a name waits.
+fn meeting_at<'t>(awaited: &Option<Awaited<'t>>, name: &str) -> Option<&'t Meeting> {
+    match awaited {
+        Some(call) if call.name == name => Some(call.meeting),
+        _ => None,
+    }
+}
+
 /// A library in memory that notes its fetches.
 #[derive(Drop)]
 pub(crate) struct NotedLibrary<'t> {
     pub(crate) library: MemoryLibrary,
     pub(crate) calls: Calls<'t>,
+    pub(crate) awaited: Option<Awaited<'t>>,
 }
 
 impl<'t> Library for NotedLibrary<'t> {
@@ -57,6 +74,9 @@ impl<'t> Library for NotedLibrary<'t> {
         if self.calls.note(alloc, name).is_err() {
             return Err(FetchFault::Memory);
         }
+        if let Some(meeting) = meeting_at(&self.awaited, name) {
+            meeting.first_comes();
+        }
         self.library.fetch(alloc, name)
     }
 }
@@ -66,6 +86,7 @@ impl<'t> Library for NotedLibrary<'t> {
 pub(crate) struct NotedDepot<'t> {
     pub(crate) depot: MemoryDepot,
     pub(crate) calls: Calls<'t>,
+    pub(crate) awaited: Option<Awaited<'t>>,
 }
 
 impl<'t> Depot for NotedDepot<'t> {
@@ -80,6 +101,9 @@ impl<'t> Depot for NotedDepot<'t> {
     fn put(&mut self, alloc: Global, name: &str, bytes: &[u8]) -> Result<(), PutFault> {
         if self.calls.note(alloc, name).is_err() {
             return Err(PutFault::Memory);
+        }
+        if let Some(meeting) = meeting_at(&self.awaited, name) {
+            meeting.second_comes();
         }
         self.depot.put(alloc, name, bytes)
     }

@@ -1,7 +1,8 @@
 //! Runs of cases over objects in memory, and what they left beside what is wanted.
 use crate::case::{Case, Wanted};
 use crate::fault::CaseFault;
-use crate::noted::{Calls, NotedDepot, NotedLibrary, calls_of};
+use crate::meeting::Meeting;
+use crate::noted::{Awaited, Calls, NotedDepot, NotedLibrary, calls_of};
 use crate::pace::CasePace;
 use crate::tell::{At, bytes_are, is_kept, report_is, status_is, text_is};
 use fx_app::run;
@@ -23,6 +24,7 @@ struct Outcome {
     depot: MemoryDepot,
     calls: String,
     paced: bool,
+    met: bool,
 }
 
 // Runs a case by these words.
@@ -33,13 +35,23 @@ fn outcome_of<R: Threads + Wait + Clock + Sync>(
     words: &[String],
 ) -> Result<Outcome, CaseFault> {
     let turns = AtomicU64::new(0);
+    let meeting = Meeting::new();
+    let meets = case.meets()?;
     let mut library = NotedLibrary {
         library: case.library(alloc)?,
         calls: Calls::new(alloc, &turns),
+        awaited: meets.map(|(name, _)| Awaited {
+            name,
+            meeting: &meeting,
+        }),
     };
     let mut depot = NotedDepot {
         depot: MemoryDepot::new(alloc, case.failing(alloc, "put")?),
         calls: Calls::new(alloc, &turns),
+        awaited: meets.map(|(_, name)| Awaited {
+            name,
+            meeting: &meeting,
+        }),
     };
     let mut out = MemorySink::new(alloc, case.failing(alloc, "out")?);
     let mut err = MemorySink::new(alloc, case.failing(alloc, "err")?);
@@ -62,6 +74,7 @@ fn outcome_of<R: Threads + Wait + Clock + Sync>(
         depot: depot.depot,
         calls,
         paced: pace.was_kept(),
+        met: meets.is_none() || meeting.was_kept(),
     })
 }
 
@@ -85,6 +98,11 @@ fn files_are<R: Print>(
     Ok(right)
 }
 
+// Whether words have fetches and puts go beside each other, in no order.
+fn reads_ahead(words: &[String]) -> bool {
+    words.iter().any(|word| word.as_str() == "--ahead")
+}
+
 // Whether run `number` of a case left what is wanted.
 fn outcome_is<R: Print>(
     rt: &R,
@@ -103,10 +121,14 @@ fn outcome_is<R: Print>(
     let err = text_is(rt, alloc, at, "err", line, outcome.err.bytes())?;
     let files = files_are(rt, alloc, at, wanted, &outcome.depot)?;
     let calls = match wanted.calls(alloc)? {
-        Some(calls) => text_is(rt, alloc, at, "calls", &calls, outcome.calls.as_bytes())?,
-        None => true,
+        Some(calls) if !reads_ahead(at.words) => {
+            text_is(rt, alloc, at, "calls", &calls, outcome.calls.as_bytes())?
+        }
+        _ => true,
     };
-    Ok(status & out & err & files & calls & is_kept(rt, at, outcome.paced))
+    let paced = is_kept(rt, at, "pace", outcome.paced);
+    let met = is_kept(rt, at, "meet", outcome.met);
+    Ok(status & out & err & files & calls & paced & met)
 }
 
 /// Runs a case, as its run `number`, with these words behind its own. Whether it left what is wanted; each part that is

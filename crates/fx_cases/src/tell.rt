@@ -33,20 +33,14 @@ pub(crate) fn status_is<R: Print>(rt: &R, at: &At<'_>, wanted: u8, found: u8) ->
     wanted == found
 }
 
-/// Whether the pace that was asked for was kept.
-pub(crate) fn is_kept<R: Print>(rt: &R, at: &At<'_>, paced: bool) -> bool
-    ensures { result ≡ paced }
+/// Whether two that were to wait for each other met.
+pub(crate) fn is_kept<R: Print>(rt: &R, at: &At<'_>, part: &str, kept: bool) -> bool
+    ensures { result ≡ kept }
 {
-    if !paced {
-        tell(
-            rt,
-            at,
-            "pace",
-            "two workers at once",
-            "one that waited alone",
-        );
+    if !kept {
+        tell(rt, at, part, "two at once", "one that waited alone");
     }
-    paced
+    kept
 }
 
 // The bytes as text where they are one.

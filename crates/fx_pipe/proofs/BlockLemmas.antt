@@ -9,7 +9,7 @@ use Rattle.fx_seq.specs.Filling.{IsQuiet}
 use Rattle.fx_seq.specs.declared.source.SourceFrame.{SourceFrame}
 use Rattle.fx_pipe.specs.declared.made.Made.{Made}
 use Rattle.fx_pipe.specs.Moments.{AreMade, all_of, with_all, with_file}
-use Rattle.fx_pipe.specs.Blocks.{SeesSome, PutBut, PutSome}
+use Rattle.fx_pipe.specs.Blocks.{Makes, SeesSome, PutBut, PutSome}
 use Rattle.fx_pipe.proofs.MomentLemmas.{all-one, made_more, put_more}
 
 -- ---- making
@@ -60,6 +60,16 @@ module _ (right : List SourceFrame → ℕ → Made → Type 0) (seen : List Sou
       → HasMade right seen first block (f ∷ left) made now → (new ≡ now) ⊎ (new ≡ now ++ f) → SeesSome block seen new
   sees_either f left made now new h (inl e) = subst (λ (xs : List SourceFrame). SeesSome block seen xs) (sym e) (sees_same (f ∷ left) made now h)
   sees_either f left made now new h (inr e) = subst (λ (xs : List SourceFrame). SeesSome block seen xs) (sym e) (sees_one f left made now h)
+
+  -- then not all files were made
+  pub made_some : (made : List Made) (new : List SourceFrame) (next : ℕ) → SeesSome block seen new → Makes right first block made seen new next false
+  made_some made new next some =
+      record {
+        next_is = λ is. absurd (false≢true is);
+        seen = λ is. absurd (false≢true is);
+        right_ones = λ is. absurd (false≢true is);
+        some = some;
+      }
 
 -- ---- putting
 

@@ -1,6 +1,6 @@
 -- From one round to the next, and to the end.
 use Rattle.std.proofs.Common.{◌≡◌, ◌≢◌, ◌≤◌, ◌<◌, ℕ, ℤ, ◌+◌, List, [], ◌∷◌, ◌++◌, length, true, Option, Some, None, Ok, Err, refl, sym, ap, ◌∙◌, subst, arith, append_assoc, append-nil}
-use Rattle.std.proofs.lemmas.List.{length-append}
+use Rattle.std.proofs.lemmas.List.{length-append, length-map}
 use Rattle.fx_outside.specs.Outside.{Files, SameFiles}
 use Rattle.fx_seq.specs.declared.fault.SeqFault.{SeqFault}
 use Rattle.fx_seq.specs.declared.fault.SeqFault.TheVariants as seq
@@ -167,6 +167,26 @@ module _ (reads puts : Type 0) (right : List SourceFrame → ℕ → Made → Ty
         reads_few = r.next;
         kept_few = r.few;
       }
+
+  -- a whole round: a block was put, the one behind it was made, and the one behind that was read
+  pub round_step : (old new : State) (line : Line) (reader' : Reader) (fault' : Option SeqFault) (block : List (List SourceFrame)) (made : List Made)
+      → FlowsIn reads puts right p start old line
+      → Puts puts line.made.items old.put_files new.put_files old.put_faults new.put_faults old.put_last new.put_last (Ok tt)
+      → Makes right line.next (fetched_in line.fetched.items) made old.seen new.seen new.next true
+      → ReadsOn reads old.read_files old.read_faults new.read_faults old.read_last new.read_last p line.reader reader' line.fault fault' block
+      → (reads → SameFiles old.read_files new.read_files) → fault' ≢ Some seq.Memory
+      → Flows reads puts right p start new reader' fault' block (line.next + length line.fetched.items) made
+  round_step old new line reader' fault' block made h put make read same none =
+      let fetched = fetched_in line.fetched.items in
+      let many : length fetched ≡ length line.fetched.items = length-map line.fetched.items (λ frames. frames.items) in
+      let count : line.next + length fetched ≡ line.next + length line.fetched.items = ap (λ n. line.next + n) many in
+      let has_put = with_puts old new.put_files new.put_faults new.put_last in
+      let has_made = with_makes has_put new.seen new.next in
+      let puts_on = puts_step old line.reader line.fault fetched line.next line.made.items new.put_files new.put_faults new.put_last h put in
+      let makes_on = makes_step has_put line.reader line.fault fetched line.next made new.seen new.next puts_on make in
+      let reads_on = reads_step has_made line.reader reader' line.fault fault' block (line.next + length fetched) made
+      new.read_files new.read_faults new.read_last makes_on read same none in
+      subst (λ (n : ℕ). Flows reads puts right p start new reader' fault' block n made) count reads_on
 
   module _ (old new : State) (reader : Reader) (fault : Option SeqFault) (fetched : List (List SourceFrame)) (at : ℕ) (made : List Made)
       (h : Flows reads puts right p start old reader fault fetched at made) where

@@ -16,13 +16,13 @@ pub enum PutStop {
     Memory,
 }
 
-/// Puts the files of a block, one after the other. The bytes of the last one that was put are left in `spare`, whose
-/// memory may serve for the next file.
+/// Puts the files of a block, one after the other. The bytes of those that were put are left in `spare`, whose memory
+/// may serve for the next files.
 pub fn put_block<D: Depot>(
     alloc: Global,
     depot: &mut D,
     made: &mut VecDeque<Made>,
-    spare: &mut Vec<u8>,
+    spare: &mut VecDeque<Vec<u8>>,
 ) -> Result<(), PutStop>
     ensures { Puts D.tells made.old.items (D.file depot.old) (D.file depot.new) (D.faults depot.old)
         (D.faults depot.new) (D.last depot.old) (D.last depot.new) result }
@@ -30,10 +30,15 @@ pub fn put_block<D: Depot>(
     while let Some(one) = made.pop_front() {
         let Made { name, bytes } = one;
         match depot.put(alloc, name.text(), &bytes) {
-            Ok(()) => *spare = bytes,
+            Ok(()) => keep(spare, bytes),
             Err(PutFault::Failed) => return Err(PutStop::Failed(name)),
             Err(PutFault::Memory) => return Err(PutStop::Memory),
         }
     }
     Ok(())
+}
+
+// Keeps these bytes, where there is memory to do so.
+fn keep(spare: &mut VecDeque<Vec<u8>>, bytes: Vec<u8>) {
+    let _ = spare.push_back(bytes);
 }

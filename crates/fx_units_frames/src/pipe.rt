@@ -190,13 +190,21 @@ fn failed(put: &Result<(), PutStop>) -> Option<&str> {
     }
 }
 
-// The puts that fail, and the name that is told; the files a and b, and the bytes that are left.
-const PUTS: &[(&[u64], Option<&str>, Option<&[u8]>, Option<&[u8]>, &[u8])] = &[
-    (&[], None, Some(b"third"), Some(b"2"), b"third"),
-    (&[3], Some("a"), Some(b"first"), Some(b"2"), b"2"),
-    (&[2, 3], Some("b"), Some(b"first"), None, b"first"),
-    (&[1], Some("a"), None, None, b"spare"),
+// The puts that fail, and the name that is told; the files a and b, and how many bytes are left of each that was put.
+const PUTS: &[(&[u64], Option<&str>, Option<&[u8]>, Option<&[u8]>, &[usize])] = &[
+    (&[], None, Some(b"third"), Some(b"2"), &[5, 1, 5]),
+    (&[3], Some("a"), Some(b"first"), Some(b"2"), &[5, 1]),
+    (&[2, 3], Some("b"), Some(b"first"), None, &[5]),
+    (&[1], Some("a"), None, None, &[]),
 ];
+
+fn lengths(alloc: Global, spare: &VecDeque<Vec<u8>>) -> Result<Vec<usize>, AllocError> {
+    let mut lengths = Vec::new(alloc);
+    for bytes in spare {
+        lengths.push(bytes.len())?;
+    }
+    Ok(lengths)
+}
 
 #[test]
 fn files_are_put_up_to_one_that_fails(rt: HostRuntime) -> Result<(), Fail> {
@@ -207,11 +215,11 @@ fn files_are_put_up_to_one_that_fails(rt: HostRuntime) -> Result<(), Fail> {
         block.push_back(made(alloc, "a", b"first")?)?;
         block.push_back(made(alloc, "b", b"2")?)?;
         block.push_back(made(alloc, "a", b"third")?)?;
-        let mut spare = b"spare".to_vec(alloc)?;
+        let mut spare = VecDeque::new(alloc);
         let put = put_block(alloc, &mut depot, &mut block, &mut spare);
         same_at(&rt, failing, failed(&put), *name);
         same_at(&rt, failing, (depot.get("a"), depot.get("b")), (*a, *b));
-        same_at(&rt, failing, spare.as_slice(), *left);
+        same_at(&rt, failing, lengths(alloc, &spare)?.as_slice(), *left);
     }
     Ok(())
 }

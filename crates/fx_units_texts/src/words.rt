@@ -24,8 +24,9 @@ fn ordered(alloc: Global, line: &str) -> Result<String, AllocError> {
                 Mode::Takes => "takes",
             };
             let (graph, first, last) = (order.graph.text(), order.first, order.last);
-            let (tile, cache, workers) = (order.tile, order.cache, order.workers);
-            format!(in alloc; "{mode} {graph} {first} {last} {tile} {cache} {workers}")
+            let (tile, cache) = (order.tile, order.cache);
+            let (workers, ahead) = (order.workers, order.ahead);
+            format!(in alloc; "{mode} {graph} {first} {last} {tile} {cache} {workers} {ahead}")
         }
         Err(WordFault::Usage) => format!(in alloc; "usage"),
         Err(WordFault::Memory) => format!(in alloc; "memory"),
@@ -34,23 +35,23 @@ fn ordered(alloc: Global, line: &str) -> Result<String, AllocError> {
 
 // Words with a blank between two of them, so that two blanks have an empty word between them.
 const LINES: &[(&str, &str)] = &[
-    ("render g.json", "render g.json 0 999999 64 4096 4"),
-    ("check g.json", "check g.json 0 999999 64 4096 4"),
-    ("bench 0", "bench 0 0 999999 64 4096 4"),
-    ("bench 123456", "bench 123456 0 999999 64 4096 4"),
+    ("render g.json", "render g.json 0 999999 64 4096 4 0"),
+    ("check g.json", "check g.json 0 999999 64 4096 4 0"),
+    ("bench 0", "bench 0 0 999999 64 4096 4 0"),
+    ("bench 123456", "bench 123456 0 999999 64 4096 4 0"),
     ("bench 1234567", "usage"),
     ("bench 12a", "usage"),
     ("bench", "usage"),
-    ("migrate g.json", "migrate g.json 0 999999 64 4096 4"),
-    ("migrate 7 --tile 16", "migrate 7 0 999999 16 4096 4"),
+    ("migrate g.json", "migrate g.json 0 999999 64 4096 4 0"),
+    ("migrate 7 --tile 16", "migrate 7 0 999999 16 4096 4 0"),
     ("migrate", "usage"),
     ("migrates g.json", "usage"),
-    ("takes g.json", "takes g.json 0 999999 64 4096 4"),
+    ("takes g.json", "takes g.json 0 999999 64 4096 4 0"),
     (
         "--workers 2 --cache 0 takes --tile 16 g.json --first 3 --last 7",
-        "takes g.json 3 7 16 0 2",
+        "takes g.json 3 7 16 0 2 0",
     ),
-    ("takes 7", "takes 7 0 999999 64 4096 4"),
+    ("takes 7", "takes 7 0 999999 64 4096 4 0"),
     ("takes", "usage"),
     ("take g.json", "usage"),
     ("takes g.json more", "usage"),
@@ -62,69 +63,87 @@ const LINES: &[(&str, &str)] = &[
     // Both ends of each range, and one past.
     (
         "render g.json --first 999999 --last 0",
-        "render g.json 999999 0 64 4096 4",
+        "render g.json 999999 0 64 4096 4 0",
     ),
     ("render g.json --first 1000000", "usage"),
     (
         "render g.json --last 999999 --first 0",
-        "render g.json 0 999999 64 4096 4",
+        "render g.json 0 999999 64 4096 4 0",
     ),
     ("render g.json --last 1000000", "usage"),
-    ("render g.json --tile 1", "render g.json 0 999999 1 4096 4"),
+    (
+        "render g.json --tile 1",
+        "render g.json 0 999999 1 4096 4 0",
+    ),
     (
         "render g.json --tile 1024",
-        "render g.json 0 999999 1024 256 4",
+        "render g.json 0 999999 1024 256 4 0",
     ),
     (
         "render g.json --tile 256",
-        "render g.json 0 999999 256 4096 4",
+        "render g.json 0 999999 256 4096 4 0",
     ),
     (
         "render g.json --tile 257",
-        "render g.json 0 999999 257 4064 4",
+        "render g.json 0 999999 257 4064 4 0",
     ),
     ("render g.json --tile 0", "usage"),
     ("render g.json --tile 1025", "usage"),
-    ("render g.json --cache 0", "render g.json 0 999999 64 0 4"),
+    ("render g.json --cache 0", "render g.json 0 999999 64 0 4 0"),
     (
         "render g.json --cache 65536 --tile 64",
-        "render g.json 0 999999 64 65536 4",
+        "render g.json 0 999999 64 65536 4 0",
     ),
     ("render g.json --cache 65536 --tile 65", "usage"),
     (
         "render g.json --cache 256 --tile 1024",
-        "render g.json 0 999999 1024 256 4",
+        "render g.json 0 999999 1024 256 4 0",
     ),
     ("render g.json --cache 257 --tile 1024", "usage"),
     ("render g.json --cache 65537 --tile 1", "usage"),
     (
         "render g.json --workers 1",
-        "render g.json 0 999999 64 4096 1",
+        "render g.json 0 999999 64 4096 1 0",
     ),
     (
         "render g.json --workers 64",
-        "render g.json 0 999999 64 4096 64",
+        "render g.json 0 999999 64 4096 64 0",
     ),
     ("render g.json --workers 0", "usage"),
     ("render g.json --workers 65", "usage"),
+    (
+        "render g.json --ahead 0",
+        "render g.json 0 999999 64 4096 4 0",
+    ),
+    (
+        "--ahead 4 takes g.json",
+        "takes g.json 0 999999 64 4096 4 4",
+    ),
+    (
+        "check --ahead=1 g.json",
+        "check g.json 0 999999 64 4096 4 1",
+    ),
+    ("render g.json --ahead 5", "usage"),
+    ("render g.json --ahead", "usage"),
+    ("render g.json --ahead 2 --ahead 2", "usage"),
     // How clap reads words.
     (
         "--tile=16 render --first=5 g.json --workers 2",
-        "render g.json 5 999999 16 4096 2",
+        "render g.json 5 999999 16 4096 2 0",
     ),
     (
         "--workers 2 --first 5 --tile 16 -- render g.json",
-        "render g.json 5 999999 16 4096 2",
+        "render g.json 5 999999 16 4096 2 0",
     ),
     ("render -- g.json --first 5", "usage"),
     ("render g.json --first 5 --first 5", "usage"),
     (
         "render g.json --first +5",
-        "render g.json 5 999999 64 4096 4",
+        "render g.json 5 999999 64 4096 4 0",
     ),
     (
         "render g.json --first 05",
-        "render g.json 5 999999 64 4096 4",
+        "render g.json 5 999999 64 4096 4 0",
     ),
     ("render g.json --first  5", "usage"),
     ("render g.json --first -1", "usage"),
@@ -264,7 +283,7 @@ fn other_faults_are_told(rt: HostRuntime) -> Result<(), Memory> {
     let alloc = rt.alloc();
     let usage = line(alloc, &RunFault::Usage)?;
     let wanted =
-        b">usage: ofxr MODE GRAPH [--first N] [--last N] [--tile N] [--cache N] [--workers N]\n";
+        b">usage: ofxr MODE GRAPH [--first N] [--last N] [--tile N] [--cache N] [--workers N] [--ahead N]\n";
     same(&rt, usage.as_slice(), wanted.as_slice());
     let read = line(alloc, &RunFault::Read(name(alloc, "g.json")?))?;
     same(&rt, read.as_slice(), b">ofxr: read: g.json\n".as_slice());

@@ -11,6 +11,7 @@ pub data Setting : Type 0 where
   tile : Setting
   cache : Setting
   workers : Setting
+  ahead : Setting
 
 abbrev pub id_of : Setting → Text
 id_of first = codes "first"
@@ -18,6 +19,7 @@ id_of last = codes "last"
 id_of tile = codes "tile"
 id_of cache = codes "cache"
 id_of workers = codes "workers"
+id_of ahead = codes "ahead"
 
 pub data Argument : Type 0 where
   word : Text → Argument

@@ -12,7 +12,7 @@ use Rattle.clap.specs.ValueTests.{is_unsigned_in}
 use Rattle.clap.specs.Simple.{matches_of}
 use Rattle.clap.specs.Faults.{fault_of}
 use Rattle.clap.specs.Kinds.{Kinds}
-use Rattle.fx_words.specs.declared.order.TheConstants.{MOST_CACHE, MOST_WORKERS}
+use Rattle.fx_words.specs.declared.order.TheConstants.{MOST_AHEAD, MOST_CACHE, MOST_WORKERS}
 use Rattle.fx_words.specs.declared.order.Mode.{Mode}
 use Rattle.fx_words.specs.declared.order.Mode.TheVariants.{Render, Check, Bench, Migrate, Takes}
 use Rattle.fx_words.specs.Ordered.{Ordered}
@@ -62,8 +62,8 @@ abbrev pub given : {A B : Type 0} → Option A → (A → Option B) → Option B
 given (Some a) next = next a
 given None next = None
 
-abbrev pub order_with : Mode → Text → ℕ → ℕ → ℕ → ℕ → ℕ → Option Ordered
-order_with mode graph first last tile cache workers =
+abbrev pub order_with : Mode → Text → ℕ → ℕ → ℕ → ℕ → ℕ → ℕ → Option Ordered
+order_with mode graph first last tile cache workers ahead =
     if is_graph_for mode graph && fits_memory cache tile
     then Some (record {
       mode = mode;
@@ -73,6 +73,7 @@ order_with mode graph first last tile cache workers =
       tile = tile;
       cache = cache;
       workers = workers;
+      ahead = ahead;
     })
     else None
 
@@ -86,7 +87,8 @@ order_in rows =
     given (option_of (codes "tile") 1 MOST_TILE_SIDE 64 rows) (λ tile.
     given (option_of (codes "cache") 0 MOST_CACHE (default_cache tile) rows) (λ cache.
     given (option_of (codes "workers") 1 MOST_WORKERS 4 rows) (λ workers.
-    order_with mode graph first last tile cache workers)))))))
+    given (option_of (codes "ahead") 0 MOST_AHEAD 0 rows) (λ ahead.
+    order_with mode graph first last tile cache workers ahead))))))))
 
 -- the order of what clap found, where it found no fault
 abbrev pub order_by : Kinds → List Row → Option Ordered

@@ -1,7 +1,7 @@
 -- An order, and the ranges of its numbers.
 use Rattle.std.specs.Prelude.{ℕ, ◌*◌, ◌≤◌, ◌^◌, List}
 use Rattle.fx_base.specs.declared.limits.TheConstants.{LAST_FRAME, MOST_TILE_SIDE}
-use Rattle.fx_words.specs.declared.order.TheConstants.{MOST_CACHE, MOST_WORKERS}
+use Rattle.fx_words.specs.declared.order.TheConstants.{MOST_AHEAD, MOST_CACHE, MOST_WORKERS}
 use Rattle.fx_words.specs.declared.order.Mode.{Mode}
 
 pub record Ordered : Type 0 where
@@ -12,9 +12,11 @@ pub record Ordered : Type 0 where
   pub tile : ℕ
   pub cache : ℕ
   pub workers : ℕ
+  pub ahead : ℕ
 
--- frames up to 999,999, a side from 1 to 1,024, up to 65,536 tiles of 2^31 bytes together, 1 to 64 threads
-pub record AreInRange (first last tile cache workers : ℕ) : Type 0 where
+-- frames up to 999,999, a side from 1 to 1,024, up to 65,536 tiles of 2^31 bytes together, 1 to 64 threads,
+-- blocks of up to 4 moments
+pub record AreInRange (first last tile cache workers ahead : ℕ) : Type 0 where
   pub first_end : first ≤ LAST_FRAME
   pub last_end : last ≤ LAST_FRAME
   pub some_side : 1 ≤ tile
@@ -23,3 +25,4 @@ pub record AreInRange (first last tile cache workers : ℕ) : Type 0 where
   pub memory : cache * tile * tile * 8 ≤ 2 ^ 31
   pub some_workers : 1 ≤ workers
   pub workers_end : workers ≤ MOST_WORKERS
+  pub ahead_end : ahead ≤ MOST_AHEAD

@@ -54,7 +54,7 @@ frame_text (frame.SampleAboveMaxval place value) = codes "P5 " ++ (decimal place
 frame_text (frame.TooLarge sum) = codes "P6 " ++ decimal sum
 
 abbrev pub usage_text : List ℕ
-usage_text = codes "usage: ofxr MODE GRAPH [--first N] [--last N] [--tile N] [--cache N] [--workers N]\n"
+usage_text = codes "usage: ofxr MODE GRAPH [--first N] [--last N] [--tile N] [--cache N] [--workers N] [--ahead N]\n"
 
 -- a line that tells of a name
 abbrev pub name_text : List ℕ → List ℕ → List ℕ

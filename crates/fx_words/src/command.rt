@@ -1,10 +1,10 @@
-//! The command as `clap` is told it: two words that are required, and five options with a whole number each.
+//! The command as `clap` is told it: two words that are required, and six options with a whole number each.
 ghost use Rattle.std.specs.Prelude.{◌≡◌, ◌≤◌, ◌≤ℤ◌, false, pos, IfOk};
 ghost use Rattle.clap.specs.Simple.{app_of};
 ghost use Rattle.clap.specs.Walk.{rule_of};
-ghost use Rattle.fx_words.specs.Command.{ofxr, word_rule, number_rule};
+ghost use Rattle.fx_words.specs.Command.{bare, ofxr, word_rule, number_rule};
 
-use crate::order::{MOST_CACHE, MOST_WORKERS};
+use crate::order::{MOST_AHEAD, MOST_CACHE, MOST_WORKERS};
 use clap::{Arg, Command, value_parser};
 use fx_base::limits::{LAST_FRAME, MOST_TILE_SIDE};
 use std::alloc::{AllocError, Global};
@@ -39,19 +39,27 @@ fn wide_number<'a>(alloc: Global, name: &'a str, least: i64, most: i64) -> Arg<'
         .value_parser(value_parser!(u32).range(least..=most))
 }
 
-/// The command, without a help and without a version flag.
-pub(crate) fn command<'a>(alloc: Global) -> Result<Command<'a>, AllocError>
-    ensures { IfOk result (λ c. app_of c ≡ ofxr) }
+// The command without its words and options, a help and a version flag.
+fn bare<'a>(alloc: Global) -> Command<'a>
+    ensures { app_of result ≡ bare }
 {
     Command::new(alloc, "ofxr")
         .no_binary_name(true)
         .disable_help_flag(true)
         .disable_version_flag(true)
+}
+
+/// The command, without a help and without a version flag.
+pub(crate) fn command<'a>(alloc: Global) -> Result<Command<'a>, AllocError>
+    ensures { IfOk result (λ c. app_of c ≡ ofxr) }
+{
+    bare(alloc)
         .arg(word(alloc, "mode"))?
         .arg(word(alloc, "graph"))?
         .arg(number(alloc, "first", 0, LAST_FRAME))?
         .arg(number(alloc, "last", 0, LAST_FRAME))?
         .arg(number(alloc, "tile", 1, MOST_TILE_SIDE))?
         .arg(number(alloc, "cache", 0, MOST_CACHE))?
-        .arg(number(alloc, "workers", 1, MOST_WORKERS))
+        .arg(number(alloc, "workers", 1, MOST_WORKERS))?
+        .arg(number(alloc, "ahead", 0, MOST_AHEAD))
 }

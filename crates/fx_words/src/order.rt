@@ -8,6 +8,9 @@ pub const MOST_CACHE: u32 = 65_536;
 /// The most threads that render.
 pub const MOST_WORKERS: u32 = 64;
 
+/// The most moments of a block that is read ahead.
+pub const MOST_AHEAD: u32 = 4;
+
 /// What is done with the graph.
 #[derive(Clone, Copy, Debug, PartialEq, Eq)]
 pub enum Mode {
@@ -38,6 +41,9 @@ pub struct Order {
     pub cache: u32,
     /// How many threads render, 1 to 64.
     pub workers: u32,
+    /// How many moments a block has whose source frames are read, and whose files are written, while the moments of
+    /// another block are rendered, 1 to 4; where it is 0, moment after moment is read, rendered and written.
+    pub ahead: u32,
 }
 
 impl Model for Order {
@@ -53,7 +59,8 @@ impl Model for Order {
       tile = o.tile;
       cache = o.cache;
       workers = o.workers;
+      ahead = o.ahead;
     } };
 
-    ghost invariant = { λ o. AreInRange o.first o.last o.tile o.cache o.workers };
+    ghost invariant = { λ o. AreInRange o.first o.last o.tile o.cache o.workers o.ahead };
 }

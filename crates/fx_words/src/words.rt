@@ -13,7 +13,7 @@ ghost use Rattle.fx_words.specs.declared.order.TheConstants.{MOST_CACHE};
 ghost use Rattle.fx_words.specs.declared.words.WordFault.TheVariants.{Memory as OutOfMemory};
 
 use crate::command::command;
-use crate::order::{MOST_CACHE, MOST_WORKERS, Mode, Order};
+use crate::order::{MOST_AHEAD, MOST_CACHE, MOST_WORKERS, Mode, Order};
 use clap::error::ErrorKind;
 use clap::{ArgMatches, Error};
 use fx_base::Name;
@@ -170,6 +170,7 @@ fn order_in(alloc: Global, matches: &ArgMatches<'_>) -> Result<Order, WordFault>
     let tile = option_of(matches, "tile", 1, MOST_TILE_SIDE, 64)?;
     let cache = option_of(matches, "cache", 0, MOST_CACHE, default_cache(tile))?;
     let workers = option_of(matches, "workers", 1, MOST_WORKERS, 4)?;
+    let ahead = option_of(matches, "ahead", 0, MOST_AHEAD, 0)?;
     if !is_graph_for(mode, graph) || !fits_memory(cache, tile) {
         return Err(WordFault::Usage);
     }
@@ -181,6 +182,7 @@ fn order_in(alloc: Global, matches: &ArgMatches<'_>) -> Result<Order, WordFault>
         tile,
         cache,
         workers,
+        ahead,
     })
 }
 

@@ -18,18 +18,18 @@ returns-then-is_over-clause-ends g c = λ p many may.
     let over : IsOver c.args.moments c.loop.line = search rules in
     let w = c.loop.invariant.way p many may in
     rw c.end.ensures (ends_over l.tells d.tells (IsMomentFile p.reel)
-    (record { uses = c.args.uses; moments = c.args.moments; limit = MOST_BYTES; most_side = MOST_SIDE; ahead = 0 })
+    (record { uses = c.args.uses; moments = c.args.moments; limit = MOST_BYTES; most_side = MOST_SIDE; ahead = c.args.ahead })
     (see c.args.library.now c.args.depot.now c.args.making.now) (see c.loop.library c.loop.depot c.loop.making) c.loop.line w.flows over c.loop.line.fault refl)
 
 pub returns-then-is_over-clause-making : goal.returns-then-is_over-clause-making
 returns-then-is_over-clause-making g c = λ p many may done. (c.loop.invariant.way p many may).may.making
 
-pub turn-end-requires-clause-life : goal.turn-end-requires-clause-life
-turn-end-requires-clause-life g c κs within =
+pub step-end-requires-clause-life : goal.step-end-requires-clause-life
+step-end-requires-clause-life g c κs within =
     subst (λ (s : Graph). HasLife number_of s c.args.life.now) (sym c.loop.invariant.written) c.requires.life
 
-pub turn-end-requires-clause-way : goal.turn-end-requires-clause-way
-turn-end-requires-clause-way g c κs within =
+pub step-end-requires-clause-way : goal.step-end-requires-clause-way
+step-end-requires-clause-way g c κs within =
     let l = g.L.Library in
     let d = g.D.Depot in
     let see = state_of l.file l.faults l.last d.file d.faults d.last seen_by next_of in
@@ -42,23 +42,23 @@ returns-in-Some-end-clause-quiet g c =
     let d = g.D.Depot in
     let see = state_of l.file l.faults l.last d.file d.faults d.last seen_by next_of in
     let w = c.requires.may in
-    c.in-Some-end.ensures.quiet w.0 (see c.args.library.now c.args.depot.now c.args.making.now) (c.loop.invariant.way w.0 w.1 w.2)
+    λ one. c.in-Some-end.ensures.quiet one w.0 (see c.args.library.now c.args.depot.now c.args.making.now) (c.loop.invariant.way w.0 w.1 w.2)
 
 pub returns-in-Some-end-clause-ends : goal.returns-in-Some-end-clause-ends
 returns-in-Some-end-clause-ends g c = λ p many may.
     let l = g.L.Library in
     let d = g.D.Depot in
     let see = state_of l.file l.faults l.last d.file d.faults d.last seen_by next_of in
-    c.in-Some-end.ensures.ends p (see c.args.library.now c.args.depot.now c.args.making.now) (c.loop.invariant.way p many may)
+    c.in-Some-end.ensures.moves.ends p (see c.args.library.now c.args.depot.now c.args.making.now) (c.loop.invariant.way p many may)
 
 pub loop-preserved : goal.loop-preserved
 loop-preserved g c =
     let l = g.L.Library in
     let d = g.D.Depot in
     let see = state_of l.file l.faults l.last d.file d.faults d.last seen_by next_of in
-    let none : c.turn-end.result ≡ None = search rules in
+    let none : c.step-end.result ≡ None = search rules in
     record {
-      written = c.turn-end.ensures.written ∙ c.loop.invariant.written;
+      written = c.step-end.ensures.moves.written ∙ c.loop.invariant.written;
       way = λ p many may.
-          rw none at c.turn-end.ensures.way p (see c.args.library.now c.args.depot.now c.args.making.now) (c.loop.invariant.way p many may);
+          rw none at c.step-end.ensures.moves.way p (see c.args.library.now c.args.depot.now c.args.making.now) (c.loop.invariant.way p many may);
     }

@@ -137,5 +137,5 @@ returns g c =
       quiet_depot = puts_quiet l.tells d.tells _ _ _ _ h end new.sum ended c.finished.result finished;
       stops = λ there.
           ill l.tells d.tells order file reel is stay _ _ _ there (sym many) refl refl are begun.seen
-          end new.sum c.finished.result ended put.quiet finished;
+          end new.sum c.finished.result ended (λ none. put.quiet (c.ahead_of.ensures none)) finished;
     }
