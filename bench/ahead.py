@@ -16,6 +16,7 @@ PROGRAM = os.environ.get("OFXR", f"{HERE}/crates/ofxr/out/ofxr")
 RUNS = int(sys.argv[1]) if len(sys.argv) > 1 else 3
 FRAMES = int(sys.argv[2]) if len(sys.argv) > 2 else 24
 FOLDER = sys.argv[3] if len(sys.argv) > 3 else "/dev/shm" if os.path.isdir("/dev/shm") else None
+ANEW = len(sys.argv) > 3
 WIDTH, HEIGHT = 1920, 1080
 AHEAD = (0, 1, 2, 4)
 WORKERS = (1, 2, 4)
@@ -67,9 +68,20 @@ def write_graph(nodes):
         json.dump(graph, file)
 
 
+def drop_caches():
+    os.sync()
+    try:
+        with open("/proc/sys/vm/drop_caches", "w") as file:
+            file.write("3")
+    except OSError:
+        pass
+
+
 def timed(*options):
     best = None
     for _ in range(RUNS):
+        if ANEW:
+            drop_caches()
         begun = time.perf_counter()
         subprocess.run([PROGRAM, "render", "g.json", *options], check=True, stdout=subprocess.DEVNULL)
         took = time.perf_counter() - begun
