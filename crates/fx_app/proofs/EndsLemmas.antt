@@ -41,7 +41,7 @@ use Rattle.fx_app.specs.Reels.{IsReelOf, Reel, file_name, moments_in}
 use Rattle.fx_app.specs.Files.{AreAccepted, AreImages, AreUsesOf, HasGained}
 use Rattle.fx_app.specs.Graphs.{FileShown, Graph, graph_under}
 use Rattle.fx_app.specs.Moments.{HasRendered, IsMomentFile, Stops, images_of}
-use Rattle.fx_app.specs.Run.{HasPut, IsToldAs, Job}
+use Rattle.fx_app.specs.Run.{HasPut, IsToldAs, Job, ahead_in}
 use Rattle.fx_app.specs.Steps.{IsSourceFault}
 use Rattle.fx_app.specs.Tiles.{HasCounted}
 use Rattle.fx_app.specs.Turns.{IsEndFault, IsFinished, QuietAtPut}
@@ -259,7 +259,7 @@ module _ (reads puts : Type 0) (order : Ordered) (file : FileShown) (r : Reel) (
       }
 
   at_put : (name : List ℕ) → StopsAtPut reads puts (IsMomentFile r) p start new name
-      → (order.ahead ≡ 0 → IsQuiet start.read_faults new.read_faults start.read_last new.read_last) → Stopped (run.Write name)
+      → (ahead_in (Some order) ≡ 0 → IsQuiet start.read_faults new.read_faults start.read_last new.read_last) → Stopped (run.Write name)
   at_put name is quiet =
       let total = length-append is.handed is.more in
       let all = is.sees.few in
@@ -432,7 +432,7 @@ module _ (reads puts : Type 0) (order : Ordered) (file : FileShown) (r : Reel) (
       }
 
   pub stopped : (end : PipeEnd) → Ended reads puts (IsMomentFile r) p start new end
-      → (order.ahead ≡ 0 → QuietAtPut start.read_faults new.read_faults start.read_last new.read_last end) → (e : RunFault)
+      → (ahead_in (Some order) ≡ 0 → QuietAtPut start.read_faults new.read_faults start.read_last new.read_last end) → (e : RunFault)
       → IsEndFault r.graph end e → Stopped e
   stopped pipe.Done is quiet e same = subst Stopped (sym same) (after_all is)
   stopped (pipe.Source fault) is quiet e line_is = at_source fault is e line_is
@@ -451,7 +451,7 @@ module _ (reads puts : Type 0) (order : Ordered) (file : FileShown) (r : Reel) (
   well end sum (Err e) ended finished told counted = tt
 
   pub ill : (end : PipeEnd) (sum : TileCount) (result : Result TileCount RunFault) → Ended reads puts (IsMomentFile r) p start new end
-      → (order.ahead ≡ 0 → QuietAtPut start.read_faults new.read_faults start.read_last new.read_last end)
+      → (ahead_in (Some order) ≡ 0 → QuietAtPut start.read_faults new.read_faults start.read_last new.read_last end)
       → IsFinished r.graph end sum result → IfErr result Stopped
   ill end sum (Ok count) ended quiet finished = tt
   ill end sum (Err e) ended quiet finished = stopped end ended quiet e finished

@@ -19,7 +19,7 @@ use Rattle.fx_scene.specs.Scenes.{Images}
 use Rattle.fx_words.specs.Ordered.{Ordered}
 use Rattle.fx_words.specs.Texts.{render_text, report_text, takes_text}
 use Rattle.fx_words.specs.declared.order.Mode.{Mode}
-use Rattle.fx_words.specs.declared.order.Mode.TheVariants.{Takes}
+use Rattle.fx_words.specs.declared.order.Mode.TheVariants.{Render, Takes}
 use Rattle.fx_words.specs.declared.report.Report.{Report}
 use Rattle.fx_words.specs.declared.fault.FrameFault.{FrameFault}
 use Rattle.fx_words.specs.declared.fault.FrameFault.TheVariants as fault
@@ -201,10 +201,15 @@ abbrev pub LeavesOwnReport : Option Ordered → Files → RunFault → List ℕ 
 LeavesOwnReport asked library run.Report old new = HasBegunToTell asked library old new
 LeavesOwnReport asked library other old new = Unit {0}
 
--- how many moments a block has that is read ahead
+-- how many moments a block has that is read ahead: in other modes than those that put frames none is
+abbrev pub ahead_for : Mode → ℕ → ℕ
+ahead_for Render ahead = ahead
+ahead_for Takes ahead = ahead
+ahead_for other ahead = 0
+
 abbrev pub ahead_in : Option Ordered → ℕ
 ahead_in None = 0
-ahead_in (Some order) = order.ahead
+ahead_in (Some order) = ahead_for order.mode order.ahead
 
 -- no fetch failed, but at a fault of reading or of memory; and at a fault of writing, where later moments are read ahead
 abbrev pub LeavesLibrary : Option Ordered → RunFault → ℕ → ℕ → List ℕ → List ℕ → Type 0

@@ -23,7 +23,7 @@ ghost use Rattle.fx_app.specs.Turns.{IsFinished, IsUnderWay, Moves, QuietAtPut};
 use crate::crew::Crew;
 use crate::graph::{GraphFile, ordered_takes};
 use crate::making::{Making, more_is_same};
-use crate::order::{ahead_of, first_of, frame_count, last_of};
+use crate::order::{ahead_for, first_of, frame_count, last_of};
 use crate::rounds::round;
 use crate::sources::{MOST_BYTES, source_fault};
 use fx_base::Memory;
@@ -100,7 +100,7 @@ pub(crate) fn put_moments<
         &life,
         &uses,
         moments,
-        ahead_of(order),
+        ahead_for(order.mode, order.ahead),
         &mut making,
         library,
         depot,

@@ -3,6 +3,7 @@ ghost use Rattle.std.specs.Prelude.{◌≡◌, ◌≤◌};
 ghost use Rattle.fx_base.specs.declared.limits.TheConstants.{LAST_FRAME};
 ghost use Rattle.fx_scene.specs.Scenes.{graph_shown};
 ghost use Rattle.fx_app.specs.Graphs.{first_of, last_of, frame_count};
+ghost use Rattle.fx_app.specs.Run.{ahead_for};
 
 use fx_graph::Graph;
 use fx_shipped::Shipped;
@@ -31,12 +32,13 @@ pub(crate) fn frame_count(first: u32, last: u32) -> u64
     (u64::from(last) + 1).saturating_sub(u64::from(first))
 }
 
-/// How many moments a block has that is read ahead. The files of a bench are in memory: none is read ahead.
-pub(crate) fn ahead_of(order: &Order) -> u32
-    ensures { order.now.ahead ≡ 0 → result ≡ 0 }
+/// How many moments a block has that is read ahead. In other modes than those that put frames none is: the files of a
+/// bench are in memory.
+pub(crate) fn ahead_for(mode: Mode, ahead: u32) -> u32
+    ensures { result ≡ ahead_for mode ahead }
 {
-    match order.mode {
-        Mode::Bench => 0,
-        Mode::Render | Mode::Takes | Mode::Check | Mode::Migrate => order.ahead,
+    match mode {
+        Mode::Render | Mode::Takes => ahead,
+        Mode::Check | Mode::Bench | Mode::Migrate => 0,
     }
 }

@@ -11,6 +11,7 @@ use Rattle.fx_app.specs.Graphs.{FileShown, Graph, file_shown}
 use Rattle.fx_app.specs.Making.{MayMake}
 use Rattle.fx_app.specs.Moments.{HasRendered}
 use Rattle.fx_app.specs.Reels.{IsReelOf, Reel, moments_in, reel_with, takes_for}
+use Rattle.fx_app.specs.Run.{ahead_for}
 use Rattle.fx_app.specs.Turns.{IsFinished}
 use Rattle.fx_app.proofs.EndsLemmas.{fetches_quiet, ill, puts_quiet, renders_none, stops_at_once, well}
 use Rattle.fx_app.proofs.StartLemmas.{is_reel, many_moments, may_begin, no_moments, plan_of, uses_of}
@@ -137,5 +138,5 @@ returns g c =
       quiet_depot = puts_quiet l.tells d.tells _ _ _ _ h end new.sum ended c.finished.result finished;
       stops = λ there.
           ill l.tells d.tells order file reel is stay _ _ _ there (sym many) refl refl are begun.seen
-          end new.sum c.finished.result ended (λ none. put.quiet (c.ahead_of.ensures none)) finished;
+          end new.sum c.finished.result ended (λ none. put.quiet (c.ahead_for.ensures ∙ ap (λ (o : Ordered). ahead_for o.mode o.ahead) c.order.view_is ∙ none)) finished;
     }
