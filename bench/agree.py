@@ -4,7 +4,7 @@
     agree.py [COUNT [SEED]]     100 graphs, or COUNT, of a number
 
 Each graph is made of a number: nodes of all effects, sources of all forms, keys, masks, projects of both depths and
-components. Its frames are rendered with tiles, a cache and workers of that number too. Each file, and the report, are to be
+components. Its frames are rendered with tiles, a cache, workers and a scale of that number too. Each file, and the report, are to be
 those of host.py. It prints each graph that differs, and at the end how many there were; its status is 1 if any differed.
 """
 import json
@@ -119,7 +119,9 @@ def graph_of(dice):
 def options(dice):
     cache = dice.choice([0, 1, 4096, 4096, 4096])
     side = dice.choice([1, 3, 5, 16, 64])
-    return ["--tile", str(side), "--cache", str(cache), "--workers", str(1 if cache == 1 else dice.choice([1, 2, 4, 9]))]
+    workers = 1 if cache == 1 else dice.choice([1, 2, 4, 9])
+    scale = dice.choice([1, 1, 2, 4, 8])
+    return ["--tile", str(side), "--cache", str(cache), "--workers", str(workers), "--scale", str(scale)]
 
 
 def made(number):

@@ -2,9 +2,9 @@
 # effects.sh: how long each effect of the program takes for a frame of 1,920 by 1,080 pixels of r, g, b and a on
 # one core, in milliseconds and in millions of bytes written a second, of bytes and of short samples, as a whole
 # frame and as tiles of 64 by 64 pixels, and how many times what copying the same rows takes; how many times a greater
-# radius takes what a smaller one takes; and what a row costs that crosses three pieces of an input, beside one of one
-# piece. What it takes to make the inputs is taken off. `effects.sh NAME..` measures these effects alone, `row` the
-# rows. Each time is processor time, and the least of five, or of as many as REPEATS says.
+# radius takes what a smaller one takes; what a row costs that crosses three pieces of an input, beside one of one
+# piece; and what it takes to reduce a frame to a half, a quarter and an eighth, beside copying it. What it takes to make
+# the inputs is taken off. `effects.sh NAME..` measures these effects alone, `row` the rows, `reduce` the frames. Each time is processor time, and the least of five, or of as many as REPEATS says.
 set -eu
 here=$(cd "$(dirname "${BASH_SOURCE[0]}")/.." && pwd)
 program=$here/crates/fx_speed/out/fx_speed
@@ -94,6 +94,16 @@ many() {
   echo "a row across $((1920 / $1)) pieces: $all ns, and of $((1920 / $1 * 1080 / $2)) pieces that the row is asked of: $some ns"
 }
 
+# reduced SCALE: a frame to a part of its size, at each depth.
+reduced() {
+  local depth least
+  if [ -n "$chosen" ] && [[ " $chosen " != *" reduce "* ]]; then return; fi
+  for depth in byte short; do
+    least=$(cost "reduce:$depth:$1" 4 200)
+    echo "a $depth frame reduced by $1: $((least / 1000)) us, $(so_many $least "${costs[copy::$depth:whole]}") times a copy of it"
+  done
+}
+
 chosen=$*
 uptime
 echo 'effect, its numbers and depth; of a whole frame, and of tiles, ms, MB a second and how many times a copy'
@@ -138,4 +148,5 @@ rows 0 1920 640
 rows 63 66 64
 many 384 10
 many 64 60
+for scale in 2 4 8; do reduced $scale; done
 uptime

@@ -1,9 +1,9 @@
 #!/usr/bin/env python3
 """Refuses the program memory, and looks at what it leaves.
 
-    memory.py [NAME..]      first, diamond, ahead, hd and edges, or those that are named
+    memory.py [NAME..]      first, diamond, ahead, scale, hd and edges, or those that are named
 
-Of the first four each allocation is refused once, by one worker and then by four, whose order is another at each run;
+Of the first five each allocation is refused once, by one worker and then by four, whose order is another at each run;
 all allocations from each one on are refused; and each thread is refused once. Of the last two the program is given less
 memory than it needs, in twenty steps from what it needs to start, by the system's limit of its address space. A run is
 right where its status is 0, and the report and all files are those of host.py, or 6, and the files that are there are the
@@ -75,13 +75,14 @@ GRAPHS = {
         (16, 16), 8,
     ),
     "ahead": (graph([source("s", 4), node("n", "invert", {"Source": "s"})], 4, 2, 4), (4, 2), 64),
+    "scale": (graph([source("s", 1), node("b", "boxblur", {"Source": "s"}, rx=3, ry=1)], 13, 9, 1), (13, 9), 4),
     "hd": (graph(twelve_nodes(), 96, 54, 1), (96, 54), 32),
     "edges": (graph([source("p", 2), node("b", "boxblur", {"Source": "p"}, rx=1, ry=1)], 160, 160, 2), (160, 160), 64),
 }
 # Those whose allocations are refused one after another, and those that need much more than the program needs to start.
-COUNTED, LIMITED = ("first", "diamond", "ahead", "hd"), ("hd", "edges")
+COUNTED, LIMITED = ("first", "diamond", "ahead", "scale", "hd"), ("hd", "edges")
 # What is ordered besides.
-OPTIONS = {"ahead": ["--ahead", "2"]}
+OPTIONS = {"ahead": ["--ahead", "2"], "scale": ["--scale", "2"]}
 
 
 def frame(number, width, height):
@@ -100,7 +101,7 @@ class Trial:
         for one in made["nodes"]:
             for number in range(one.get("last", -1) + 1):
                 self.write(one["source"].replace("#", str(number)), frame(number, *sides))
-        words = ["render", "g.json", "--tile", str(self.tile)]
+        words = ["render", "g.json", "--tile", str(self.tile), *OPTIONS.get(name, [])]
         self.files, self.report = host.run(made, lambda it: host.Frame(self.read(it)), words)
 
     def write(self, name, data):

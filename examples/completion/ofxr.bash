@@ -11,7 +11,7 @@ _ofxr() {
   for ((at = 1; at < COMP_CWORD; at++)); do
     one=${COMP_WORDS[at]}
     case $one in
-      --first | --last | --tile | --cache | --workers | --ahead) given+="$one " waits=yes ;;
+      --first | --last | --tile | --cache | --workers | --ahead | --scale) given+="$one " waits=yes ;;
       --*=*) given+="${one%%=*} " ;;
       =) ;;
       *)
@@ -29,12 +29,12 @@ _ofxr() {
 
   if [[ $word == -* ]]; then
     local option options=''
-    for option in --first --last --tile --cache --workers --ahead; do
+    for option in --first --last --tile --cache --workers --ahead --scale; do
       [[ $given == *" $option "* ]] || options+="$option "
     done
     mapfile -t COMPREPLY < <(compgen -W "$options" -- "$word")
   elif [ "$count" -eq 0 ]; then
-    mapfile -t COMPREPLY < <(compgen -W 'render takes check bench migrate' -- "$word")
+    mapfile -t COMPREPLY < <(compgen -W 'render takes plan check bench migrate' -- "$word")
   elif [ "$count" -eq 1 ] && [ "$mode" != bench ]; then
     compopt -o filenames 2>/dev/null
     mapfile -t COMPREPLY < <(compgen -d -- "$word"; compgen -f -X '!*.json' -- "$word")

@@ -12,7 +12,10 @@ use Rattle.fx_base.specs.Pattern.{name_of}
 use Rattle.fx_base.proofs.PatternLaws.{name_of-apart}
 use Rattle.fx_outside.specs.Outside.{Files, HasRisen}
 use Rattle.fx_scene.specs.Scenes.{Images, picture}
-use Rattle.fx_shipped.specs.Shipped.{meaning_of}
+use Rattle.fx_proxy.specs.Reduced.{IsScale}
+use Rattle.fx_proxy.specs.Scaled.{scaled_graph}
+use Rattle.fx_proxy.proofs.ScaledLemmas.{project_stays}
+use Rattle.fx_shipped.specs.Shipped.{meaning_of, number_of}
 use Rattle.fx_tile.specs.declared.count.TileCount.{TileCount}
 use Rattle.fx_graph.specs.Refusal.{refusal}
 use Rattle.fx_words.specs.Ordered.{Ordered}
@@ -25,7 +28,7 @@ use Rattle.fx_app.specs.declared.graph.GraphFailure.TheVariants as graph
 use Rattle.fx_app.specs.declared.report.ReportFailure.{ReportFailure}
 use Rattle.fx_app.specs.declared.report.ReportFailure.TheVariants as report
 use Rattle.fx_app.specs.Graphs.{FileShown, Graph, graph_under, first_of, last_of, frame_count}
-use Rattle.fx_app.specs.Reels.{Reel, file_name, file_text, frame_in, graph_in, moments_in, picture_text, plain_reel, takes_for}
+use Rattle.fx_app.specs.Reels.{Reel, file_name, file_text, frame_in, graph_in, moments_in, ordered_file, picture_text, plain_reel, scaled_in, takes_for}
 use Rattle.fx_app.specs.Files.{AreImages, HasGained, wanted_of, with_moments}
 use Rattle.fx_app.specs.Run.{Cause, IsAccepted, LeavesDepot, LeavesLibrary, Rose, count_in}
 use Rattle.fx_app.specs.Bench.{BenchCause, LeavesBenchReport, bytes_of, made_of, IsBenchReport}
@@ -100,32 +103,36 @@ short_file r images j has =
 
 -- ---- what the depot holds, which began empty
 
-module _ (g : Graph) (images : Images) (a n : ℕ) (old new : Files) (has : HasFiles g) (empty : (name : List ℕ) → old name ≡ None)
-    (gained : HasGained (alone g a n) images n old new) where
-  from_none : (name : List ℕ) → new name ≡ with_moments (alone g a n) images n no_files name
-  from_none name = gained name ∙ ap (λ (f : Files). with_moments (alone g a n) images n f name) (fun_ext empty)
+-- a graph at a fraction of its size has the same files
+pub small_files : (q : ℕ) (g : Graph) → IsScale q → HasFiles g → HasFiles (scaled_graph number_of q g)
+small_files q g scale has = record { extent = project_stays q g.project scale.0 has.extent; one_run = has.one_run }
+
+module _ (q : ℕ) (g : Graph) (images : Images) (a n : ℕ) (old new : Files) (has : HasFiles g) (empty : (name : List ℕ) → old name ≡ None)
+    (gained : HasGained (alone q g a n) images n old new) where
+  from_none : (name : List ℕ) → new name ≡ with_moments (alone q g a n) images n no_files name
+  from_none name = gained name ∙ ap (λ (f : Files). with_moments (alone q g a n) images n f name) (fun_ext empty)
 
   -- no file is longer than a picture's text may be
   pub are_short : AreShort new
   are_short name =
-      rw (from_none name) (short (alone g a n) images n 1073741824 name (λ j. short_file (alone g a n) images j has))
+      rw (from_none name) (short (alone q g a n) images n 1073741824 name (λ j. short_file (alone q g a n) images j has))
 
   -- different frames have different files
-  apart : a + n ≤ 2 ^ 32 → (k m : ℕ) → k < n → m < n → file_name (alone g a n) k ≡ file_name (alone g a n) m → k ≡ m
+  apart : a + n ≤ 2 ^ 32 → (k m : ℕ) → k < n → m < n → file_name (alone q g a n) k ≡ file_name (alone q g a n) m → k ≡ m
   apart low k m k_low m_low same =
       let one : a + k ≡ a + m =
       name_of-apart g.file (a + k) (a + m) has.one_run (omega (arith, low, k_low)) (omega (arith, low, m_low))
-      (sym (alone_name g a n k k_low) ∙ same ∙ alone_name g a n m m_low) in
+      (sym (alone_name q g a n k k_low) ∙ same ∙ alone_name q g a n m m_low) in
       omega (arith, one)
 
   -- the files of these names have the bytes of the frames' texts
-  pub bytes_put : a + n ≤ 2 ^ 32 → flat_map (bytes_under new) (map (name_of g.file) (range_with_len a n)) ≡ bytes_of (alone g a n) images n
+  pub bytes_put : a + n ≤ 2 ^ 32 → flat_map (bytes_under new) (map (name_of g.file) (range_with_len a n)) ≡ bytes_of (alone q g a n) images n
   bytes_put low =
-      behind (bytes_under new) (name_of g.file) (file_text (alone g a n) images) a 0 n (λ j below.
+      behind (bytes_under new) (name_of g.file) (file_text (alone q g a n) images) a 0 n (λ j below.
       let at : j ≡ 0 + j = omega arith in
-      let there : bytes_under new (file_name (alone g a n) j) ≡ file_text (alone g a n) images j =
-      ap (λ o. unwrap_or o []) (gained (file_name (alone g a n) j) ∙ found (alone g a n) images n j old (apart low) below) in
-      subst₂ (λ (name : List ℕ) (k : ℕ). bytes_under new name ≡ file_text (alone g a n) images k) (alone_name g a n j below) at there)
+      let there : bytes_under new (file_name (alone q g a n) j) ≡ file_text (alone q g a n) images j =
+      ap (λ o. unwrap_or o []) (gained (file_name (alone q g a n) j) ∙ found (alone q g a n) images n j old (apart low) below) in
+      subst₂ (λ (name : List ℕ) (k : ℕ). bytes_under new name ≡ file_text (alone q g a n) images k) (alone_name q g a n j below) at there)
 
 -- ---- how it ends
 
@@ -176,15 +183,17 @@ bench_stops order library old new e made s =
 -- what is told of these images
 abbrev told_of : {order : Ordered} {library : Files} → Images → IsAccepted (Some order) library → List ℕ
 told_of images known =
-    let bytes = bytes_of known.job.reel images (count_in known.job) in
+    let bytes = bytes_of known.job.reel (scaled_in known.job.reel images) (count_in known.job) in
     bench_text (count_in known.job) (length bytes) (sum bytes)
 
 pub bench_is : {tells : Type 0} (order : Ordered) (library old new : Files) (file : FileShown) (count : TileCount) (a b frames size total : ℕ)
     → library ≡ made_of order.graph → graph_under library order.graph ≡ Some (Ok file) → takes_for order.mode file.takes ≡ []
     → a ≡ first_of file.graph order → b ≡ last_of file.graph order
     → (r : HasRendered tells (Some order) library old new count) → frames ≡ frame_count a b
-    → size ≡ length (bytes_of (plain_reel file.graph a b) r.images (frame_count a b))
-    → total ≡ sum (bytes_of (plain_reel file.graph a b) r.images (frame_count a b))
+    → (let reel = plain_reel order.scale (ordered_file order file).graph a b in
+    size ≡ length (bytes_of reel (scaled_in reel r.images) (frame_count a b)))
+    → (let reel = plain_reel order.scale (ordered_file order file).graph a b in
+    total ≡ sum (bytes_of reel (scaled_in reel r.images) (frame_count a b)))
     → IsBenchReport (Some order) (bench_text frames size total)
 bench_is order library old new file count a b frames size total made there none first last r many long adds =
     subst (λ (f : Files). (known : IsAccepted (Some order) f) → AreImages f (wanted_of known.job.uses) r.images
@@ -194,18 +203,18 @@ bench_is order library old new file count a b frames size total made there none 
     is : bench_text frames size total ≡ told_of r.images r.known
     is =
         let job = r.known.job in
-        let m = first_of file.graph order in
-        let n = last_of file.graph order in
-        let here : plain_reel file.graph a b ≡ job.reel =
-        ap₂ (plain_reel file.graph) first last
+        let h = (ordered_file order file).graph in
+        let reel = plain_reel order.scale h a b in
+        let here : reel ≡ job.reel =
+        ap₂ (plain_reel order.scale h) first last
         ∙ sym (plain_is order file none job.reel (reel_here order library file job there)) in
-        let moments : frame_count a b ≡ count_in job = sym (alone_many file.graph a (frame_count a b)) ∙ ap (λ (s : Reel). moments_in s) here in
-        let bytes : bytes_of (plain_reel file.graph a b) r.images (frame_count a b) ≡ bytes_of job.reel r.images (count_in job) =
-        ap (λ (k : ℕ). bytes_of (plain_reel file.graph a b) r.images k) moments
-        ∙ ap (λ (s : Reel). bytes_of s r.images (count_in job)) here in
+        let moments : frame_count a b ≡ count_in job = sym (alone_many order.scale h a (frame_count a b)) ∙ ap (λ (s : Reel). moments_in s) here in
+        let bytes : bytes_of reel (scaled_in reel r.images) (frame_count a b) ≡ bytes_of job.reel (scaled_in job.reel r.images) (count_in job) =
+        ap (λ (k : ℕ). bytes_of reel (scaled_in reel r.images) k) moments
+        ∙ ap (λ (s : Reel). bytes_of s (scaled_in s r.images) (count_in job)) here in
         ap (λ k. bench_text k size total) (many ∙ moments)
         ∙ ap (λ k. bench_text (count_in job) k total) (long ∙ ap length bytes)
-        ∙ ap (λ k. bench_text (count_in job) (length (bytes_of job.reel r.images (count_in job))) k) (adds ∙ ap sum bytes)
+        ∙ ap (λ k. bench_text (count_in job) (length (bytes_of job.reel (scaled_in job.reel r.images) (count_in job))) k) (adds ∙ ap sum bytes)
 
 -- nothing was read, put or written
 module _ (a : ℕ) (x : List ℕ) where

@@ -1,5 +1,5 @@
 -- How a check ends.
-use Rattle.std.proofs.Common.{◌≡◌, ℕ, List, [], length, Ok, Some, refl, sym, ap, ◌∙◌}
+use Rattle.std.proofs.Common.{◌≡◌, ℕ, List, [], length, Ok, Some, refl, sym, ap, subst, ◌∙◌}
 use Rattle.fx_outside.specs.Outside.{Files}
 use Rattle.fx_seq.specs.Filling.{IsQuiet}
 use Rattle.fx_words.specs.Ordered.{Ordered}
@@ -10,8 +10,8 @@ use Rattle.fx_app.specs.declared.graph.GraphFailure.{GraphFailure}
 use Rattle.fx_app.specs.declared.graph.GraphFailure.TheVariants as graph
 use Rattle.fx_app.specs.declared.report.ReportFailure.{ReportFailure}
 use Rattle.fx_app.specs.declared.report.ReportFailure.TheVariants as report
-use Rattle.fx_app.specs.Graphs.{FileShown, graph_under, first_of, last_of, frame_count}
-use Rattle.fx_app.specs.Reels.{moments_in, plain_reel, takes_for}
+use Rattle.fx_app.specs.Graphs.{FileShown, Graph, graph_under, first_of, last_of, frame_count}
+use Rattle.fx_app.specs.Reels.{moments_in, ordered_file, plain_reel, takes_for}
 use Rattle.fx_app.specs.Run.{Job}
 use Rattle.fx_app.specs.Check.{check_report}
 use Rattle.fx_app.specs.Ended.{Ended, calls}
@@ -20,32 +20,49 @@ use Rattle.fx_app.proofs.StepsLemmas.{no_call, untouched}
 use Rattle.fx_app.proofs.ReelLemmas.{alone_many, plain_of}
 
 -- the job that is checked
-abbrev pub check_job : (library : Files) (order : Ordered) (file : FileShown) (a b count : ℕ)
+abbrev check_job : (library : Files) (order : Ordered) (file : FileShown) (a b count : ℕ)
     → graph_under library order.graph ≡ Some (Ok file) → takes_for order.mode file.takes ≡ []
-    → a ≡ first_of file.graph order → b ≡ last_of file.graph order → WantsAsMany (plain_reel file.graph a b) count → Job (Some order) library
+    → a ≡ first_of file.graph order → b ≡ last_of file.graph order → WantsAsMany (plain_reel order.scale (ordered_file order file).graph a b) count → Job (Some order) library
 check_job library order file a b count there none first last wants =
     record {
       order = order;
       ordered = refl;
       file = file;
       there = there;
-      reel = plain_reel file.graph a b;
+      reel = plain_reel order.scale (ordered_file order file).graph a b;
       is = plain_of order file none a b first last;
       uses = wants.0;
       are = wants.1;
     }
 
 -- its report
-pub check_is : (library : Files) (order : Ordered) (file : FileShown) (a b nodes frames count : ℕ)
+check_is : (library : Files) (order : Ordered) (file : FileShown) (a b nodes frames count : ℕ)
     → (there : graph_under library order.graph ≡ Some (Ok file)) → (none : takes_for order.mode file.takes ≡ [])
     → (first : a ≡ first_of file.graph order) → (last : b ≡ last_of file.graph order)
-    → (wants : WantsAsMany (plain_reel file.graph a b) count) → nodes ≡ length file.graph.nodes → frames ≡ frame_count a b
+    → (wants : WantsAsMany (plain_reel order.scale (ordered_file order file).graph a b) count) → nodes ≡ length (ordered_file order file).graph.nodes → frames ≡ frame_count a b
     → check_text nodes frames count ≡ check_report (check_job library order file a b count there none first last wants)
 check_is library order file a b nodes frames count there none first last wants are many =
-    let moments : frames ≡ moments_in (plain_reel file.graph a b) = many ∙ sym (alone_many file.graph a (frame_count a b)) in
+    let h = (ordered_file order file).graph in
+    let reel = plain_reel order.scale h a b in
+    let moments : frames ≡ moments_in reel = many ∙ sym (alone_many order.scale h a (frame_count a b)) in
     ap (λ n. check_text n frames count) are
-    ∙ ap (λ n. check_text (length file.graph.nodes) n count) moments
-    ∙ ap (λ n. check_text (length file.graph.nodes) (moments_in (plain_reel file.graph a b)) n) wants.2
+    ∙ ap (λ n. check_text (length h.nodes) n count) moments
+    ∙ ap (λ n. check_text (length h.nodes) (moments_in reel) n) wants.2
+
+-- both, of the graph that was counted
+pub checked : (library : Files) (order : Ordered) (file : FileShown) (g : Graph) (a b nodes frames count : ℕ)
+    → graph_under library order.graph ≡ Some (Ok file) → takes_for order.mode file.takes ≡ [] → g ≡ (ordered_file order file).graph
+    → a ≡ first_of g order → b ≡ last_of g order → WantsAsMany (plain_reel order.scale g a b) count → nodes ≡ length g.nodes
+    → frames ≡ frame_count a b → (job : Job (Some order) library) × (check_text nodes frames count ≡ check_report job)
+checked library order file g a b nodes frames count there none same first last wants are many =
+    let from : a ≡ first_of file.graph order = first ∙ ap (λ (s : Graph). first_of s order) same in
+    let to : b ≡ last_of file.graph order = last ∙ ap (λ (s : Graph). last_of s order) same in
+    let wanted : WantsAsMany (plain_reel order.scale (ordered_file order file).graph a b) count =
+    subst (λ (s : Graph). WantsAsMany (plain_reel order.scale s a b) count) same wants in (
+      check_job library order file a b count there none from to wanted,
+      check_is library order file a b nodes frames count there none from to wanted
+          (are ∙ ap (λ (s : Graph). length s.nodes) same) many,
+    )
 
 module _ {l o : Type 0} (order : Ordered) (library depot : Files) (p : ℕ) (q : List ℕ) where
   pub graph_ended : (a b : ℕ) (x y : List ℕ) (w : ℕ) (out : List ℕ) (e : GraphFailure) → (l → GraphCause library order.graph e)

@@ -21,7 +21,7 @@ use Rattle.fx_tile.specs.Seats.{AreAll}
 use Rattle.fx_words.specs.Ordered.{Ordered}
 use Rattle.fx_words.specs.Texts.{report_text}
 use Rattle.fx_words.specs.declared.order.Mode.{Mode}
-use Rattle.fx_words.specs.declared.order.Mode.TheVariants.{Render, Check, Bench, Migrate, Takes}
+use Rattle.fx_words.specs.declared.order.Mode.TheVariants.{Render, Check, Bench, Migrate, Takes, Plan}
 use Rattle.fx_app.specs.declared.crew.Crew.{Crew}
 use Rattle.fx_app.specs.Crews.{KeepsCrew}
 use Rattle.fx_app.specs.Graphs.{FileShown, graph_under, first_of, last_of, frame_count}
@@ -162,6 +162,7 @@ report_as mode takes takes' frames frames' e c same_takes same_frames tiles v p 
     by Bench = ap (λ k. lines_for Bench takes frames k c.landed c.hits) counts
     by Migrate = ap (λ k. lines_for Migrate takes frames k c.landed c.hits) counts
     by Takes = ap (λ k. lines_for Takes takes frames k c.landed c.hits) counts
+    by Plan = ap (λ k. lines_for Plan takes frames k c.landed c.hits) counts
 
 pub render_is : {tells : Type 0} (order : Ordered) (library old new : Files) (file : FileShown) (takes frames : ℕ) (count : TileCount)
     → graph_under library order.graph ≡ Some (Ok file) → takes ≡ length (takes_for order.mode file.takes) + 1

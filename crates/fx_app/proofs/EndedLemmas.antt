@@ -4,7 +4,7 @@ use Rattle.std.proofs.lemmas.Result.{IfErr-weaker}
 use Rattle.fx_outside.specs.Outside.{Files}
 use Rattle.fx_words.specs.Ordered.{Ordered}
 use Rattle.fx_words.specs.declared.order.Mode.{Mode}
-use Rattle.fx_words.specs.declared.order.Mode.TheVariants.{Render, Check, Bench, Migrate, Takes}
+use Rattle.fx_words.specs.declared.order.Mode.TheVariants.{Render, Check, Bench, Migrate, Takes, Plan}
 use Rattle.fx_words.specs.declared.fault.RunFault.{RunFault}
 use Rattle.fx_words.specs.declared.fault.RunFault.TheVariants as run
 use Rattle.fx_app.specs.Words.{mode_in}
@@ -55,15 +55,15 @@ module _ (l d o : Type 0) (library : Files) (fetches puts : Calls) (writes : ℕ
   files_ended result asked order mode is at (inr takes) ended =
       ended_in result asked order Takes is (at ∙ takes) (as_takes result (Some order) ended)
 
--- a check puts nothing, whatever the depot tells
+-- a check puts nothing, nor does a plan, whatever the depot tells
 module _ (l d o : Type 0) (asked : Option Ordered) (library : Files) (fetches puts : Calls) (writes : ℕ × ℕ) (files : Files × Files)
     (texts : List ℕ × List ℕ) where
-  pub any_depot : {A : Type 0} (result : Result A RunFault)
-      → IfErr result (λ e. Ended (Some Check) l (Unit {0}) o asked library fetches puts writes files texts e)
-      → IfErr result (λ e. Ended (Some Check) l d o asked library fetches puts writes files texts e)
-  any_depot result ended =
-      IfErr-weaker result (λ e. Ended (Some Check) l (Unit {0}) o asked library fetches puts writes files texts e)
-      (λ e. Ended (Some Check) l d o asked library fetches puts writes files texts e)
+  pub any_depot : {A : Type 0} (m : Mode) (result : Result A RunFault)
+      → IfErr result (λ e. Ended (Some m) l (Unit {0}) o asked library fetches puts writes files texts e)
+      → IfErr result (λ e. Ended (Some m) l d o asked library fetches puts writes files texts e)
+  any_depot m result ended =
+      IfErr-weaker result (λ e. Ended (Some m) l (Unit {0}) o asked library fetches puts writes files texts e)
+      (λ e. Ended (Some m) l d o asked library fetches puts writes files texts e)
       (λ e h.
       record {
         moment = h.moment;
@@ -111,6 +111,7 @@ memory_cause (Some Check) tells asked library = tt
 memory_cause (Some Bench) tells asked library = tt
 memory_cause (Some Migrate) tells asked library = tt
 memory_cause (Some Takes) tells asked library = λ told. tt
+memory_cause (Some Plan) tells asked library = λ told. tt
 
 memory_leaves : (m : Option Mode) (asked : Option Ordered) (library old : Files) → LeavesIn m asked library 0 run.Memory old old
 memory_leaves None asked library old = inl (untouched old)
@@ -119,6 +120,7 @@ memory_leaves (Some Check) asked library old = untouched old
 memory_leaves (Some Bench) asked library old = untouched old
 memory_leaves (Some Migrate) asked library old = inl (untouched old)
 memory_leaves (Some Takes) asked library old = inl (untouched old)
+memory_leaves (Some Plan) asked library old = untouched old
 
 memory_report : (m : Option Mode) (tells : Type 0) (asked : Option Ordered) (library : Files) (old : List ℕ)
     → LeavesReportIn m tells asked library run.Memory old old
@@ -128,6 +130,7 @@ memory_report (Some Check) tells asked library old = refl
 memory_report (Some Bench) tells asked library old = refl
 memory_report (Some Migrate) tells asked library old = refl
 memory_report (Some Takes) tells asked library old = (refl, λ told. tt)
+memory_report (Some Plan) tells asked library old = refl
 
 -- nothing was read, put or written
 pub words_ended : {l d o : Type 0} (asked : Option Ordered) (library : Files) (a p : ℕ) (x q : List ℕ) (w : ℕ) (files : Files) (text : List ℕ)

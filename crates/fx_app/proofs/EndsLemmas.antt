@@ -25,9 +25,8 @@ use Rattle.fx_scene.specs.Depends as scene
 use Rattle.fx_scene.specs.Holds.{PicturesStay}
 use Rattle.fx_scene.specs.Scenes.{Images, no_images}
 use Rattle.fx_scene.specs.Right.{HasGrown}
-use Rattle.fx_scene.proofs.StoreLemmas.{shown_images}
-use Rattle.fx_seq.specs.Lists.{ArePictures, frames_in}
-use Rattle.fx_seq.proofs.LookLemmas.{frames_sound}
+use Rattle.fx_proxy.specs.Reduced.{IsScale}
+use Rattle.fx_seq.specs.Lists.{ArePictures}
 use Rattle.fx_shipped.specs.Shipped.{meaning_of}
 use Rattle.fx_seq.specs.declared.used.Use.{Use}
 use Rattle.fx_tile.specs.declared.count.TileCount.{TileCount}
@@ -37,7 +36,7 @@ use Rattle.fx_words.specs.declared.fault.FrameFault.{FrameFault}
 use Rattle.fx_words.specs.declared.fault.RunFault.{RunFault}
 use Rattle.fx_words.specs.declared.fault.RunFault.TheVariants as run
 use Rattle.fx_app.specs.Ended.{Calls, calls}
-use Rattle.fx_app.specs.Reels.{IsReelOf, Reel, file_name, moments_in}
+use Rattle.fx_app.specs.Reels.{IsReelOf, Reel, file_name, moments_in, scaled_in}
 use Rattle.fx_app.specs.Files.{AreAccepted, AreImages, AreUsesOf, HasGained}
 use Rattle.fx_app.specs.Graphs.{FileShown, Graph, graph_under}
 use Rattle.fx_app.specs.Moments.{HasRendered, IsMomentFile, Stops, images_of}
@@ -47,7 +46,8 @@ use Rattle.fx_app.specs.Tiles.{HasCounted}
 use Rattle.fx_app.specs.Turns.{IsEndFault, IsFinished, QuietAtPut}
 use Rattle.fx_app.proofs.CountLemmas.{counted_none}
 use Rattle.fx_app.proofs.GrownLemmas.{Serves, images_grow, made_gains}
-use Rattle.fx_app.proofs.ReadLemmas.{all_due, has_wanted, images_read, uses_are_once}
+use Rattle.fx_app.proofs.ReadLemmas.{all_due, has_wanted, images_read, small_wanted, uses_are_once}
+use Rattle.fx_app.proofs.ScaledLemmas.{small_grow, small_images}
 
 -- ---- what was made of some first moments
 
@@ -93,7 +93,7 @@ module _ (reads puts : Type 0) (order : Ordered) (file : FileShown) (r : Reel) (
     (stay : PicturesStay meaning_of r.graph r.edits) (p : Schedule) (start new : State)
     (there : reads → graph_under start.read_files order.graph ≡ Some (Ok file))
     (few : p.moments ≡ moments_in r) (limit : p.limit ≡ 2147483648) (side : p.most_side ≡ MOST_SIDE)
-    (are : AreUsesOf r p.uses.now) (none_seen : start.seen ≡ []) where
+    (are : AreUsesOf r p.uses.now) (none_seen : start.seen ≡ []) (scale : IsScale order.scale) where
   abbrev uses : List Use
   uses = p.uses.now
 
@@ -128,22 +128,26 @@ module _ (reads puts : Type 0) (order : Ordered) (file : FileShown) (r : Reel) (
       (subst (λ (s : ℕ). ArePictures start.read_files s (due_until uses (length fs)) (all_of fs)) side
       (pictures_read reads start.read_files p told once fs read))
 
-  sound : (frames : List SourceFrame) → scene.AreImages (images_of frames)
-  sound frames = shown_images (frames_in frames) (frames_sound frames)
+  -- at the size that is rendered
+  abbrev small : List SourceFrame → Images
+  small frames = scaled_in r (images_of frames)
+
+  sound : (frames : List SourceFrame) → scene.AreImages (small frames)
+  sound frames = small_images r.scale (subst IsScale (sym of_order.scale) scale) frames
 
   -- the files that were made of some first moments, over the frames that these are the first to want
   gained : (fs : List (List SourceFrame)) (ds : List Made) (mid : Files) → length fs ≤ p.moments → AreRead reads start.read_files p [] 0 fs
       → AreMade (IsMomentFile r) start.seen 0 fs ds
-      → HasGained r (images_of (all_of fs)) (length ds) mid (with_all ds mid)
+      → HasGained r (small (all_of fs)) (length ds) mid (with_all ds mid)
   gained fs ds mid low read made =
       let at : length {A = List SourceFrame} [] + length ds ≡ length ds = omega arith in
-      subst (λ (n : ℕ). HasGained r (images_of (all_of fs)) n mid (with_all ds mid)) at
-      (made_gains r stay (images_of (all_of fs)) (sound (all_of fs)) [] fs ds mid mid
+      subst (λ (n : ℕ). HasGained r (small (all_of fs)) n mid (with_all ds mid)) at
+      (made_gains r stay (small (all_of fs)) (sound (all_of fs)) [] fs ds mid mid
       (subst (λ (xs : List SourceFrame). AreMade (IsMomentFile r) xs 0 fs ds) none_seen made)
       serves (λ name. refl))
     where
       serves : (ps : List (List SourceFrame)) (f : List SourceFrame) (rest : List (List SourceFrame)) → [] ++ fs ≡ ps ++ f ∷ rest
-          → Serves r stay (images_of (all_of fs)) (sound (all_of fs)) (all_of ps ++ f) (length ps)
+          → Serves r stay (small (all_of fs)) (sound (all_of fs)) (all_of ps ++ f) (length ps)
       serves ps f rest split =
           let front : fs ≡ (ps ++ f ∷ []) ++ rest = split ∙ sym (append_assoc ps (f ∷ []) rest) in
           let all : all_of (ps ++ f ∷ []) ≡ all_of ps ++ f = all-append ps (f ∷ []) ∙ ap (λ xs. all_of ps ++ xs) (append-nil f) in
@@ -159,9 +163,13 @@ module _ (reads puts : Type 0) (order : Ordered) (file : FileShown) (r : Reel) (
           ap all_of front ∙ all-append (ps ++ f ∷ []) rest ∙ ap (λ xs. xs ++ all_of rest) all in
           record {
             are = sound (all_of ps ++ f);
-            grown = subst (λ (xs : List SourceFrame). Grown (all_of ps ++ f) xs) (sym whole) (images_grow (all_of ps ++ f) (all_of rest));
-            has = has_wanted r uses are (length (ps ++ f ∷ [])) (all_of ps ++ f) frames (length ps)
-                (omega (arith, few, long, total, low)) (omega (arith, long));
+            grown =
+                small_grow r.scale (images_of (all_of ps ++ f)) (images_of (all_of fs))
+                (subst (λ (xs : List SourceFrame). Grown (all_of ps ++ f) xs) (sym whole) (images_grow (all_of ps ++ f) (all_of rest)));
+            has =
+                small_wanted r (length ps) (images_of (all_of ps ++ f))
+                (has_wanted r uses are (length (ps ++ f ∷ [])) (all_of ps ++ f) frames (length ps)
+                (omega (arith, few, long, total, low)) (omega (arith, long)));
           }
         where
           Grown : List SourceFrame → List SourceFrame → Type 0
@@ -187,7 +195,7 @@ module _ (reads puts : Type 0) (order : Ordered) (file : FileShown) (r : Reel) (
         accepted = subst (λ (n : ℕ). AreAccepted start.read_files uses n) m.long (accepted told m.some first);
         images = images_of (all_of m.some);
         are = subst (λ (n : ℕ). AreImages start.read_files (due_until uses n) (images_of (all_of m.some))) m.long (shown told m.some first);
-        gained = over (images_of (all_of m.some)) (length ds) start.put_files (with_all ds start.put_files) new.put_files
+        gained = over (small (all_of m.some)) (length ds) start.put_files (with_all ds start.put_files) new.put_files
             (gained m.some ds start.put_files (omega (arith, total, low)) first m.are) same;
       }
 
@@ -208,7 +216,7 @@ module _ (reads puts : Type 0) (order : Ordered) (file : FileShown) (r : Reel) (
 
     -- what is counted over the frames that were seen is counted over those that were read
     pub rendered : (count : TileCount) → reads
-        → HasCounted r (images_of new.seen) order.tile order.cache new.next count
+        → HasCounted r (small new.seen) order.tile order.cache new.next count
         → HasRendered puts (Some order) start.read_files start.put_files new.put_files count
     rendered count told counted =
         let read = is.past.sees.read in
@@ -221,11 +229,12 @@ module _ (reads puts : Type 0) (order : Ordered) (file : FileShown) (r : Reel) (
           images = all;
           are = all_due start.read_files r uses are all
               (subst (λ (n : ℕ). AreImages start.read_files (due_until uses n) all) (every ∙ few) (shown told is.handed read));
-          gained = λ written. subst (λ (n : ℕ). HasGained r all n start.put_files new.put_files) (made_all ∙ few)
-              (over all (length is.made) start.put_files (with_all is.made start.put_files) new.put_files
+          size = scale;
+          gained = λ written. subst (λ (n : ℕ). HasGained r (small (all_of is.handed)) n start.put_files new.put_files) (made_all ∙ few)
+              (over (small (all_of is.handed)) (length is.made) start.put_files (with_all is.made start.put_files) new.put_files
               (gained is.handed is.made start.put_files (is.past.sees.few) read is.past.made_right) (is.past.put written));
-          counted = subst (λ (n : ℕ). HasCounted r all order.tile order.cache n count) (is.past.next ∙ every ∙ few)
-              (subst (λ (xs : List SourceFrame). HasCounted r (images_of xs) order.tile order.cache new.next count) seen counted);
+          counted = subst (λ (n : ℕ). HasCounted r (small (all_of is.handed)) order.tile order.cache n count) (is.past.next ∙ every ∙ few)
+              (subst (λ (xs : List SourceFrame). HasCounted r (small xs) order.tile order.cache new.next count) seen counted);
         }
 
   -- ---- where the moments end early
@@ -443,7 +452,7 @@ module _ (reads puts : Type 0) (order : Ordered) (file : FileShown) (r : Reel) (
 
   pub well : (end : PipeEnd) (sum : TileCount) (result : Result TileCount RunFault) → Ended reads puts (IsMomentFile r) p start new end
       → IsFinished r.graph end sum result → reads
-      → (end ≡ pipe.Done → HasCounted r (images_of new.seen) order.tile order.cache new.next sum)
+      → (end ≡ pipe.Done → HasCounted r (small new.seen) order.tile order.cache new.next sum)
       → IfOk result (HasRendered puts (Some order) start.read_files start.put_files new.put_files)
   well end sum (Ok count) ended finished told counted =
       subst (HasRendered puts (Some order) start.read_files start.put_files new.put_files) (sym finished.1)
@@ -491,9 +500,9 @@ stops_at_once reads puts asked library files a b x y =
 
 -- there are no moments
 pub renders_none : (puts : Type 0) (order : Ordered) (file : FileShown) (library files : Files) (r : Reel) (uses : List Use)
-    → graph_under library order.graph ≡ Some (Ok file) → IsReelOf order file r → AreUsesOf r uses → moments_in r ≡ 0
+    → graph_under library order.graph ≡ Some (Ok file) → IsReelOf order file r → AreUsesOf r uses → IsScale order.scale → moments_in r ≡ 0
     → HasRendered puts (Some order) library files files no_count
-renders_none puts order file library files r uses there is are none =
+renders_none puts order file library files r uses there is are scale none =
     let nothing : AreImages library (due_until uses 0) no_images =
     record { each = λ w at. absurd (omega (arith, at.1)); only = λ m f lists. refl } in
     record {
@@ -513,6 +522,7 @@ renders_none puts order file library files r uses there is are none =
       images = no_images;
       are = all_due library r uses are no_images
           (subst (λ (k : ℕ). AreImages library (due_until uses k) no_images) (sym none) nothing);
-      gained = λ written. subst (λ (k : ℕ). HasGained r no_images k files files) (sym none) (λ name. refl);
-      counted = counted_none r no_images order.tile order.cache (moments_in r) none;
+      size = scale;
+      gained = λ written. subst (λ (k : ℕ). HasGained r (scaled_in r no_images) k files files) (sym none) (λ name. refl);
+      counted = counted_none r (scaled_in r no_images) order.tile order.cache (moments_in r) none;
     }

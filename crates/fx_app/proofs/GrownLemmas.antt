@@ -21,12 +21,12 @@ use Rattle.fx_pipe.specs.Moments.{AreMade, all_of, with_all}
 use Rattle.fx_pipe.proofs.MomentLemmas.{all-one}
 use Rattle.fx_region.specs.Counts.{is_asked, is_passed, is_void, window_ends, window_tiles}
 use Rattle.fx_region.specs.Ends.{EndShown, Frame, Render, Void, end_of}
-use Rattle.fx_region.specs.Held.{EndIn, EndsReached, EndsStay}
+use Rattle.fx_region.specs.Held.{EndIn, EndsReached}
 use Rattle.fx_scene.specs.Depends as scene
 use Rattle.fx_scene.specs.Holds.{PicturesStay}
 use Rattle.fx_scene.specs.Nodes.{Nodes}
 use Rattle.fx_scene.specs.Reach.{IsClosed, IsReached, NodeFrames}
-use Rattle.fx_scene.specs.Right.{HasGrown, HasWanted}
+use Rattle.fx_scene.specs.Right.{HasGrown}
 use Rattle.fx_scene.specs.Scenes.{Images, graph_nodes, no_images}
 use Rattle.fx_shipped.specs.Shipped.{meaning_of}
 use Rattle.fx_tile.specs.declared.count.TileCount.{TileCount}
@@ -34,9 +34,10 @@ use Rattle.fx_tile.specs.Moments.{CountsTiles, renders_for}
 use Rattle.fx_tile.specs.Setups.{end_renders}
 use Rattle.fx_app.specs.Files.{HasGained, with_file, with_moments}
 use Rattle.fx_app.specs.Graphs.{Graph}
+use Rattle.fx_plan.specs.Agree.{SameEnds}
 use Rattle.fx_app.specs.Making.{EndsHold}
 use Rattle.fx_app.specs.Moments.{IsMomentFile, images_of}
-use Rattle.fx_app.specs.Reels.{Reel, file_name, file_text, frame_in, graph_in, picture_text, take_in}
+use Rattle.fx_app.specs.Reels.{Reel, file_name, file_text, frame_in, graph_in, picture_text, scaled_in, take_in}
 use Rattle.fx_app.specs.Tiles.{HasCounted, ends_in, moment_ends, moment_renders, nodes_in, renders_in}
 use Rattle.fx_app.proofs.ReadLemmas.{WantsIn}
 
@@ -95,7 +96,7 @@ sum_same f h a (suc n) each =
 
 -- ---- one frame of a graph
 
-module _ (g : Graph) (stay : EndsStay meaning_of g) (lead : EndsReached meaning_of g) where
+module _ (g : Graph) (lead : EndsReached meaning_of g) where
   abbrev over : Images → Nodes
   over images = graph_nodes meaning_of g images
 
@@ -106,20 +107,18 @@ module _ (g : Graph) (stay : EndsStay meaning_of g) (lead : EndsReached meaning_
   itself : (t : ℤ) → IsReached (over no_images) g.output t t g.output t
   itself t s closed = closed.start t (omega (arith, ints)) (omega (arith, ints))
 
-  module _ (old new : Images) (is_old : scene.AreImages old) (is_new : scene.AreImages new) (grown : HasGrown old new) (side : ℕ) (t : ℤ)
-      (has : HasWanted meaning_of g old g.output t) where
+  module _ (old new : Images) (is_new : scene.AreImages new) (side : ℕ) (t : ℤ) (same : SameEnds meaning_of g t old new) where
     ends_same : window_ends (over old) g.output side g.project t ≡ window_ends (over new) g.output side g.project t
     ends_same =
         ap (λ (e : Bounds → EndShown). map e (tiles side))
-        (fun_ext (λ r. (stay old new t is_old is_new grown has g.output t r (itself t)).0))
+        (fun_ext (λ r. (same g.output t r (itself t)).0))
 
     renders_at : (e : EndShown) → ((s : NodeFrames) → IsClosed (over no_images) g.output t t s → EndIn s e)
         → end_renders (over old) side e ≡ end_renders (over new) side e
     renders_at Void lies = refl
     renders_at (Frame node frame region through) lies = refl
     renders_at (Render node frame region cut through) lies =
-        ap (λ needs. count_by (λ n. is_asked n.end) needs)
-        ((stay old new t is_old is_new grown has node frame region lies).1 side)
+        ap (λ needs. count_by (λ n. is_asked n.end) needs) ((same node frame region lies).1 side)
 
     renders_same :
         let some = window_ends (over old) g.output side g.project t in
@@ -137,12 +136,14 @@ module _ (r : Reel) (n : ℕ) (hold : EndsHold r n) (old new : Images) (is_old :
   ends_at : (j : ℕ) → j < n → moment_ends r old side j ≡ moment_ends r new side j
   ends_at j low =
       let h = hold j low in
-      ends_same (graph_in r j) h.0 h.1 old new is_old is_new grown side (pos (frame_in r j)) (has j low)
+      let t = pos (frame_in r j) in
+      ends_same (graph_in r j) h.1 old new is_new side t (h.0 old new t is_old is_new grown (has j low))
 
   renders_of : (j : ℕ) → j < n → moment_renders r old side j ≡ moment_renders r new side j
   renders_of j low =
       let h = hold j low in
-      renders_same (graph_in r j) h.0 h.1 old new is_old is_new grown side (pos (frame_in r j)) (has j low)
+      let t = pos (frame_in r j) in
+      renders_same (graph_in r j) h.1 old new is_new side t (h.0 old new t is_old is_new grown (has j low))
 
   from_first : (P : ℕ → Type 0) → ((j : ℕ) → j < n → P j) → (j : ℕ) → j < n → P (0 + j)
   from_first P each j low =
@@ -171,13 +172,13 @@ module _ (r : Reel) (n : ℕ) (hold : EndsHold r n) (old new : Images) (is_old :
         none_kept = λ none. let all = counted.none_kept none in let same = all_renders in omega (arith, all, same);
       }
 
--- what one moment's tiles came to over the frames that are held they come to over more
-pub tiles_grown : (r : Reel) (j : ℕ) → EndsStay meaning_of (graph_in r j) → EndsReached meaning_of (graph_in r j) → (old new : Images)
-    → scene.AreImages old → scene.AreImages new → HasGrown old new → (side : ℕ) → WantsIn r j old → (count : TileCount)
+-- what one moment's tiles came to over some images they come to over others
+pub tiles_same : (r : Reel) (j : ℕ) → EndsReached meaning_of (graph_in r j) → (old new : Images) → scene.AreImages new
+    → SameEnds meaning_of (graph_in r j) (pos (frame_in r j)) old new → (side : ℕ) (count : TileCount)
     → CountsTiles (nodes_in r old j) side (moment_ends r old side j) count → CountsTiles (nodes_in r new j) side (moment_ends r new side j) count
-tiles_grown r j stay lead old new is_old is_new grown side has count tiles =
-    let ends = ends_same (graph_in r j) stay lead old new is_old is_new grown side (pos (frame_in r j)) has in
-    let renders = renders_same (graph_in r j) stay lead old new is_old is_new grown side (pos (frame_in r j)) has in
+tiles_same r j lead old new is_new same side count tiles =
+    let ends = ends_same (graph_in r j) lead old new is_new side (pos (frame_in r j)) same in
+    let renders = renders_same (graph_in r j) lead old new is_new side (pos (frame_in r j)) same in
     record {
       void_tiles = tiles.void_tiles ∙ ap (count_by is_void) ends;
       passed = tiles.passed ∙ ap (count_by is_passed) ends;
@@ -189,16 +190,16 @@ tiles_grown r j stay lead old new is_old is_new grown side has count tiles =
 -- ---- files
 
 module _ (r : Reel) (stay : PicturesStay meaning_of r.graph r.edits) (all : Images) (is_all : scene.AreImages all) where
-  -- the images of these frames have what moment j wants, and all have them too
+  -- the images of these frames, at the reel's size, have what moment j wants, and all have them too
   pub record Serves (seen : List SourceFrame) (j : ℕ) : Type 0 where
-    pub are : scene.AreImages (images_of seen)
-    pub grown : HasGrown (images_of seen) all
-    pub has : WantsIn r j (images_of seen)
+    pub are : scene.AreImages (scaled_in r (images_of seen))
+    pub grown : HasGrown (scaled_in r (images_of seen)) all
+    pub has : WantsIn r j (scaled_in r (images_of seen))
 
-  text_stays : (seen : List SourceFrame) (j : ℕ) → Serves seen j → file_text r (images_of seen) j ≡ file_text r all j
+  text_stays : (seen : List SourceFrame) (j : ℕ) → Serves seen j → file_text r (scaled_in r (images_of seen)) j ≡ file_text r all j
   unfolding picture_text
   text_stays seen j serves =
-      ap (pam_text r.graph.format) (stay (images_of seen) all (take_in r j) (pos (frame_in r j)) serves.are is_all serves.grown serves.has)
+      ap (pam_text r.graph.format) (stay (scaled_in r (images_of seen)) all (take_in r j) (pos (frame_in r j)) serves.are is_all serves.grown serves.has)
 
   -- one file more
   file_more : (m : ℕ) (seen : List SourceFrame) (d : Made) (old mid : Files) → IsMomentFile r seen m d → Serves seen m

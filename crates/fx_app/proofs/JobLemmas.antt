@@ -3,11 +3,13 @@ use Rattle.std.proofs.Common.{◌≡◌, ◌+◌, ◌*◌, map, length, Some, Re
 use Rattle.std.proofs.lemmas.List.{length-map}
 use Rattle.std.proofs.lemmas.Option.{same_Some}
 use Rattle.fx_outside.specs.Outside.{Files}
+use Rattle.fx_proxy.specs.Scaled.{scaled_take}
+use Rattle.fx_shipped.specs.Shipped.{number_of}
 use Rattle.fx_takes.specs.Shown.{TakeShown, edit_shown}
 use Rattle.fx_text.specs.Fault.{Fault}
 use Rattle.fx_words.specs.Ordered.{Ordered}
 use Rattle.fx_app.specs.Graphs.{FileShown, first_of, frame_count, graph_under, last_of}
-use Rattle.fx_app.specs.Reels.{IsReelOf, Reel, moments_in, takes_for, takes_in}
+use Rattle.fx_app.specs.Reels.{IsReelOf, Reel, moments_in, ordered_file, takes_for, takes_in}
 use Rattle.fx_app.specs.Run.{Job}
 
 pub one_file : (f h : FileShown) (a : Option (Result FileShown Fault)) → a ≡ Some (Ok f) → a ≡ Some (Ok h) → f ≡ h
@@ -19,11 +21,13 @@ module _ (order : Ordered) (file : FileShown) (r : Reel) (is : IsReelOf order fi
   -- as many takes as are ordered, and the graph as it is written
   pub takes_counted : takes_in r ≡ length (takes_for order.mode file.takes) + 1
   takes_counted =
+      let small = (ordered_file order file).takes in
       let shown : length (map (map edit_shown) r.edits) ≡ length r.edits = length-map r.edits (map edit_shown) in
-      let same : length (map (map edit_shown) r.edits) ≡ length (map (λ (t : TakeShown). t.edits) (takes_for order.mode file.takes)) = ap length is.edits in
-      let listed : length (map (λ (t : TakeShown). t.edits) (takes_for order.mode file.takes)) ≡ length (takes_for order.mode file.takes) =
-      length-map (takes_for order.mode file.takes) (λ t. t.edits) in
-      omega (arith, shown, same, listed)
+      let same : length (map (map edit_shown) r.edits) ≡ length (map (λ (t : TakeShown). t.edits) small) = ap length is.edits in
+      let listed : length (map (λ (t : TakeShown). t.edits) small) ≡ length small = length-map small (λ t. t.edits) in
+      let scaled : length small ≡ length (takes_for order.mode file.takes) =
+      length-map (takes_for order.mode file.takes) (scaled_take number_of order.scale file.graph.nodes) in
+      omega (arith, shown, same, listed, scaled)
 
   pub moments_counted :
       moments_in r ≡ frame_count (first_of file.graph order) (last_of file.graph order) * (length (takes_for order.mode file.takes) + 1)

@@ -1,6 +1,7 @@
 pub mod WordLemmas
 pub mod GraphLemmas
 pub mod TakeLemmas
+pub mod ScaledLemmas
 pub mod ReadLemmas
 pub mod UsesLemmas
 pub mod JobLemmas
@@ -18,6 +19,9 @@ pub mod CheckLemmas
 pub mod GrownLemmas
 pub mod EndsLemmas
 pub mod MakingLemmas
+pub mod SourceLemmas
+pub mod PlanningLemmas
+pub mod PlanLemmas
 pub mod TurnLemmas
 pub mod RoundLemmas
 pub mod StartLemmas

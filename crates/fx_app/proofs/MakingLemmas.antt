@@ -1,7 +1,9 @@
 -- From one moment to the next.
 use Rattle.std.proofs.Common.{◌≡◌, ◌≤◌, ◌<◌, ◌+◌, ◌*◌, ◌-◌, ℕ, suc, pos, List, [], ◌∷◌, ◌++◌, length, Some, refl, sym, ap, subst, ◌∙◌, arith, inl, inr}
 use Rattle.std.proofs.Math.Nat.{mul-le-mul_left, mul-le-mul_right, suc-mul}
+use Rattle.std.specs.List.{AllZip}
 use Rattle.std.proofs.lemmas.Bool.{cases_lt}
+use Rattle.std.proofs.lemmas.Int.{ints}
 use Rattle.std.proofs.lemmas.Nat.{div-mul-add, mod-mul-add}
 use Rattle.fx_base.specs.Pattern.{name_of}
 use Rattle.fx_base.specs.declared.limits.TheConstants.{LAST_FRAME}
@@ -13,18 +15,18 @@ use Rattle.fx_text.specs.declared.raw.TheConstants.{MOST_TAKES}
 use Rattle.fx_seq.specs.declared.source.SourceFrame.{SourceFrame}
 use Rattle.fx_seq.specs.declared.store.Store.{Store}
 use Rattle.fx_seq.specs.declared.used.Use.{Use}
-use Rattle.fx_seq.specs.Held.{HasRead, got_frames}
-use Rattle.fx_seq.specs.Lists.{frames_in}
-use Rattle.fx_seq.proofs.LookLemmas.{frames_sound}
+use Rattle.fx_seq.specs.Held.{got_frames}
 use Rattle.fx_scene.specs.Depends as scene
 use Rattle.fx_scene.specs.Holds.{PicturesStay}
 use Rattle.fx_scene.specs.Right.{HasGrown, HasWanted}
-use Rattle.fx_scene.specs.Scenes.{Script, Shot, fetched_in, graph_nodes, images_in}
+use Rattle.fx_proxy.specs.Proxy.{IsScaledFrame, scaled_images}
+use Rattle.fx_proxy.specs.Reduced.{IsScale}
+use Rattle.fx_scene.specs.Scenes.{Images, Script, Shot, fetched_in, graph_nodes, images_in}
 use Rattle.fx_scene.specs.Scripts.{HasGrownTo, taken}
 use Rattle.fx_scene.specs.Takes.{edits_after, graph_of_take}
 use Rattle.fx_scene.specs.declared.take.Take.{Take}
 use Rattle.fx_scene.proofs.TakeLemmas.{nodes_long}
-use Rattle.fx_scene.proofs.StoreLemmas.{held_fetched, shown_images, store_images}
+use Rattle.fx_scene.proofs.StoreLemmas.{fetched_images, held_fetched, store_images}
 use Rattle.fx_shipped.specs.declared.shipped.Shipped.{Shipped}
 use Rattle.fx_shipped.specs.Shipped.{meaning_of}
 use Rattle.fx_tile.specs.declared.count.TileCount.{TileCount}
@@ -34,29 +36,41 @@ use Rattle.fx_app.specs.declared.crew.Crew.{Crew}
 use Rattle.fx_app.specs.declared.making.Making.{Making}
 use Rattle.fx_app.specs.Crews.{IsRenewed, KnewScene}
 use Rattle.fx_app.specs.Graphs.{Graph}
-use Rattle.fx_app.specs.Making.{AreTakesFrom, CountsFrame, EndsHold, HasDrawn, IsAt, IsMaking, IsPlan, MayMake, Plan, pattern_in, seen_by}
+use Rattle.fx_plan.specs.Agree.{EndsAgree}
+use Rattle.fx_app.specs.Making.{AreTakesFrom, CountsFrame, EndsHold, HasDrawn, HoldsScaled, IsAt, IsMaking, IsPlan, MayMake, Plan, pattern_in, seen_by}
 use Rattle.fx_app.specs.Moments.{images_of}
-use Rattle.fx_app.specs.Reels.{Reel, file_name, file_text, frame_in, graph_in, moments_in, pattern_at, picture_text, take_in, takes_in}
+use Rattle.fx_app.specs.Reels.{Reel, file_name, file_text, frame_in, graph_in, moments_in, pattern_at, picture_text, scaled_in, take_in, takes_in}
 use Rattle.fx_app.specs.Tiles.{HasCounted, moment_ends, nodes_in}
 use Rattle.fx_app.proofs.CountLemmas.{counted_more}
-use Rattle.fx_app.proofs.GrownLemmas.{counted_grown, images_grow, tiles_grown}
-use Rattle.fx_app.proofs.ReadLemmas.{WantsIn, has_wanted, holds_wanted}
+use Rattle.fx_app.proofs.GrownLemmas.{counted_grown, images_grow, tiles_same}
+use Rattle.fx_app.proofs.ReadLemmas.{WantsIn, has_wanted, holds_wanted, small_wanted}
+use Rattle.fx_app.proofs.ScaledLemmas.{same_images, small_grow, small_images}
 
 -- ---- what a store holds, and what it ever got
 
-pub read_images : (frames : List SourceFrame) → scene.AreImages (images_of frames)
-read_images frames = shown_images (frames_in frames) (frames_sound frames)
+got_images : (store : Store) → scene.AreImages (fetched_in store)
+got_images store = fetched_images store store.known
 
 images_among : (store : Store) → HasGrown (images_in store) (fetched_in store)
 images_among store = held_fetched store store.among
 
 -- over all that was got a text is what it is over what is held
 pub held_text : (g : Graph) → PicturesStay meaning_of g [] → (store : Store) (t : ℕ) → HasWanted meaning_of g (images_in store) g.output (pos t)
-    → picture_text g (images_in store) t ≡ picture_text g (images_of (got_frames store)) t
+    → picture_text g (images_in store) t ≡ picture_text g (fetched_in store) t
 unfolding picture_text
 held_text g stay store t has =
     ap (pam_text g.format)
-    (stay (images_in store) (fetched_in store) 0 (pos t) (store_images store store.sound) (read_images (got_frames store)) (images_among store) has)
+    (stay (images_in store) (fetched_in store) 0 (pos t) (store_images store store.sound) (got_images store) (images_among store) has)
+
+-- and over the frames that were handed in, at the size that is rendered
+small_text : (g : Graph) → scene.PicturesDependOnWanted meaning_of g → (q : ℕ) → IsScale q → (seen : List SourceFrame) (store : Store)
+    → AllZip (IsScaledFrame q) seen (got_frames store) → (t : ℕ)
+    → picture_text g (fetched_in store) t ≡ picture_text g (scaled_images q (images_of seen)) t
+unfolding picture_text
+small_text g depend q scale seen store are t =
+    ap (pam_text g.format)
+    (depend (pos t) (pos t) (fetched_in store) (scaled_images q (images_of seen)) (got_images store) (small_images q scale seen)
+    (λ k f wanted. same_images q seen store are k f) (pos t) (omega (arith, ints)) (omega (arith, ints)))
 
 -- ---- which moment is next
 
@@ -125,10 +139,11 @@ moments_few p plan =
     takes_few few = omega (arith, few)
 
 -- a scene of the same graph and script stands at the same moment
-pub at_scene : (p : Plan) (m : Making) (s : Shot Shipped) → IsAt p m → s.graph ≡ m.scene.graph → s.script ≡ m.scene.script
-    → IsAt p (record m { scene = s })
-at_scene p m s at graph script =
+pub at_scene : (p : Plan) (m now : Making) → IsAt p m → now.scene.graph ≡ m.scene.graph → now.scene.script ≡ m.scene.script
+    → IsAt p (record m { scene = now.scene; seen = now.seen })
+at_scene p m now at graph script =
     record {
+      scale = at.scale;
       written = ap (λ (c : Script Shipped). c.written) script ∙ at.written;
       takes = ap (λ (c : Script Shipped). c.takes) script ∙ at.takes;
       graph = graph ∙ at.graph ∙ ap (λ (c : Script Shipped). graph_of_take p.reel.graph p.reel.edits c.take) (sym script);
@@ -145,6 +160,7 @@ at_scene p m s at graph script =
 at_next : (p : Plan) (m : Making) → IsAt p m → m.frame ≤ m.last → IsAt p (record m { frame = m.frame + 1; next = m.next + 1 })
 at_next p m at here =
     record {
+      scale = at.scale;
       written = at.written;
       takes = at.takes;
       graph = at.graph;
@@ -182,6 +198,7 @@ at_take p m take rest plan at past split now is left = subst (IsAt p) (sym is) b
     begun : IsAt p (record m { scene = taken m.scene; takes = now.takes; file = Some take.file; frame = m.first })
     begun =
         record {
+          scale = at.scale;
           written = at.written;
           takes = at.takes;
           graph =
@@ -233,10 +250,10 @@ pub record HasGone (p : Plan) (frames : List SourceFrame) (old begun came renewe
   pub store : begun.scene.store ≡ old.scene.store
   pub at : IsAt p begun
   pub here : begun.frame ≤ begun.last
-  pub rest_came : came ≡ record begun { scene = came.scene }
+  pub rest_came : came ≡ record begun { scene = came.scene; seen = came.seen }
   pub graph : came.scene.graph ≡ begun.scene.graph
   pub script : came.scene.script ≡ begun.scene.script
-  pub read : HasRead p.uses (old.next + 1) came.scene.store
+  pub read : HoldsScaled p.reel.scale p.uses (old.next + 1) (seen_by came) came.scene.store
   pub seen : seen_by came ≡ seen_by begun ++ frames
   pub rest_renewed : renewed ≡ record came { crew = renewed.crew }
   pub again : (crew : Crew) → came.crew ≡ Some crew
@@ -244,13 +261,22 @@ pub record HasGone (p : Plan) (frames : List SourceFrame) (old begun came renewe
   pub rest_drawn : drawn ≡ record renewed { crew = drawn.crew; sum = drawn.sum; spare = drawn.spare }
   pub drew : (crew : Crew) → renewed.crew ≡ Some crew → HasDrawn renewed.frame crew renewed drawn
 
+-- what came at the size of what stood there came at the reel's
+pub read_at : (p : Plan) (old begun came : Making) → IsAt p old
+    → begun ≡ record old { scene = begun.scene; takes = begun.takes; file = begun.file; frame = begun.frame } → (uses : List Use)
+    → HoldsScaled begun.scale uses (begun.next + 1) (seen_by came) came.scene.store
+    → HoldsScaled p.reel.scale uses (begun.next + 1) (seen_by came) came.scene.store
+read_at p old begun came at rest uses read =
+    subst (λ (q : ℕ). HoldsScaled q uses (begun.next + 1) (seen_by came) came.scene.store)
+    (ap (λ (m : Making). m.scale) rest ∙ at.scale) read
+
 -- ---- the moment that is made
 
 module _ (p : Plan) (begun came renewed : Making) (at : IsAt p begun) (here : begun.frame ≤ begun.last)
-    (rest_came : came ≡ record begun { scene = came.scene }) (graph : came.scene.graph ≡ begun.scene.graph)
+    (rest_came : came ≡ record begun { scene = came.scene; seen = came.seen }) (graph : came.scene.graph ≡ begun.scene.graph)
     (script : came.scene.script ≡ begun.scene.script) (rest_renewed : renewed ≡ record came { crew = renewed.crew }) where
   at_came : IsAt p came
-  at_came = subst (IsAt p) (sym rest_came) (at_scene p begun came.scene at graph script)
+  at_came = subst (IsAt p) (sym rest_came) (at_scene p begun came at graph script)
 
   -- those who render change nothing of it
   pub at_renewed : IsAt p renewed
@@ -259,6 +285,7 @@ module _ (p : Plan) (begun came renewed : Making) (at : IsAt p begun) (here : be
       same : IsAt p (record came { crew = renewed.crew })
       same =
           record {
+            scale = at_came.scale;
             written = at_came.written;
             takes = at_came.takes;
             graph = at_came.graph;
@@ -283,17 +310,26 @@ module _ (p : Plan) (begun came renewed : Making) (at : IsAt p begun) (here : be
   pub next_renewed : renewed.next ≡ begun.next
   next_renewed = ap (λ (m : Making). m.next) rest_renewed ∙ ap (λ (m : Making). m.next) rest_came
 
-  pub read_renewed : (uses : List Use) → p.uses ≡ uses → HasRead uses (begun.next + 1) came.scene.store
-      → HasRead p.uses (renewed.next + 1) renewed.scene.store
+  pub seen_renewed : seen_by renewed ≡ seen_by came
+  seen_renewed = ap seen_by rest_renewed
+
+  pub read_renewed : (uses : List Use) → p.uses ≡ uses → HoldsScaled p.reel.scale uses (begun.next + 1) (seen_by came) came.scene.store
+      → HoldsScaled p.reel.scale p.uses (renewed.next + 1) (seen_by renewed) renewed.scene.store
   read_renewed uses are read =
-      subst (λ (s : Shot Shipped). HasRead p.uses (renewed.next + 1) s.store) (sym scene_renewed)
-      (subst (λ (n : ℕ). HasRead p.uses (n + 1) came.scene.store) (sym next_renewed)
-      (subst (λ (us : List Use). HasRead us (begun.next + 1) came.scene.store) (sym are) read))
+      let q = p.reel.scale in
+      subst (λ (s : Shot Shipped). HoldsScaled q p.uses (renewed.next + 1) (seen_by renewed) s.store) (sym scene_renewed)
+      (subst (λ (ss : List SourceFrame). HoldsScaled q p.uses (renewed.next + 1) ss came.scene.store) (sym seen_renewed)
+      (subst (λ (n : ℕ). HoldsScaled q p.uses (n + 1) (seen_by came) came.scene.store) (sym next_renewed)
+      (subst (λ (us : List Use). HoldsScaled q us (begun.next + 1) (seen_by came) came.scene.store) (sym are) read)))
 
   -- what it wants is held
-  module _ (plan : IsPlan p) (low : renewed.next < moments_in p.reel) (read : HasRead p.uses (renewed.next + 1) renewed.scene.store) where
+  module _ (plan : IsPlan p) (low : renewed.next < moments_in p.reel)
+      (read : HoldsScaled p.reel.scale p.uses (renewed.next + 1) (seen_by renewed) renewed.scene.store) where
+    abbrev small : Images
+    small = scaled_in p.reel (images_of (seen_by renewed))
+
     pub wants_in : WantsIn p.reel renewed.next (images_in renewed.scene.store)
-    wants_in = holds_wanted p.reel p.uses plan.are renewed.next low renewed.scene.store read
+    wants_in = holds_wanted p.reel p.uses plan.are renewed.next low (seen_by renewed) renewed.scene.store read
 
     pub wants_now :
         HasWanted meaning_of renewed.scene.graph (images_in renewed.scene.store) renewed.scene.graph.output (pos renewed.frame)
@@ -303,27 +339,30 @@ module _ (p : Plan) (begun came renewed : Making) (at : IsAt p begun) (here : be
         (subst (λ (t : ℕ). HasWanted meaning_of (graph_in p.reel renewed.next) (images_in renewed.scene.store) p.reel.graph.output (pos t))
         (frame_is p renewed at_renewed here_renewed) wants_in)
 
-    -- its text over what is held is its text over all that was got
-    pub text_now : PicturesStay meaning_of renewed.scene.graph []
-        → picture_text renewed.scene.graph (images_in renewed.scene.store) renewed.frame
-        ≡ file_text p.reel (images_of (got_frames renewed.scene.store)) renewed.next
-    text_now stay =
+    -- its text over what is held is its text over all that was handed in
+    pub text_now : PicturesStay meaning_of renewed.scene.graph [] → scene.PicturesDependOnWanted meaning_of renewed.scene.graph
+        → picture_text renewed.scene.graph (images_in renewed.scene.store) renewed.frame ≡ file_text p.reel small renewed.next
+    text_now stay depend =
         held_text renewed.scene.graph stay renewed.scene.store renewed.frame wants_now
-        ∙ ap (λ (g : Graph). picture_text g (images_of (got_frames renewed.scene.store)) renewed.frame) (graph_is p renewed at_renewed here_renewed)
-        ∙ ap (λ (t : ℕ). picture_text (graph_in p.reel renewed.next) (images_of (got_frames renewed.scene.store)) t)
-        (sym (frame_is p renewed at_renewed here_renewed))
+        ∙ small_text renewed.scene.graph depend p.reel.scale plan.size (seen_by renewed) renewed.scene.store read.got renewed.frame
+        ∙ ap (λ (g : Graph). picture_text g small renewed.frame) (graph_is p renewed at_renewed here_renewed)
+        ∙ ap (λ (t : ℕ). picture_text (graph_in p.reel renewed.next) small t) (sym (frame_is p renewed at_renewed here_renewed))
 
-    -- and its tiles are counted over all that was got
+    -- and its tiles are counted over that
     pub counts_now : EndsStay meaning_of (graph_in p.reel renewed.next) → EndsReached meaning_of (graph_in p.reel renewed.next)
-        → (side : ℕ) (count : TileCount) → CountsFrame renewed.scene side renewed.frame count
-        → (let all = fetched_in renewed.scene.store in
-        CountsTiles (nodes_in p.reel all renewed.next) side (moment_ends p.reel all side renewed.next) count)
-    counts_now stay lead side count tiles =
-        tiles_grown p.reel renewed.next stay lead (images_in renewed.scene.store) (fetched_in renewed.scene.store)
-        (store_images renewed.scene.store renewed.scene.store.sound) (read_images (got_frames renewed.scene.store))
-        (images_among renewed.scene.store) side wants_in count
+        → EndsAgree meaning_of (graph_in p.reel renewed.next) → (side : ℕ) (count : TileCount) → CountsFrame renewed.scene side renewed.frame count
+        → CountsTiles (nodes_in p.reel small renewed.next) side (moment_ends p.reel small side renewed.next) count
+    counts_now stay lead agree side count tiles =
+        let t = pos (frame_in p.reel renewed.next) in
+        let store = renewed.scene.store in
+        let got = got_images store in
+        let are = small_images p.reel.scale plan.size (seen_by renewed) in
+        tiles_same p.reel renewed.next lead (fetched_in store) small are
+        (agree (fetched_in store) small t got are (λ k f wanted. same_images p.reel.scale (seen_by renewed) store read.got k f)) side count
+        (tiles_same p.reel renewed.next lead (images_in store) (fetched_in store) got
+        (stay (images_in store) (fetched_in store) t (store_images store store.sound) got (images_among store) wants_in) side count
         (subst (λ (t : ℕ). Counts (graph_in p.reel renewed.next) t) (sym (frame_is p renewed at_renewed here_renewed))
-        (subst (λ (g : Graph). Counts g renewed.frame) (graph_is p renewed at_renewed here_renewed) tiles))
+        (subst (λ (g : Graph). Counts g renewed.frame) (graph_is p renewed at_renewed here_renewed) tiles)))
       where
         Counts : Graph → ℕ → Type 0
         Counts g t =
@@ -348,7 +387,8 @@ grown_taken s = record { written = refl; takes = refl; among = λ n f image ther
 
 module _ (p : Plan) (frames : List SourceFrame) (old begun came renewed drawn : Making) (may : MayMake p p.uses 1 old)
     (h : HasGone p frames old begun came renewed drawn)
-    (ends : EndsStay meaning_of renewed.scene.graph) (lead : EndsReached meaning_of renewed.scene.graph) where
+    (ends : EndsStay meaning_of renewed.scene.graph) (lead : EndsReached meaning_of renewed.scene.graph)
+    (agree : EndsAgree meaning_of renewed.scene.graph) where
   abbrev making : IsMaking p old
   making = may.making
 
@@ -369,26 +409,35 @@ module _ (p : Plan) (frames : List SourceFrame) (old begun came renewed drawn : 
   same_scene : renewed.scene ≡ came.scene
   same_scene = ap (λ (m : Making). m.scene) h.rest_renewed
 
-  read : HasRead p.uses (renewed.next + 1) renewed.scene.store
+  read : HoldsScaled p.reel.scale p.uses (renewed.next + 1) (seen_by renewed) renewed.scene.store
   read =
-      subst (λ (s : Shot Shipped). HasRead p.uses (renewed.next + 1) s.store) (sym same_scene)
-      (subst (λ (n : ℕ). HasRead p.uses (n + 1) came.scene.store) (sym next_was) h.read)
+      let q = p.reel.scale in
+      subst (λ (s : Shot Shipped). HoldsScaled q p.uses (renewed.next + 1) (seen_by renewed) s.store) (sym same_scene)
+      (subst (λ (ss : List SourceFrame). HoldsScaled q p.uses (renewed.next + 1) ss came.scene.store) (sym (ap seen_by h.rest_renewed))
+      (subst (λ (n : ℕ). HoldsScaled q p.uses (n + 1) (seen_by came) came.scene.store) (sym next_was) h.read))
 
-  -- all that was got before, and what came
-  got : got_frames renewed.scene.store ≡ got_frames old.scene.store ++ frames
+  -- all that was handed in before, and what came
+  got : seen_by renewed ≡ seen_by old ++ frames
   got =
-      ap (λ (s : Shot Shipped). got_frames s.store) same_scene ∙ h.seen
-      ∙ ap (λ (s : Store). got_frames s ++ frames) h.store
+      ap seen_by h.rest_renewed ∙ h.seen ∙ ap (λ (m : Making). seen_by m ++ frames) h.rest_begun
 
-  grown : HasGrown (fetched_in old.scene.store) (fetched_in renewed.scene.store)
+  abbrev small_old : Images
+  small_old = scaled_in p.reel (images_of (seen_by old))
+
+  abbrev small_now : Images
+  small_now = scaled_in p.reel (images_of (seen_by renewed))
+
+  grown : HasGrown small_old small_now
   grown =
-      subst (λ (xs : List SourceFrame). HasGrown (fetched_in old.scene.store) (images_of xs)) (sym got)
-      (images_grow (got_frames old.scene.store) frames)
+      small_grow p.reel.scale (images_of (seen_by old)) (images_of (seen_by renewed))
+      (subst (λ (xs : List SourceFrame). HasGrown (images_of (seen_by old)) (images_of xs)) (sym got)
+      (images_grow (seen_by old) frames))
 
-  before : (j : ℕ) → j < renewed.next → WantsIn p.reel j (fetched_in old.scene.store)
+  before : (j : ℕ) → j < renewed.next → WantsIn p.reel j small_old
   before j under =
       let same = next_was in
-      has_wanted p.reel p.uses may.plan.are old.next (got_frames old.scene.store) making.read.got j (omega (arith, under, low)) (omega (arith, under, same))
+      small_wanted p.reel j (images_of (seen_by old))
+      (has_wanted p.reel p.uses may.plan.are old.next (seen_by old) making.read.seen_are j (omega (arith, under, low)) (omega (arith, under, same)))
 
   held_ends : EndsHold p.reel renewed.next
   held_ends = subst (EndsHold p.reel) (sym next_was) making.hold
@@ -427,18 +476,22 @@ module _ (p : Plan) (frames : List SourceFrame) (old begun came renewed drawn : 
   lead_now : EndsReached meaning_of (graph_in p.reel renewed.next)
   lead_now = subst (λ (g : Graph). EndsReached meaning_of g) graph_now lead
 
-  one : let all = fetched_in renewed.scene.store in
-      CountsTiles (nodes_in p.reel all renewed.next) p.side (moment_ends p.reel all p.side renewed.next) shown.count
+  agree_now : EndsAgree meaning_of (graph_in p.reel renewed.next)
+  agree_now = subst (λ (g : Graph). EndsAgree meaning_of g) graph_now agree
+
+  one : CountsTiles (nodes_in p.reel small_now renewed.next) p.side (moment_ends p.reel small_now p.side renewed.next) shown.count
   one =
       counts_now p begun came renewed h.at h.here h.rest_came h.graph h.script h.rest_renewed may.plan low read ends_now lead_now
-      p.side shown.count (subst (λ (s : ℕ). CountsFrame renewed.scene s renewed.frame shown.count) grid shown.tiles)
+      agree_now p.side shown.count (subst (λ (s : ℕ). CountsFrame renewed.scene s renewed.frame shown.count) grid shown.tiles)
 
-  counted : HasCounted p.reel (fetched_in renewed.scene.store) p.side p.cache (renewed.next + 1) drawn.sum
+  counted : HasCounted p.reel small_now p.side p.cache (renewed.next + 1) drawn.sum
   counted =
-      counted_more p.reel (fetched_in renewed.scene.store) p.side p.cache renewed.next old.sum shown.count drawn.sum more
-      (counted_grown p.reel renewed.next held_ends (fetched_in old.scene.store) (fetched_in renewed.scene.store)
-      (read_images (got_frames old.scene.store)) (read_images (got_frames renewed.scene.store)) grown p.side before p.cache old.sum
-      (subst (λ (n : ℕ). HasCounted p.reel (fetched_in old.scene.store) p.side p.cache n old.sum) (sym next_was) making.counted))
+      let q = p.reel.scale in
+      let size = may.plan.size in
+      counted_more p.reel small_now p.side p.cache renewed.next old.sum shown.count drawn.sum more
+      (counted_grown p.reel renewed.next held_ends small_old small_now
+      (small_images q size (seen_by old)) (small_images q size (seen_by renewed)) grown p.side before p.cache old.sum
+      (subst (λ (n : ℕ). HasCounted p.reel small_old p.side p.cache n old.sum) (sym next_was) making.counted))
       one (subst (λ (c : ℕ). c ≡ 0 → shown.count.hits ≡ 0) capacity shown.none_kept)
 
   ends_more : EndsHold p.reel (renewed.next + 1)
@@ -473,6 +526,7 @@ module _ (p : Plan) (frames : List SourceFrame) (old begun came renewed drawn : 
       let then = at_next p renewed ready inside in
       record {
         at = record {
+          scale = then.scale;
           written = then.written;
           takes = then.takes;
           graph = then.graph;
@@ -509,7 +563,7 @@ module _ (p : Plan) (frames : List SourceFrame) (old begun came renewed drawn : 
 pub knew : (p : Plan) (old begun came : Making) → IsMaking p old
     → begun ≡ record old { scene = begun.scene; takes = begun.takes; file = begun.file; frame = begun.frame }
     → HasGrownTo old.scene begun.scene → length begun.scene.graph.nodes ≡ length old.scene.graph.nodes
-    → came ≡ record begun { scene = came.scene } → came.scene.graph ≡ begun.scene.graph → HasGrownTo begun.scene came.scene
+    → came ≡ record begun { scene = came.scene; seen = came.seen } → came.scene.graph ≡ begun.scene.graph → HasGrownTo begun.scene came.scene
     → (crew : Crew) × (came.crew ≡ Some crew) × KnewScene came.scene crew
 knew p old begun came making rest_begun first nodes rest_came graph then =
     let k = making.knew in (

@@ -4,7 +4,7 @@ use Rattle.std.proofs.lemmas.Option.{none-some}
 use Rattle.fx_outside.specs.Outside.{Files, HasRisen}
 use Rattle.fx_words.specs.Ordered.{Ordered}
 use Rattle.fx_words.specs.declared.order.Mode.{Mode}
-use Rattle.fx_words.specs.declared.order.Mode.TheVariants.{Render, Check, Bench, Migrate, Takes}
+use Rattle.fx_words.specs.declared.order.Mode.TheVariants.{Render, Check, Bench, Migrate, Takes, Plan}
 use Rattle.fx_words.specs.declared.fault.RunFault.{RunFault}
 use Rattle.fx_words.specs.declared.fault.RunFault.TheVariants as run
 use Rattle.fx_app.specs.Words.{mode_in}
@@ -15,6 +15,7 @@ use Rattle.fx_app.specs.Run.{Job, IsAccepted, NamesNoGraph, Cause, Rose}
 use Rattle.fx_app.specs.Modes.{CauseIn}
 use Rattle.fx_app.specs.Migrate.{Migration}
 use Rattle.fx_app.proofs.MigrateLemmas.{refused_migrate, not_bad}
+use Rattle.fx_app.proofs.PlanLemmas.{render_cause}
 use Rattle.fx_app.proofs.StepsLemmas.{refused_not, only_memory}
 
 -- ---- a check
@@ -164,6 +165,8 @@ refused_in (Some Check) tells asked library j fetches puts out e other told bad 
 refused_in (Some Bench) tells asked library j fetches puts out e other told bad cause rose fetched = absurd (other refl)
 refused_in (Some Migrate) tells asked library j fetches puts out e other told bad cause rose fetched =
     refused_migrate tells asked library fetches puts out e told (inl bad) cause rose fetched
+refused_in (Some Plan) tells asked library j fetches puts out e other told bad cause rose fetched =
+    refused_render asked library j fetches puts out e bad (render_cause tells asked library j e cause told) rose fetched
 
 pub refused_answers : (tells : Type 0) (asked : Option Ordered) (library : Files) (j : ℕ) (fetches puts : ℕ × ℕ × List ℕ) (out : ℕ × ℕ)
     (status : ℕ) (e : RunFault) → Answers status e → (mode_in asked ≡ Some Bench → ⊥) → tells → NamesNoGraph asked library
@@ -181,8 +184,9 @@ refused_answers tells asked library j fetches puts out status e (inl is) other t
 pub not_refused : (tells : Type 0) (asked : Option Ordered) (library : Files) → (mode_in asked ≡ Some Bench → ⊥) → tells
     → NamesNoGraph asked library → (Renders asked → tells → IsAccepted asked library)
     → (mode_in asked ≡ Some Check → tells → Job asked library)
-    → (mode_in asked ≡ Some Migrate → tells → Migration asked library) → ⊥
-not_refused tells asked library other told bad render check migrate = by bad.2.order.mode (ap mode_in bad.2.ordered)
+    → (mode_in asked ≡ Some Migrate → tells → Migration asked library)
+    → (mode_in asked ≡ Some Plan → tells → IsAccepted asked library) → ⊥
+not_refused tells asked library other told bad render check migrate plan = by bad.2.order.mode (ap mode_in bad.2.ordered)
   where
     by : (m : Mode) → mode_in asked ≡ Some m → ⊥
     by Render is = refused_not asked library (render (inl is) told).job bad
@@ -190,3 +194,4 @@ not_refused tells asked library other told bad render check migrate = by bad.2.o
     by Check is = refused_not asked library (check is told) bad
     by Bench is = other is
     by Migrate is = not_bad asked library (migrate is told) (inl bad)
+    by Plan is = refused_not asked library (plan is told).job bad

@@ -13,7 +13,7 @@ use Rattle.fx_image.specs.Image.{Image}
 use Rattle.fx_image.specs.Stored.{Stored, image_of}
 use Rattle.fx_seq.specs.Frames.{IsPicture}
 use Rattle.fx_seq.specs.Filling.{IsApart}
-use Rattle.fx_seq.specs.Held.{HasRead, held}
+use Rattle.fx_seq.specs.Held.{held}
 use Rattle.fx_seq.specs.Lists.{AreFramesOf, ArePictures, IsFrameOf, frames_in}
 use Rattle.fx_seq.specs.Moments.{AreOnce, due_until}
 use Rattle.fx_seq.specs.declared.source.SourceFrame.{SourceFrame}
@@ -21,14 +21,16 @@ use Rattle.fx_seq.specs.declared.store.Store.{Store}
 use Rattle.fx_seq.specs.declared.used.Use.{Use}
 use Rattle.fx_seq.specs.declared.wanted.Wanted.{Wanted}
 use Rattle.fx_seq.proofs.LookLemmas.{frames_from, only_held}
-use Rattle.fx_seq.proofs.MomentLemmas.{from_until, holds_used, some_in, to_until, use_once, zip_to}
+use Rattle.fx_seq.proofs.MomentLemmas.{from_until, some_in, to_until, use_once, zip_to}
 use Rattle.fx_scene.specs.Right.{HasWanted}
 use Rattle.fx_scene.specs.Scenes.{Images, images_in}
 use Rattle.fx_scene.specs.Wants.{IsBefore}
 use Rattle.fx_shipped.specs.Shipped.{meaning_of}
 use Rattle.fx_app.specs.Files.{AreImages, AreUsesOf, IsFileOf, wanted_of}
+use Rattle.fx_app.specs.Making.{HoldsScaled}
 use Rattle.fx_app.specs.Moments.{images_of}
-use Rattle.fx_app.specs.Reels.{Reel, frame_in, graph_in, moments_in, wanting_in}
+use Rattle.fx_app.specs.Reels.{Reel, frame_in, graph_in, moments_in, scaled_in, wanting_in}
+use Rattle.fx_app.proofs.ScaledLemmas.{holds_used, small_there, zip_back}
 
 -- ---- uses
 
@@ -81,14 +83,14 @@ use_at r uses are j k f low here =
 abbrev pub WantsIn : Reel → ℕ → Images → Type 0
 WantsIn r j images = HasWanted meaning_of (graph_in r j) images r.graph.output (pos (frame_in r j))
 
--- a store that has read the frames of the moments up to m holds what moment m wants
-pub holds_wanted : (r : Reel) (uses : List Use) → AreUsesOf r uses → (m : ℕ) → m < moments_in r → (store : Store)
-    → HasRead uses (m + 1) store → WantsIn r m (images_in store)
-holds_wanted r uses are m low store read k f wants =
+-- a store that got the frames of the moments up to m holds what moment m wants
+pub holds_wanted : (r : Reel) (uses : List Use) → AreUsesOf r uses → (m : ℕ) → m < moments_in r → (seen : List SourceFrame)
+    (store : Store) → HoldsScaled r.scale uses (m + 1) seen store → WantsIn r m (images_in store)
+holds_wanted r uses are m low seen store read k f wants =
     let u = use_at r uses are m k f low wants in
-    let there = holds_used uses (uses_are_once r uses are) m store read u.0 u.1 u.4 u.5 in
+    let there = holds_used r.scale uses (uses_are_once r uses are) m seen store read u.0 u.1 u.4 u.5 in
     some_image store k f
-    (subst (λ (i : ℕ). IsSome (held store i f)) u.2 (subst (λ (t : ℤ). IsSome (held store u.0.wanted.node t)) u.3 there.0))
+    (subst (λ (i : ℕ). IsSome (held store i f)) u.2 (subst (λ (t : ℤ). IsSome (held store u.0.wanted.node t)) u.3 there))
   where
     some_image : (store : Store) (k : ℕ) (f : ℤ) → IsSome (held store k f) → IsSome (images_in store k f)
     some_image store k f is = by (held store k f) is
@@ -113,19 +115,11 @@ has_wanted r uses are m got read j low before k f wants =
     some_image None is = is
     some_image (Some s) is = refl
 
--- ---- the images of what was read
+-- and so have they at any size
+pub small_wanted : (r : Reel) (j : ℕ) (images : Images) → WantsIn r j images → WantsIn r j (scaled_in r images)
+small_wanted r j images has k f wants = small_there r.scale images k f (has k f wants)
 
-zip_back : {A B : Type 0} (R : A → B → Type 0) (xs : List A) (ys : List B) → AllZip R xs ys → (y : B) → Contains ys y
-    → (x : A) × Contains xs x × R x y
-zip_back R [] [] z y at = absurd (omega (arith, at.1))
-zip_back R [] (b ∷ ys) z y at = absurd z
-zip_back R (a ∷ xs) [] z y at = absurd z
-zip_back {A} {B} R (a ∷ xs) (b ∷ ys) z y (zero, low, e) = (a, (0, omega arith, refl), subst (λ (v : B). R a v) e z.0)
-zip_back R (a ∷ xs) (b ∷ ys) z y (suc k, low, e) =
-    let r = zip_back R xs ys z.1 y (k, omega (arith, low), e) in
-    let at = r.1 in
-    let under = at.1 in
-    (r.0, (suc at.0, omega (arith, under), at.2), r.2)
+-- ---- the images of what was read
 
 zip_both : {A B : Type 0} (R S : A → B → Type 0) (xs : List A) (ys : List B) → AllZip R xs ys → AllZip S xs ys
     → AllZip (λ x y. R x y × S x y) xs ys

@@ -10,28 +10,29 @@ use Rattle.fx_scene.specs.Uses.{AreUses, frame_at, take_at, wanting}
 use Rattle.fx_scene.specs.Wants.{IsNamedIn}
 use Rattle.fx_scene.specs.declared.take.Take.{Take}
 use Rattle.fx_shipped.specs.declared.shipped.Shipped.{Shipped}
-use Rattle.fx_shipped.specs.Shipped.{meaning_of}
+use Rattle.fx_shipped.specs.Shipped.{meaning_of, number_of}
+use Rattle.fx_proxy.specs.Scaled.{scaled_take}
 use Rattle.fx_takes.specs.Shown.{TakeShown, edit_shown, take_shown}
 use Rattle.fx_words.specs.Ordered.{Ordered}
 use Rattle.fx_words.specs.declared.order.Mode.{Mode}
-use Rattle.fx_words.specs.declared.order.Mode.TheVariants.{Render, Check, Bench, Migrate, Takes}
+use Rattle.fx_words.specs.declared.order.Mode.TheVariants.{Render, Check, Bench, Migrate, Takes, Plan}
 use Rattle.fx_app.specs.Graphs.{FileShown, Graph, first_of, frame_count, last_of}
 use Rattle.fx_app.specs.Files.{AreUsesOf}
-use Rattle.fx_app.specs.Reels.{IsReelOf, Reel, file_name, moments_in, pattern_at, plain_reel, takes_for}
+use Rattle.fx_app.specs.Reels.{IsReelOf, Reel, file_name, moments_in, ordered_file, pattern_at, plain_reel, takes_for}
 
 -- n frames of a graph from a on, as it is written
-abbrev pub alone : Graph → ℕ → ℕ → Reel
-alone g a n = record { graph = g; edits = []; files = []; first = a; count = n }
+abbrev pub alone : ℕ → Graph → ℕ → ℕ → Reel
+alone q g a n = record { scale = q; graph = g; edits = []; files = []; first = a; count = n }
 
 -- its moments are its frames
-pub alone_many : (g : Graph) (a n : ℕ) → moments_in (alone g a n) ≡ n
-alone_many g a n = omega arith
+pub alone_many : (q : ℕ) (g : Graph) (a n : ℕ) → moments_in (alone q g a n) ≡ n
+alone_many q g a n = omega arith
 
-pub alone_name : (g : Graph) (a n j : ℕ) → j < n → file_name (alone g a n) j ≡ name_of g.file (a + j)
-alone_name g a n j low =
+pub alone_name : (q : ℕ) (g : Graph) (a n j : ℕ) → j < n → file_name (alone q g a n) j ≡ name_of g.file (a + j)
+alone_name q g a n j low =
     let written : take_at n j ≡ 0 = div-eq_of_lt low in
     let frame : frame_at a n j ≡ a + j = ap (λ k. a + k) (mod-eq_of_lt low) in
-    ap (λ k. name_of (pattern_at (alone g a n) k) (frame_at a n j)) written ∙ ap (name_of g.file) frame
+    ap (λ k. name_of (pattern_at (alone q g a n) k) (frame_at a n j)) written ∙ ap (name_of g.file) frame
 
 -- ---- which takes are ordered
 
@@ -45,6 +46,7 @@ none_ordered Render takes other = refl
 none_ordered Check takes other = refl
 none_ordered Bench takes other = refl
 none_ordered Migrate takes other = refl
+none_ordered Plan takes other = refl
 none_ordered Takes takes other = absurd (other refl)
 
 -- so many are rendered, and the graph as it is written
@@ -66,10 +68,10 @@ pub no_edits : (nodes : List (Shown Shipped)) (takes : List Take) → takes ≡ 
 no_edits nodes takes none = subst (λ (ts : List Take). AreEdits nodes (edits_of ts)) (sym none) (λ k. tt)
 
 -- what is used where there are none is used by the frames of the graph as it is written
-pub plain_uses : (g : Graph) (a b : ℕ) (takes : List Take) (uses : List Use) → takes ≡ []
+pub plain_uses : (q : ℕ) (g : Graph) (a b : ℕ) (takes : List Take) (uses : List Use) → takes ≡ []
     → (let n = frame_count a b in let edits = edits_of takes in AreUses (wanting meaning_of g edits a n) (n * (length edits + 1)) uses)
-    → All (λ u. IsNamedIn g u.wanted) uses → AreUsesOf (plain_reel g a b) uses
-plain_uses g a b takes uses none moments names =
+    → All (λ u. IsNamedIn g u.wanted) uses → AreUsesOf (plain_reel q g a b) uses
+plain_uses q g a b takes uses none moments names =
     record {
       moments = subst (λ (ts : List Take). AreUses (wanting meaning_of g (edits_of ts) a (frame_count a b)) (frame_count a b * (length (edits_of ts) + 1)) uses)
           none moments;
@@ -83,21 +85,29 @@ none_shown f [] none = refl
 none_shown f (x ∷ xs) none = cc
 
 module _ (order : Ordered) (file : FileShown) (none : takes_for order.mode file.takes ≡ []) where
-  pub plain_is : (r : Reel) → IsReelOf order file r → r ≡ plain_reel file.graph (first_of file.graph order) (last_of file.graph order)
+  abbrev g : Graph
+  g = (ordered_file order file).graph
+
+  no_takes : (ordered_file order file).takes ≡ []
+  no_takes = ap (map (scaled_take number_of order.scale file.graph.nodes)) none
+
+  pub plain_is : (r : Reel) → IsReelOf order file r → r ≡ plain_reel order.scale g (first_of g order) (last_of g order)
   plain_is r is =
-      let edits : r.edits ≡ [] = none_shown (map edit_shown) r.edits (is.edits ∙ ap (λ takes. map (λ (t : TakeShown). t.edits) takes) none) in
-      let files : r.files ≡ [] = is.files ∙ ap (λ takes. map (λ (t : TakeShown). t.file) takes) none in
+      let edits : r.edits ≡ [] = none_shown (map edit_shown) r.edits (is.edits ∙ ap (λ takes. map (λ (t : TakeShown). t.edits) takes) no_takes) in
+      let files : r.files ≡ [] = is.files ∙ ap (λ takes. map (λ (t : TakeShown). t.file) takes) no_takes in
+      let scale = is.scale in
       let graph = is.graph in
       let first = is.first in
       let count = is.count in
-      λ i. record { graph = graph i; edits = edits i; files = files i; first = first i; count = count i }
+      λ i. record { scale = scale i; graph = graph i; edits = edits i; files = files i; first = first i; count = count i }
 
-  pub plain_of : (a b : ℕ) → a ≡ first_of file.graph order → b ≡ last_of file.graph order → IsReelOf order file (plain_reel file.graph a b)
+  pub plain_of : (a b : ℕ) → a ≡ first_of g order → b ≡ last_of g order → IsReelOf order file (plain_reel order.scale g a b)
   plain_of a b first last =
       record {
+        scale = refl;
         graph = refl;
-        edits = ap (λ takes. map (λ (t : TakeShown). t.edits) takes) (sym none);
-        files = ap (λ takes. map (λ (t : TakeShown). t.file) takes) (sym none);
+        edits = ap (λ takes. map (λ (t : TakeShown). t.edits) takes) (sym no_takes);
+        files = ap (λ takes. map (λ (t : TakeShown). t.file) takes) (sym no_takes);
         first = first;
-        count = ap (λ m. frame_count m b) first ∙ ap (λ m. frame_count (first_of file.graph order) m) last;
+        count = ap (λ m. frame_count m b) first ∙ ap (λ m. frame_count (first_of g order) m) last;
       }

@@ -8,6 +8,8 @@ use Rattle.fx_seq.specs.Filling.{IsQuiet}
 use Rattle.fx_seq.specs.Moments.{due_until}
 use Rattle.fx_seq.proofs.FillingLemmas.{quiet_more}
 use Rattle.fx_seq.proofs.MomentLemmas.{from_until, to_until}
+use Rattle.fx_proxy.specs.Proxy.{scaled_images}
+use Rattle.fx_proxy.specs.Reduced.{IsScale}
 use Rattle.fx_scene.specs.Scenes.{Images}
 use Rattle.fx_tile.specs.declared.count.TileCount.{TileCount}
 use Rattle.fx_words.specs.Ordered.{Ordered}
@@ -20,7 +22,7 @@ use Rattle.fx_app.specs.declared.graph.GraphFailure.TheVariants as graph
 use Rattle.fx_app.specs.declared.report.ReportFailure.{ReportFailure}
 use Rattle.fx_app.specs.declared.report.ReportFailure.TheVariants as report
 use Rattle.fx_app.specs.Graphs.{FileShown, graph_under, first_of, last_of, frame_count}
-use Rattle.fx_app.specs.Reels.{Reel, moments_in, plain_reel, takes_for}
+use Rattle.fx_app.specs.Reels.{Reel, moments_in, ordered_file, plain_reel, scaled_in, takes_for}
 use Rattle.fx_app.specs.Files.{AreImages, AreUsesOf, HasGained, wanted_of}
 use Rattle.fx_app.specs.Run.{Cause, HasPutAll, Leaves, LeavesLibrary, LeavesOwnReport, LeavesReport, Rose, count_in}
 use Rattle.fx_app.specs.Tiles.{report_of}
@@ -28,7 +30,7 @@ use Rattle.fx_app.specs.Ended.{Ended, calls}
 use Rattle.fx_app.specs.Moments.{HasRendered, Stops}
 use Rattle.fx_app.specs.Steps.{graph_fault, report_fault, GraphFetch, GraphCause, ReportRose, BeginsReport}
 use Rattle.fx_app.proofs.StepsLemmas.{no_call, untouched, same_out}
-use Rattle.fx_app.proofs.JobLemmas.{reel_here}
+use Rattle.fx_app.proofs.JobLemmas.{order_here, reel_here}
 use Rattle.fx_app.proofs.ReelLemmas.{alone_many, plain_is}
 use Rattle.fx_app.proofs.CountLemmas.{render_is}
 use Rattle.fx_app.proofs.UsesLemmas.{from_wanted}
@@ -39,19 +41,27 @@ pub all_put : {tells : Type 0} (order : Ordered) (library old new : Files) (coun
     → HasRendered tells (Some order) library old new count → tells → HasPutAll (Some order) library old new
 all_put order library old new count r told = record { known = r.known; images = r.images; are = r.are; gained = r.gained told }
 
+-- its size is one that may be ordered
+pub size_here : {tells : Type 0} (order : Ordered) (library old new : Files) (file : FileShown) (count : TileCount)
+    → HasRendered tells (Some order) library old new count → graph_under library order.graph ≡ Some (Ok file) → IsScale order.scale
+size_here order library old new file count r there =
+    subst (λ (o : Ordered). IsScale o.scale) (order_here order library file r.known.job there) r.size
+
 -- over the graph and the frames of an order, where no takes are ordered
 pub gained_here : {tells : Type 0} (order : Ordered) (library old new : Files) (file : FileShown) (count : TileCount)
     → (r : HasRendered tells (Some order) library old new count) → graph_under library order.graph ≡ Some (Ok file)
     → takes_for order.mode file.takes ≡ [] → tells
-    → (let a = first_of file.graph order in let b = last_of file.graph order in
-    HasGained (plain_reel file.graph a b) r.images (frame_count a b) old new)
+    → (let h = (ordered_file order file).graph in let a = first_of h order in let b = last_of h order in
+    HasGained (plain_reel order.scale h a b) (scaled_images order.scale r.images) (frame_count a b) old new)
 gained_here order library old new file count r there none told =
     let job = r.known.job in
-    let a = first_of file.graph order in
-    let b = last_of file.graph order in
-    let reel : job.reel ≡ plain_reel file.graph a b = plain_is order file none job.reel (reel_here order library file job there) in
-    subst (λ (n : ℕ). HasGained (plain_reel file.graph a b) r.images n old new) (alone_many file.graph a (frame_count a b))
-    (subst (λ (s : Reel). HasGained s r.images (moments_in s) old new) reel (r.gained told))
+    let h = (ordered_file order file).graph in
+    let a = first_of h order in
+    let b = last_of h order in
+    let small = scaled_images order.scale r.images in
+    let reel : job.reel ≡ plain_reel order.scale h a b = plain_is order file none job.reel (reel_here order library file job there) in
+    subst (λ (n : ℕ). HasGained (plain_reel order.scale h a b) small n old new) (alone_many order.scale h a (frame_count a b))
+    (subst (λ (s : Reel). HasGained s (scaled_in s r.images) (moments_in s) old new) reel (r.gained told))
 
 -- what is wanted at all is due at one of all moments
 due_images : (library : Files) (r : Reel) (uses : List Use) (images : Images) → AreUsesOf r uses
@@ -77,7 +87,7 @@ due_images library r uses images are shown =
 
 -- ---- how it ends
 
-rose_since : (a b c : ℕ) (z : List ℕ) (depot : ℕ × ℕ × List ℕ) (out : ℕ × ℕ) (e : RunFault) → b ≡ a → e ≢ run.Report
+pub rose_since : (a b c : ℕ) (z : List ℕ) (depot : ℕ × ℕ × List ℕ) (out : ℕ × ℕ) (e : RunFault) → b ≡ a → e ≢ run.Report
     → Rose (b, c, z) depot (0, 0) e → Rose (a, c, z) depot out e
 rose_since a b c z depot out run.Usage same other rose = tt
 rose_since a b c z depot out (run.Graph code path) same other rose = tt
@@ -87,7 +97,7 @@ rose_since a b c z depot out (run.Write name) same other rose = rose
 rose_since a b c z depot out run.Memory same other rose = tt
 rose_since a b c z depot out run.Report same other rose = absurd (other refl)
 
-fetches_since : (asked : _) (a b c : ℕ) (x y z : List ℕ) (e : RunFault) → IsQuiet a b x y → LeavesLibrary asked e b c y z
+pub fetches_since : (asked : _) (a b c : ℕ) (x y z : List ℕ) (e : RunFault) → IsQuiet a b x y → LeavesLibrary asked e b c y z
     → LeavesLibrary asked e a c x z
 fetches_since asked a b c x y z run.Usage quiet leaves = quiet_more quiet leaves
 fetches_since asked a b c x y z (run.Graph code path) quiet leaves = quiet_more quiet leaves

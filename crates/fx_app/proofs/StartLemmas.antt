@@ -5,8 +5,8 @@ use Rattle.std.proofs.lemmas.List.{append-nil, append_assoc, length-append, leng
 use Rattle.fx_base.specs.declared.limits.TheConstants.{LAST_FRAME}
 use Rattle.fx_text.specs.declared.raw.TheConstants.{MOST_TAKES}
 use Rattle.fx_seq.specs.declared.used.Use.{Use}
-use Rattle.fx_seq.specs.Held.{HasRead}
-use Rattle.fx_scene.specs.Scenes.{Script, fetched_in}
+use Rattle.fx_proxy.specs.Reduced.{IsScale}
+use Rattle.fx_scene.specs.Scenes.{Script}
 use Rattle.fx_scene.specs.Takes.{edits_of, graph_of_take}
 use Rattle.fx_scene.specs.Uses.{AreUses, wanting}
 use Rattle.fx_scene.specs.Wants.{IsNamedIn}
@@ -22,8 +22,9 @@ use Rattle.fx_app.specs.declared.making.Making.{Making}
 use Rattle.fx_app.specs.Crews.{IsCrew}
 use Rattle.fx_app.specs.Files.{AreUsesOf}
 use Rattle.fx_app.specs.Graphs.{FileShown, Graph, first_of, frame_count, last_of}
-use Rattle.fx_app.specs.Making.{AreTakesFrom, IsAt, IsMaking, MayMake, Plan, pattern_in}
-use Rattle.fx_app.specs.Reels.{IsReelOf, Reel, moments_in, pattern_at, reel_with, takes_for}
+use Rattle.fx_app.specs.Making.{AreTakesFrom, HoldsScaled, IsAt, IsMaking, MayMake, Plan, pattern_in, seen_by}
+use Rattle.fx_app.specs.Moments.{images_of}
+use Rattle.fx_app.specs.Reels.{IsReelOf, Reel, moments_in, ordered_file, pattern_at, reel_with, scaled_in}
 use Rattle.fx_app.specs.Tiles.{HasCounted}
 use Rattle.fx_app.proofs.CountLemmas.{counted_none}
 use Rattle.fx_app.proofs.MakingLemmas.{grown_itself}
@@ -53,8 +54,8 @@ takes_behind r done (take ∷ rest) edits files = (
     long : length (done ++ take ∷ []) ≡ suc (length done)
     long = let both = length-append done (take ∷ []) in omega (arith, both)
 
-pub all_takes : (g : Graph) (takes : List Take) (a b : ℕ) → AreTakesFrom (reel_with g takes a b) 0 takes
-all_takes g takes a b = takes_behind (reel_with g takes a b) [] takes refl refl
+pub all_takes : (q : ℕ) (g : Graph) (takes : List Take) (a b : ℕ) → AreTakesFrom (reel_with q g takes a b) 0 takes
+all_takes q g takes a b = takes_behind (reel_with q g takes a b) [] takes refl refl
 
 -- ---- what an order of a file renders
 
@@ -67,17 +68,18 @@ files_shown [] = refl
 files_shown (take ∷ takes) = ap (λ fs. take.file ∷ fs) (files_shown takes)
 
 module _ (order : Ordered) (file : FileShown) (g : Graph) (takes : List Take) (first last : ℕ)
-    (same : record { graph = g; takes = map take_shown takes } ≡ record file { takes = takes_for order.mode file.takes })
+    (same : record { graph = g; takes = map take_shown takes } ≡ ordered_file order file)
     (first_is : first ≡ first_of g order) (last_is : last ≡ last_of g order) where
-  graph_same : g ≡ file.graph
+  graph_same : g ≡ (ordered_file order file).graph
   graph_same = ap (λ (f : FileShown). f.graph) same
 
-  takes_same : map take_shown takes ≡ takes_for order.mode file.takes
+  takes_same : map take_shown takes ≡ (ordered_file order file).takes
   takes_same = ap (λ (f : FileShown). f.takes) same
 
-  pub is_reel : IsReelOf order file (reel_with g takes first last)
+  pub is_reel : IsReelOf order file (reel_with order.scale g takes first last)
   is_reel =
       record {
+        scale = refl;
         graph = graph_same;
         edits = edits_shown takes ∙ ap (map (λ (t : TakeShown). t.edits)) takes_same;
         files = files_shown takes ∙ ap (map (λ (t : TakeShown). t.file)) takes_same;
@@ -91,37 +93,45 @@ module _ (order : Ordered) (file : FileShown) (g : Graph) (takes : List Take) (f
 
 -- what its moments are
 abbrev pub plan_of : Graph → List Take → ℕ → ℕ → Ordered → List Use → Plan
-plan_of g takes a b order uses = record { reel = reel_with g takes a b; uses = uses; side = order.tile; cache = order.cache }
+plan_of g takes a b order uses =
+    record { reel = reel_with order.scale g takes a b; uses = uses; side = order.tile; cache = order.cache }
 
-module _ (g : Graph) (takes : List Take) (a b : ℕ) where
+module _ (q : ℕ) (g : Graph) (takes : List Take) (a b : ℕ) where
   pub uses_of : (uses : List Use)
       → AreUses (wanting meaning_of g (edits_of takes) a (b + 1 - a)) ((b + 1 - a) * (length (edits_of takes) + 1)) uses
-      → All (λ u. IsNamedIn g u.wanted) uses → AreUsesOf (reel_with g takes a b) uses
+      → All (λ u. IsNamedIn g u.wanted) uses → AreUsesOf (reel_with q g takes a b) uses
   uses_of uses moments names = record { moments = moments; names = names }
 
   -- there are as many moments as frames of all takes
-  pub many_moments : moments_in (reel_with g takes a b) ≡ frame_count a b * (length takes + 1)
+  pub many_moments : moments_in (reel_with q g takes a b) ≡ frame_count a b * (length takes + 1)
   many_moments = ap (λ n. frame_count a b * (n + 1)) (length-map takes (λ t. t.edits.items))
 
-  pub no_moments : b + 1 ≤ a → moments_in (reel_with g takes a b) ≡ 0
+  pub no_moments : b + 1 ≤ a → moments_in (reel_with q g takes a b) ≡ 0
   no_moments low =
       let none : frame_count a b ≡ 0 = omega (arith, low) in
       ap (λ n. n * (length (edits_of takes) + 1)) none ∙ zero-mul (length (edits_of takes) + 1)
 
-  -- and they may be made
-  pub may_begin : (order : Ordered) (uses : List Use) (making : Making) → a ≤ b → b ≤ LAST_FRAME → length takes ≤ MOST_TAKES
-      → AreUsesOf (reel_with g takes a b) uses → making.next ≡ 0 → IsMaking (plan_of g takes a b order uses) making
-      → MayMake (plan_of g takes a b order uses) uses 0 making
-  may_begin order uses making some low few are next is =
-      record {
-        plan = record { are = are; few = omega (arith, some, low); some = omega (arith, some); few_takes = takes_low };
-        uses_are = refl;
-        few = omega (arith, next);
-        making = is;
-      }
-    where
-      takes_low : length (edits_of takes) + 1 ≤ MOST_TAKES + 1
-      takes_low = let long = length-map takes (λ t. t.edits.items) in omega (arith, long, few)
+-- and they may be made
+pub may_begin : (g : Graph) (takes : List Take) (a b : ℕ) (order : Ordered) (uses : List Use) (making : Making) → a ≤ b → b ≤ LAST_FRAME
+    → length takes ≤ MOST_TAKES → IsScale order.scale
+    → AreUsesOf (reel_with order.scale g takes a b) uses → making.next ≡ 0 → IsMaking (plan_of g takes a b order uses) making
+    → MayMake (plan_of g takes a b order uses) uses 0 making
+may_begin g takes a b order uses making some low few size are next is =
+    record {
+      plan = record {
+        are = are;
+        few = omega (arith, some, low);
+        some = omega (arith, some);
+        few_takes = takes_low;
+        size = size;
+      };
+      uses_are = refl;
+      few = omega (arith, next);
+      making = is;
+    }
+  where
+    takes_low : length (edits_of takes) + 1 ≤ MOST_TAKES + 1
+    takes_low = let long = length-map takes (λ t. t.edits.items) in omega (arith, long, few)
 
 -- ---- what stands before the first
 
@@ -129,8 +139,8 @@ module _ (g : Graph) (takes : List Take) (a b : ℕ) where
 abbrev pub first_script : Graph → List Take → Script Shipped
 first_script g takes = record { written = g; takes = edits_of takes; take = 0 }
 
-module _ (g : Graph) (takes : List Take) (a b : ℕ) (low : a ≤ b) (p : Plan) (reel : p.reel ≡ reel_with g takes a b) (m : Making)
-    (script : m.scene.script ≡ first_script g takes) (graph : m.scene.graph ≡ g) (items : m.takes.items ≡ takes) (file : m.file ≡ None)
+module _ (q : ℕ) (g : Graph) (takes : List Take) (a b : ℕ) (low : a ≤ b) (p : Plan) (reel : p.reel ≡ reel_with q g takes a b)
+    (m : Making) (scale : m.scale ≡ q) (script : m.scene.script ≡ first_script g takes) (graph : m.scene.graph ≡ g) (items : m.takes.items ≡ takes) (file : m.file ≡ None)
     (first : m.first ≡ a) (last : m.last ≡ b) (frame : m.frame ≡ a) (next : m.next ≡ 0) where
   abbrev Stands : Reel → Type 0
   Stands r = IsAt (record p { reel = r }) m
@@ -139,15 +149,16 @@ module _ (g : Graph) (takes : List Take) (a b : ℕ) (low : a ≤ b) (p : Plan) 
   at_first =
       subst Stands (sym reel)
       (record {
+        scale = scale;
         written = ap (λ (s : Script Shipped). s.written) script;
         takes = ap (λ (s : Script Shipped). s.takes) script;
         graph = graph ∙ sym (ap (λ (s : Script Shipped). graph_of_take g (edits_of takes) s.take) script);
         left =
-            subst (λ (k : ℕ). AreTakesFrom (reel_with g takes a b) k m.takes.items) (sym (ap (λ (s : Script Shipped). s.take) script))
-            (subst (λ (ts : List Take). AreTakesFrom (reel_with g takes a b) 0 ts) (sym items) (all_takes g takes a b));
+            subst (λ (k : ℕ). AreTakesFrom (reel_with q g takes a b) k m.takes.items) (sym (ap (λ (s : Script Shipped). s.take) script))
+            (subst (λ (ts : List Take). AreTakesFrom (reel_with q g takes a b) 0 ts) (sym items) (all_takes q g takes a b));
         file =
             ap (λ (f : Option (List ℕ)). pattern_in f g.file) file
-            ∙ sym (ap (λ (s : Script Shipped). pattern_at (reel_with g takes a b) s.take) script);
+            ∙ sym (ap (λ (s : Script Shipped). pattern_at (reel_with q g takes a b) s.take) script);
         first = first;
         last = omega (arith, last, low);
         from = omega (arith, first, frame);
@@ -161,16 +172,17 @@ module _ (g : Graph) (takes : List Take) (a b : ℕ) (low : a ≤ b) (p : Plan) 
       zero_first x none = omega (arith, none, first, frame, next)
 
   pub stands_first : (crew : Crew) → m.crew ≡ Some crew → IsCrew m.scene crew → crew.shared.grid ≡ p.side
-      → crew.shared.directory.capacity ≡ p.cache → seat_weight crew.seat ≡ (0, 0) → m.sum ≡ no_count → HasRead p.uses 0 m.scene.store
-      → IsMaking p m
+      → crew.shared.directory.capacity ≡ p.cache → seat_weight crew.seat ≡ (0, 0) → m.sum ≡ no_count
+      → HoldsScaled p.reel.scale p.uses 0 (seen_by m) m.scene.store → IsMaking p m
   stands_first crew there is side capacity weight sum read =
       record {
         at = at_first;
-        read = subst (λ (n : ℕ). HasRead p.uses n m.scene.store) (sym next) read;
+        read = subst (λ (n : ℕ). HoldsScaled p.reel.scale p.uses n (seen_by m) m.scene.store) (sym next) read;
         crew = crew;
         crew_is = record { there = there; side = side; capacity = capacity; weight = weight ∙ sym (ap count_weight sum) };
         knew = record { was = m.scene; is = is; nodes = refl; grown = grown_itself m.scene };
         hold = λ j under. absurd (omega (arith, under, next));
-        counted = subst (HasCounted p.reel (fetched_in m.scene.store) p.side p.cache m.next) (sym sum)
-            (counted_none p.reel (fetched_in m.scene.store) p.side p.cache m.next next);
+        counted =
+            let small = scaled_in p.reel (images_of (seen_by m)) in
+            subst (HasCounted p.reel small p.side p.cache m.next) (sym sum) (counted_none p.reel small p.side p.cache m.next next);
       }

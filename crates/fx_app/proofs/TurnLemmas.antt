@@ -170,6 +170,7 @@ spare_may p uses more m other may =
       few = may.few;
       making = record {
         at = record {
+          scale = may.making.at.scale;
           written = may.making.at.written;
           takes = may.making.at.takes;
           graph = may.making.at.graph;

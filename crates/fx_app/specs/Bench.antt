@@ -13,7 +13,7 @@ use Rattle.fx_words.specs.Ordered.{Ordered}
 use Rattle.fx_words.specs.Texts.{bench_text}
 use Rattle.fx_words.specs.declared.fault.RunFault.{RunFault}
 use Rattle.fx_words.specs.declared.fault.RunFault.TheVariants as run
-use Rattle.fx_app.specs.Reels.{Reel, file_text}
+use Rattle.fx_app.specs.Reels.{Reel, file_text, scaled_in}
 use Rattle.fx_app.specs.Files.{AreImages, wanted_of}
 use Rattle.fx_app.specs.Run.{IsAccepted, Cause, count_in}
 
@@ -53,7 +53,7 @@ pub record IsBenchReport (asked : Option Ordered) (text : List ℕ) : Type 0 whe
   pub images : Images
   pub are : AreImages (made_for asked) (wanted_of known.job.uses) images
   pub told :
-      let bytes = bytes_of known.job.reel images (count_in known.job) in
+      let bytes = bytes_of known.job.reel (scaled_in known.job.reel images) (count_in known.job) in
       text ≡ bench_text (count_in known.job) (length bytes) (sum bytes)
 
 -- the report was written

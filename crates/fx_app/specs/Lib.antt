@@ -9,8 +9,11 @@ pub mod Run
 pub mod Check
 pub mod Bench
 pub mod Migrate
+pub mod Plans
 pub mod Modes
 pub mod Ended
+pub mod Sources
+pub mod Planning
 pub mod Moments
 pub mod Turns
 pub mod Making

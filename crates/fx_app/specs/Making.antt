@@ -1,15 +1,22 @@
 -- What stands between two moments of a run.
-use Rattle.std.specs.Prelude.{◌≡◌, ◌<◌, ◌≤◌, ◌+◌, ◌*◌, ℕ, suc, pos, List, [], ◌∷◌, length, Option, Some, None}
+use Rattle.std.specs.Prelude.{◌≡◌, ◌<◌, ◌≤◌, ◌+◌, ◌-◌, ◌*◌, ℕ, suc, pos, List, [], ◌∷◌, filter, length, Option, Some, None}
+use Rattle.std.specs.List.{AllZip, flat_map}
+use Rattle.std.specs.Prelude.{Vec}
+use Rattle.std.specs.declared.alloc.Global.{Global}
 use Rattle.fx_base.specs.declared.limits.TheConstants.{LAST_FRAME}
+use Rattle.fx_seq.specs.declared.kept.Kept.{Kept}
 use Rattle.fx_seq.specs.declared.source.SourceFrame.{SourceFrame}
 use Rattle.fx_seq.specs.declared.used.Use.{Use}
-use Rattle.fx_seq.specs.Held.{HasRead, got_frames}
-use Rattle.fx_seq.specs.Lists.{AreFramesOf}
-use Rattle.fx_seq.specs.Moments.{due_at}
+use Rattle.fx_seq.specs.declared.store.Store.{Store}
+use Rattle.fx_seq.specs.Held.{got_frames, held_frames}
+use Rattle.fx_seq.specs.Lists.{AreFramesOf, is_used_frame}
+use Rattle.fx_seq.specs.Moments.{due_at, due_until}
 use Rattle.fx_text.specs.declared.raw.TheConstants.{MOST_TAKES}
 use Rattle.fx_region.specs.Counts.{window_ends}
+use Rattle.fx_proxy.specs.Proxy.{IsScaledFrame}
+use Rattle.fx_proxy.specs.Reduced.{IsScale}
 use Rattle.fx_region.specs.Held.{EndsReached, EndsStay}
-use Rattle.fx_scene.specs.Scenes.{Shot, fetched_in}
+use Rattle.fx_scene.specs.Scenes.{Shot}
 use Rattle.fx_scene.specs.Sites.{scene_nodes}
 use Rattle.fx_scene.specs.Takes.{edits_after, graph_of_take}
 use Rattle.fx_scene.specs.declared.take.Take.{Take}
@@ -22,7 +29,8 @@ use Rattle.fx_app.specs.declared.making.Making.{Making}
 use Rattle.fx_app.specs.declared.crew.Crew.{Crew}
 use Rattle.fx_app.specs.Crews.{IsCrew, KeepsCrew, KnewScene}
 use Rattle.fx_app.specs.Files.{AreUsesOf}
-use Rattle.fx_app.specs.Reels.{Reel, graph_in, moments_in, pattern_at, takes_in}
+use Rattle.fx_app.specs.Moments.{images_of}
+use Rattle.fx_app.specs.Reels.{Reel, graph_in, moments_in, pattern_at, scaled_in, takes_in}
 use Rattle.fx_app.specs.Tiles.{HasCounted}
 
 -- what a run renders, whose moments use these source frames, over tiles of a side, with a directory of as many
@@ -37,6 +45,7 @@ pub record IsPlan (p : Plan) : Type 0 where
   pub few : p.reel.first + p.reel.count ≤ LAST_FRAME + 1
   pub some : 1 ≤ p.reel.count
   pub few_takes : takes_in p.reel ≤ MOST_TAKES + 1
+  pub size : IsScale p.reel.scale
 
 -- ---- which moment is next
 
@@ -58,6 +67,7 @@ AreTakesFrom r k (take ∷ more) = IsTakeOf r k take × AreTakesFrom r (suc k) m
 -- The scene is at a take of the reel, behind which these are left. The moments before the next one are all those of the
 -- takes before, and those of this take before the frame.
 pub record IsAt (p : Plan) (m : Making) : Type 0 where
+  pub scale : m.scale ≡ p.reel.scale
   pub written : m.scene.script.written ≡ p.reel.graph
   pub takes : m.scene.script.takes ≡ p.reel.edits
   pub graph : m.scene.graph ≡ graph_of_take p.reel.graph p.reel.edits m.scene.script.take
@@ -83,16 +93,30 @@ abbrev pub EndsHold : Reel → ℕ → Type 0
 EndsHold r n =
     (j : ℕ) → j < n → EndsStay meaning_of (graph_in r j) × EndsReached meaning_of (graph_in r j)
 
--- The store has read the frames of the moments before, and what became of their window tiles is counted; those who render
--- knew a scene of which this one has grown
+-- the source frames that were handed in, moment by moment
+abbrev pub handed_in : List (Kept (Vec SourceFrame Global)) → List SourceFrame
+handed_in moments = flat_map (λ frames. frames.value.items) moments
+
+abbrev pub seen_by : Making → List SourceFrame
+seen_by m = handed_in m.seen.items
+
+-- These are the frames of the moments before m. The store got them at 1/q of their size, and holds those of them that the
+-- last of these moments uses, or a later one
+pub record HoldsScaled (q : ℕ) (uses : List Use) (m : ℕ) (seen : List SourceFrame) (store : Store) : Type 0 where
+  pub seen_are : AreFramesOf (due_until uses m) seen
+  pub got : AllZip (IsScaledFrame q) seen (got_frames store)
+  pub held : held_frames store ≡ filter (is_used_frame uses (m - 1)) (got_frames store)
+
+-- The store has read the frames of the moments before at the reel's size, and what became of their window tiles is
+-- counted; those who render knew a scene of which this one has grown
 pub record IsMaking (p : Plan) (m : Making) : Type 0 where
   pub at : IsAt p m
-  pub read : HasRead p.uses m.next m.scene.store
+  pub read : HoldsScaled p.reel.scale p.uses m.next (seen_by m) m.scene.store
   pub crew : Crew
   pub crew_is : IsCrewOf p m crew
   pub knew : KnewScene m.scene crew
   pub hold : EndsHold p.reel m.next
-  pub counted : HasCounted p.reel (fetched_in m.scene.store) p.side p.cache m.next m.sum
+  pub counted : HasCounted p.reel (scaled_in p.reel (images_of (seen_by m))) p.side p.cache m.next m.sum
 
 -- it is one of the plan, and so many moments are left at least
 pub record MayMake (p : Plan) (uses : List Use) (more : ℕ) (m : Making) : Type 0 where
@@ -105,10 +129,6 @@ pub record MayMake (p : Plan) (uses : List Use) (more : ℕ) (m : Making) : Type
 abbrev pub AreDue : List Use → ℕ → List (List SourceFrame) → Type 0
 AreDue uses m [] = Unit {0}
 AreDue uses m (f ∷ fs) = AreFramesOf (due_at uses m) f × AreDue uses (m + 1) fs
-
--- the source frames that were handed in
-abbrev pub seen_by : Making → List SourceFrame
-seen_by m = got_frames m.scene.store
 
 -- the number of the next moment
 abbrev pub next_of : Making → ℕ

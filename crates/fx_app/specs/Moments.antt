@@ -4,6 +4,7 @@ use Rattle.fx_outside.specs.Outside.{Files}
 use Rattle.fx_image.specs.Stored.{image_of}
 use Rattle.fx_seq.specs.declared.source.SourceFrame.{SourceFrame}
 use Rattle.fx_seq.specs.Lists.{frames_in}
+use Rattle.fx_proxy.specs.Reduced.{IsScale}
 use Rattle.fx_scene.specs.Scenes.{Images}
 use Rattle.fx_pipe.specs.declared.made.Made.{Made}
 use Rattle.fx_tile.specs.declared.count.TileCount.{TileCount}
@@ -12,7 +13,7 @@ use Rattle.fx_words.specs.declared.fault.RunFault.{RunFault}
 use Rattle.fx_words.specs.declared.fault.RunFault.TheVariants as run
 use Rattle.fx_app.specs.Ended.{Calls}
 use Rattle.fx_app.specs.Files.{AreImages, HasGained, wanted_of}
-use Rattle.fx_app.specs.Reels.{Reel, file_name, file_text}
+use Rattle.fx_app.specs.Reels.{Reel, file_name, file_text, scaled_in}
 use Rattle.fx_app.specs.Run.{Cause, IsAccepted, Leaves, LeavesDepot, LeavesLibrary, Rose, count_in}
 use Rattle.fx_app.specs.Tiles.{HasCounted}
 
@@ -23,18 +24,20 @@ images_of frames n f = option_map image_of (frames_in frames n f)
 -- the file of moment m, over the frames that were read up to it
 pub record IsMomentFile (r : Reel) (seen : List SourceFrame) (m : ℕ) (made : Made) : Type 0 where
   pub name : made.name ≡ file_name r m
-  pub text : made.bytes.items ≡ file_text r (images_of seen) m
+  pub text : made.bytes.items ≡ file_text r (scaled_in r (images_of seen)) m
 
--- Every moment's file was put, and nothing else; so many window tiles became what the count tells
+-- Every moment's file was put, at a size that may be ordered, and nothing else; so many window tiles became what the
+-- count tells
 pub record HasRendered (tells : Type 0) (asked : Option Ordered) (library old new : Files) (count : TileCount)
     : Type 0 where
   pub known : IsAccepted asked library
   pub images : Images
   pub are : AreImages library (wanted_of known.job.uses) images
-  pub gained : tells → HasGained known.job.reel images (count_in known.job) old new
+  pub size : IsScale known.job.order.scale
+  pub gained : tells → HasGained known.job.reel (scaled_in known.job.reel images) (count_in known.job) old new
   pub counted :
       let order = known.job.order in
-      HasCounted known.job.reel images order.tile order.cache (count_in known.job) count
+      HasCounted known.job.reel (scaled_in known.job.reel images) order.tile order.cache (count_in known.job) count
 
 -- The moments end early, with a fault of a source frame, of a file, or want of memory
 pub record Stops (reads puts : Type 0) (asked : Option Ordered) (library : Files) (fetched put : Calls)

@@ -26,7 +26,7 @@ use Rattle.fx_words.specs.declared.fault.FrameFault.TheVariants as fault
 use Rattle.fx_words.specs.declared.fault.RunFault.{RunFault}
 use Rattle.fx_words.specs.declared.fault.RunFault.TheVariants as run
 use Rattle.fx_app.specs.Graphs.{FileShown, Graph, graph_under, name_at}
-use Rattle.fx_app.specs.Reels.{IsReelOf, Reel, file_name, moments_in, takes_in}
+use Rattle.fx_app.specs.Reels.{IsReelOf, Reel, file_name, moments_in, scaled_in, takes_in}
 use Rattle.fx_app.specs.Files.{AreAccepted, AreImages, AreUsesOf, HasGained, HasGainedBut, IsReachedAt, IsRefusedAt, wanted_of}
 use Rattle.fx_app.specs.Tiles.{ends_in, renders_in}
 
@@ -63,14 +63,14 @@ NamesNoGraph asked library = (code : GraphCode) × (path : List ℕ) × IsRefuse
 
 -- ---- what a run leaves in the depot
 
--- the files of n moments were put, over the source frames that they want, and nothing else
+-- the files of n moments were put, over the source frames that they want at the size that is ordered, and nothing else
 pub record HasPut (asked : Option Ordered) (library : Files) (n : ℕ) (old new : Files) : Type 0 where
   pub job : Job asked library
   pub few : n ≤ count_in job
   pub accepted : AreAccepted library job.uses n
   pub images : Images
   pub are : AreImages library (due_until job.uses n) images
-  pub gained : HasGained job.reel images n old new
+  pub gained : HasGained job.reel (scaled_in job.reel images) n old new
 
 -- the same of n moments, but the file of the moment behind them, which has this name, holds anything or is absent
 pub record HasPutBut (asked : Option Ordered) (library : Files) (n : ℕ) (file : List ℕ) (old new : Files) : Type 0 where
@@ -80,24 +80,24 @@ pub record HasPutBut (asked : Option Ordered) (library : Files) (n : ℕ) (file 
   pub images : Images
   pub are : AreImages library (due_until job.uses n) images
   pub file_is : file ≡ file_name job.reel n
-  pub gained : HasGainedBut job.reel images n old new
+  pub gained : HasGainedBut job.reel (scaled_in job.reel images) n old new
 
 -- the file of every moment was put, and nothing else
 pub record HasPutAll (asked : Option Ordered) (library : Files) (old new : Files) : Type 0 where
   pub known : IsAccepted asked library
   pub images : Images
   pub are : AreImages library (wanted_of known.job.uses) images
-  pub gained : HasGained known.job.reel images (count_in known.job) old new
+  pub gained : HasGained known.job.reel (scaled_in known.job.reel images) (count_in known.job) old new
 
 -- ---- what it reports
 
 -- where the window tiles of the job's moments are found
 abbrev pub tile_ends : {asked : Option Ordered} {library : Files} → Job asked library → Images → List EndShown
-tile_ends job images = ends_in job.reel images job.order.tile (count_in job)
+tile_ends job images = ends_in job.reel (scaled_in job.reel images) job.order.tile (count_in job)
 
 -- how many renders those of them need that are renders
 abbrev pub tile_renders : {asked : Option Ordered} {library : Files} → Job asked library → Images → ℕ
-tile_renders job images = renders_in job.reel images job.order.tile (count_in job)
+tile_renders job images = renders_in job.reel (scaled_in job.reel images) job.order.tile (count_in job)
 
 -- the lines of a report, in mode `takes` with the number of takes
 abbrev pub lines_for : Mode → ℕ → ℕ → TileCounts → ℕ → ℕ → List ℕ

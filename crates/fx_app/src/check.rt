@@ -7,7 +7,7 @@ ghost use Rattle.fx_app.specs.Run.{Job};
 ghost use Rattle.fx_app.specs.Check.{HasChecked};
 ghost use Rattle.fx_app.specs.Ended.{calls, Ended};
 
-use crate::graph::{graph_of, node_count};
+use crate::graph::{graph_of, node_count, ordered};
 use crate::order::{first_of, frame_count, last_of};
 use crate::report::report_lines;
 use crate::sources::count_wanted;
@@ -41,12 +41,13 @@ pub(crate) fn check<L: Library, O: Sink>(
         fetches puts writes files texts e) }
 {
     let file = graph_of(alloc, &order.graph, library)?;
-    let first = first_of(&file.graph, order);
-    let last = last_of(&file.graph, order);
+    let small = ordered(alloc, order, file);
+    let first = first_of(&small.graph, order);
+    let last = last_of(&small.graph, order);
     let report = Report::Check {
-        nodes: node_count(&file.graph),
+        nodes: node_count(&small.graph),
         frames: frame_count(first, last),
-        wanted: count_wanted(alloc, &file.graph, first, last)?,
+        wanted: count_wanted(alloc, &small.graph, first, last)?,
     };
     report_lines(alloc, out, &report)?;
     Ok(())

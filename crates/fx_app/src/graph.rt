@@ -6,7 +6,8 @@ ghost use Rattle.fx_text.specs.Answers.{Refuses};
 ghost use Rattle.fx_text.specs.declared.raw.TheConstants.{MOST_TAKES};
 ghost use Rattle.fx_scene.specs.Scenes.{graph_shown};
 ghost use Rattle.fx_app.specs.Graphs.{accepted_of, file_shown, graph_of, graph_under, raw_of};
-ghost use Rattle.fx_app.specs.Reels.{takes_for};
+ghost use Rattle.fx_proxy.specs.Reduced.{IsScale};
+ghost use Rattle.fx_app.specs.Reels.{ordered_file, scaled_file, takes_for};
 ghost use Rattle.fx_app.specs.Takes.{AreTakesOf};
 ghost use Rattle.fx_app.specs.Steps.{graph_fault, GraphCause, GraphFetch};
 ghost use Rattle.fx_app.specs.declared.graph.GraphFailure.TheVariants.{Memory as OutOfMemory, Read as NotRead};
@@ -16,10 +17,12 @@ use fx_base::{Memory, Name};
 use fx_graph::{Graph, accept};
 use fx_group::expand;
 use fx_outside::{FetchFault, Library};
+use fx_proxy::laws::lengths_are_described;
+use fx_proxy::{scaled, scaled_takes};
 use fx_shipped::Shipped;
 use fx_takes::{Takes, accept_takes};
 use fx_text::{GraphCode, GraphFault, GraphPath, RawGraph, read_graph};
-use fx_words::{Mode, RunFault};
+use fx_words::{Mode, Order, RunFault};
 use std::alloc::Global;
 
 /// The graph of a file as it is written, and its takes.
@@ -123,8 +126,34 @@ pub(crate) fn accepted_of(alloc: Global, mut raw: RawGraph) -> Result<GraphFile,
     Ok(GraphFile { graph, takes })
 }
 
-/// The graph with those of its takes that are rendered in a mode: in mode `takes` all of them, and else none.
-pub(crate) fn ordered_takes(alloc: Global, mode: Mode, file: GraphFile) -> GraphFile
+/// What is ordered of a file: the graph with those of its takes that are rendered, at the size that is ordered.
+pub(crate) fn ordered(alloc: Global, order: &Order, file: GraphFile) -> GraphFile
+    requires { AreTakesOf (graph_shown file.graph).nodes file.takes.list.items }
+    ensures size { IsScale order.now.scale }
+    ensures shown { file_shown result ≡ ordered_file order.now (file_shown file) }
+    ensures takes { AreTakesOf (graph_shown result.graph).nodes result.takes.list.items }
+{
+    scaled_file(ordered_takes(alloc, order.mode, file), order.scale)
+}
+
+// The graph and its takes at 1/q of their size.
+fn scaled_file(file: GraphFile, q: u32) -> GraphFile
+    requires scale { IsScale q }
+    requires takes { AreTakesOf (graph_shown file.graph).nodes file.takes.list.items }
+    ensures shown { file_shown result ≡ scaled_file q (file_shown file) }
+    ensures takes { AreTakesOf (graph_shown result.graph).nodes result.takes.list.items }
+{
+    let GraphFile { graph, takes } = file;
+    lengths_are_described(&graph);
+    let takes = scaled_takes(&graph, takes, q);
+    match scaled(graph, q) {
+        Ok(graph) => GraphFile { graph, takes },
+        Err(_) => unreachable!(),
+    }
+}
+
+// The graph with those of its takes that are rendered in a mode: in mode `takes` all of them, and else none.
+fn ordered_takes(alloc: Global, mode: Mode, file: GraphFile) -> GraphFile
     requires { AreTakesOf (graph_shown file.graph).nodes file.takes.list.items }
     ensures shown { let takes = takes_for mode (file_shown file).takes in
         file_shown result ≡ record (file_shown file) { takes = takes } }
@@ -132,7 +161,7 @@ pub(crate) fn ordered_takes(alloc: Global, mode: Mode, file: GraphFile) -> Graph
 {
     match mode {
         Mode::Takes => file,
-        Mode::Render | Mode::Check | Mode::Bench | Mode::Migrate => {
+        Mode::Render | Mode::Check | Mode::Bench | Mode::Migrate | Mode::Plan => {
             let GraphFile { graph, .. } = file;
             let takes = Takes {
                 list: Vec::new(alloc),
@@ -150,7 +179,7 @@ pub(crate) fn take_count(mode: Mode, file: &GraphFile) -> u64
 {
     match mode {
         Mode::Takes => file.takes.list.len() as u64 + 1,
-        Mode::Render | Mode::Check | Mode::Bench | Mode::Migrate => 1,
+        Mode::Render | Mode::Check | Mode::Bench | Mode::Migrate | Mode::Plan => 1,
     }
 }
 

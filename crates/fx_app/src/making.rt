@@ -1,14 +1,17 @@
-//! What is made of a moment: its take is begun, its source frames are held, its picture is rendered, and its file is
-//! written in memory.
+//! What is made of a moment: its take is begun, its source frames are scaled and held, its picture is rendered, and its
+//! file is written in memory.
 ghost use Rattle.std.specs.Prelude.{List};
 ghost use Rattle.fx_region.specs.Held.{EndsReached, EndsStay};
+ghost use Rattle.fx_scene.specs.Depends.{PicturesDependOnWanted};
 ghost use Rattle.fx_scene.specs.Holds.{PicturesStay};
 ghost use Rattle.fx_scene.specs.Scenes.{graph_shown};
 ghost use Rattle.fx_scene.specs.Takes.{AreEdits};
 ghost use Rattle.fx_scene.specs.declared.take.Edit.{Edit as AnyEdit};
 ghost use Rattle.fx_shipped.specs.Shipped.{meaning_of};
+ghost use Rattle.fx_plan.specs.Agree.{EndsAgree};
 
 use crate::crew::Crew;
+use crate::holding::hold;
 use fx_base::{Memory, Name, Pattern};
 use fx_graph::Graph;
 use fx_image::Image;
@@ -16,10 +19,12 @@ use fx_life::Life;
 use fx_outside::Pace;
 use fx_pam::write;
 use fx_pipe::Made;
+use fx_plan::ends_agree;
 use fx_region::held_laws::ends_stay;
 use fx_scene::Scene;
+use fx_scene::laws::value_depends_on_reach;
 use fx_scene::take_laws::{edits_keep, pictures_stay};
-use fx_seq::{SourceFrame, Use};
+use fx_seq::{Kept, SourceFrame, Use};
 use fx_shipped::Shipped;
 use fx_takes::Take;
 use fx_tile::TileCount;
@@ -38,6 +43,10 @@ pub(crate) struct Making {
     /// They are away only while their name is renewed.
     pub crew: Option<Crew>,
     pub sum: TileCount,
+    /// The frames are rendered at 1/scale of their size.
+    pub scale: u32,
+    /// The source frames that were handed in, moment by moment, for contracts.
+    pub seen: Vec<Kept<Vec<SourceFrame>>>,
     /// The takes behind the one that is rendered.
     pub takes: VecDeque<Take>,
     /// The pattern of the files of the take that is rendered; of the graph as it is written it is the graph's.
@@ -60,17 +69,17 @@ impl Making {
     ghost use Rattle.fx_image.specs.Image.{SameImage};
     ghost use Rattle.fx_image.specs.Stored.{image_of};
     ghost use Rattle.fx_life.specs.Posts.{HasLife};
-    ghost use Rattle.fx_seq.specs.Held.{HasRead};
     ghost use Rattle.fx_seq.specs.Lists.{AreFramesOf};
     ghost use Rattle.fx_seq.specs.Moments.{AreOnce, due_at};
     ghost use Rattle.fx_pipe.specs.Blocks.{Makes, fetched_in};
+    ghost use Rattle.fx_proxy.specs.Reduced.{IsScale};
     ghost use Rattle.fx_scene.specs.Right.{HasWanted};
     ghost use Rattle.fx_scene.specs.Scenes.{images_in, picture};
     ghost use Rattle.fx_scene.specs.Scripts.{HasGrownTo};
     ghost use Rattle.fx_shipped.specs.Shipped.{number_of};
     ghost use Rattle.fx_app.specs.declared.crew.Crew.{Crew as AnyCrew};
     ghost use Rattle.fx_app.specs.Crews.{IsCrew, IsRenewed, KnewScene};
-    ghost use Rattle.fx_app.specs.Making.{AreDue, HasDrawn, IsAt, IsMaking, IsPlan, MayMake, Plan, pattern_in, seen_by};
+    ghost use Rattle.fx_app.specs.Making.{AreDue, HasDrawn, HoldsScaled, IsAt, IsMaking, IsPlan, MayMake, Plan, pattern_in, seen_by};
     ghost use Rattle.fx_app.specs.Moments.{IsMomentFile};
     ghost use Rattle.fx_app.specs.Reels.{picture_text};
 
@@ -133,7 +142,7 @@ impl Making {
             ((seen_by self.new ≡ seen_by self.old) ⊎ (seen_by self.new ≡ seen_by self.old ++ frames.items)) }
     {
         self.begin()?;
-        self.advance(uses, frames)?;
+        self.advance(alloc, uses, frames)?;
         self.renew(alloc)?;
         more_is_same(self.scene.graph());
         let name = self.name(alloc)?;
@@ -182,23 +191,38 @@ impl Making {
         }
     }
 
-    // Lets the frames go that no moment wants any more, and holds those that the next moment is the first to want.
-    fn advance(&mut self, uses: &[Use], frames: Vec<SourceFrame>) -> Result<(), Memory>
+    // Lets the frames go that no moment wants any more, and holds those that the next moment is the first to want, at the
+    // size that is rendered.
+    fn advance(
+        &mut self,
+        alloc: Global,
+        uses: &[Use],
+        frames: Vec<SourceFrame>,
+    ) -> Result<(), Memory>
+        requires scale { IsScale self.old.scale }
         requires once { AreOnce uses.now }
-        requires read { HasRead uses.now self.old.next self.old.scene.store }
+        requires read { HoldsScaled self.old.scale uses.now self.old.next (seen_by self.old) self.old.scene.store }
         requires due { AreFramesOf (due_at uses.now self.old.next) frames.items }
-        ensures rest { self.new ≡ record self.old { scene = self.new.scene } }
+        ensures rest { self.new ≡ record self.old { scene = self.new.scene; seen = self.new.seen } }
         ensures graph { self.new.scene.graph ≡ self.old.scene.graph }
         ensures script { self.new.scene.script ≡ self.old.scene.script }
         ensures grown { HasGrownTo self.old.scene self.new.scene }
-        ensures read { OnOk result (HasRead uses.now (self.old.next + 1) self.new.scene.store) }
+        ensures read { let next = self.old.next + 1 in
+            OnOk result (HoldsScaled self.old.scale uses.now next (seen_by self.new) self.new.scene.store) }
         ensures seen { OnOk result (seen_by self.new ≡ seen_by self.old ++ frames.items) }
-        ensures unseen { OnErr result (seen_by self.new ≡ seen_by self.old) }
+        ensures memory { OnErr result
+            ((seen_by self.new ≡ seen_by self.old) ⊎ (seen_by self.new ≡ seen_by self.old ++ frames.items)) }
     {
-        let Ok(()) = self.scene.advance(uses, self.next, frames) else {
-            return Err(Memory);
-        };
-        Ok(())
+        let moment = self.next;
+        hold(
+            alloc,
+            &mut self.scene,
+            &mut self.seen,
+            self.scale,
+            uses,
+            moment,
+            frames,
+        )
     }
 
     // Those who render get the name of the scene as it is now.
@@ -282,14 +306,18 @@ impl Making {
 }
 
 /// More source frames change no picture and no end of which all that it wants was there, at any take of edits that may be
-/// done. It computes nothing.
+/// done, and neither depends on any image but those that it wants. It computes nothing.
 pub(crate) fn more_is_same(graph: &Graph<Shipped>)
     ensures pictures { let g = graph_shown graph.now in (takes : List (List AnyEdit)) → AreEdits g.nodes takes
         → PicturesStay meaning_of g takes }
     ensures ends { EndsStay meaning_of (graph_shown graph.now) }
     ensures reached { EndsReached meaning_of (graph_shown graph.now) }
+    ensures depend { PicturesDependOnWanted meaning_of (graph_shown graph.now) }
+    ensures agree { EndsAgree meaning_of (graph_shown graph.now) }
 {
     edits_keep(graph);
     pictures_stay(graph);
     ends_stay(graph);
+    value_depends_on_reach(graph);
+    ends_agree(graph);
 }

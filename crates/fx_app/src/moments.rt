@@ -21,7 +21,7 @@ ghost use Rattle.fx_app.specs.Takes.{AreTakesOf};
 ghost use Rattle.fx_app.specs.Turns.{IsFinished, IsUnderWay, Moves, QuietAtPut};
 
 use crate::crew::Crew;
-use crate::graph::{GraphFile, ordered_takes};
+use crate::graph::{GraphFile, ordered};
 use crate::making::{Making, more_is_same};
 use crate::order::{ahead_for, first_of, frame_count, last_of};
 use crate::rounds::round;
@@ -79,7 +79,7 @@ pub(crate) fn put_moments<
         (calls (D.faults depot.old) (D.faults depot.new) (D.last depot.old) (D.last depot.new))
         (D.file depot.old) (D.file depot.new)) }
 {
-    let file = ordered_takes(alloc, order.mode, file);
+    let file = ordered(alloc, order, file);
     let first = first_of(&file.graph, order);
     let last = last_of(&file.graph, order);
     let Ok(uses) = uses(alloc, &file.graph, &file.takes, first, last) else {
@@ -132,7 +132,7 @@ fn begun(
     requires last { last ≤ LAST_FRAME }
     ensures written { IfOk result (λ r. r.0.scene.script.written ≡ graph_shown file.graph) }
     ensures life { IfOk result (λ r. HasLife number_of r.0.scene.script.written r.1) }
-    ensures making { let reel = reel_with (graph_shown file.graph) file.takes.list.items first last in
+    ensures making { let reel = reel_with order.now.scale (graph_shown file.graph) file.takes.list.items first last in
         (p : Plan) → p.reel ≡ reel → p.side ≡ order.now.tile → p.cache ≡ order.now.cache
         → IfOk result (λ r. IsMaking p r.0) }
     ensures next { IfOk result (λ r. r.0.next ≡ 0) }
@@ -147,6 +147,8 @@ fn begun(
         scene,
         crew: Some(crew),
         sum: TileCount::none(),
+        scale: order.scale,
+        seen: Vec::new(alloc),
         takes: VecDeque::from(takes.list),
         file: None,
         first,

@@ -39,6 +39,6 @@ pub(crate) fn ahead_for(mode: Mode, ahead: u32) -> u32
 {
     match mode {
         Mode::Render | Mode::Takes => ahead,
-        Mode::Check | Mode::Bench | Mode::Migrate => 0,
+        Mode::Check | Mode::Bench | Mode::Migrate | Mode::Plan => 0,
     }
 }

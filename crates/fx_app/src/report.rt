@@ -87,7 +87,7 @@ fn report_of(mode: Mode, takes: u64, frames: u64, count: TileCount) -> Option<Re
             landed,
             hits,
         },
-        Mode::Render | Mode::Check | Mode::Bench | Mode::Migrate => Report::Render {
+        Mode::Render | Mode::Check | Mode::Bench | Mode::Migrate | Mode::Plan => Report::Render {
             frames,
             tiles,
             void_tiles,

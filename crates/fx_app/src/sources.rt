@@ -1,8 +1,9 @@
 //! The source frames of a run.
-ghost use Rattle.std.specs.Prelude.{◌≡◌, ◌≤◌, IfOk, IfErr};
+ghost use Rattle.std.specs.Prelude.{◌≡◌, ◌≤◌, ℕ, IfOk, IfErr};
 ghost use Rattle.fx_base.specs.declared.limits.TheConstants.{LAST_FRAME};
 ghost use Rattle.fx_scene.specs.Scenes.{graph_shown};
 ghost use Rattle.fx_words.specs.declared.fault.RunFault.TheVariants.{Memory as OutOfMemory};
+ghost use Rattle.fx_app.specs.Files.{AreUsesOf};
 ghost use Rattle.fx_app.specs.Graphs.{name_at};
 ghost use Rattle.fx_app.specs.Reels.{plain_reel};
 ghost use Rattle.fx_app.specs.Run.{frame_fault};
@@ -11,7 +12,7 @@ ghost use Rattle.fx_app.specs.Steps.{IsSourceFault, WantsAsMany};
 use fx_base::{Memory, Name};
 use fx_graph::Graph;
 use fx_pam::PamFault;
-use fx_seq::SeqFault;
+use fx_seq::{SeqFault, Use};
 use fx_shipped::Shipped;
 use fx_takes::{Takes, uses};
 use fx_words::{FrameFault, RunFault};
@@ -20,7 +21,7 @@ use std::alloc::Global;
 /// As many bytes as the pixels of the source frames may have together that are held at once.
 pub(crate) const MOST_BYTES: u64 = 1 << 31;
 
-/// How many source frames the frames from `first` to `last` want of the graph as it is written.
+/// How many source frames the frames from `first` to `last` want of the graph alone, at whatever size.
 pub(crate) fn count_wanted(
     alloc: Global,
     graph: &Graph<Shipped>,
@@ -28,14 +29,30 @@ pub(crate) fn count_wanted(
     last: u32,
 ) -> Result<u64, RunFault>
     requires { last ≤ LAST_FRAME }
-    ensures ok { IfOk result (λ count. WantsAsMany (plain_reel (graph_shown graph.now) first last) count) }
+    ensures ok { (q : ℕ) → IfOk result (λ count. WantsAsMany (plain_reel q (graph_shown graph.now) first last) count) }
+    ensures err { IfErr result (λ e. e ≡ OutOfMemory) }
+{
+    let uses = plain_uses(alloc, graph, first, last)?;
+    Ok(uses.len() as u64)
+}
+
+/// Which source frames the frames from `first` to `last` want of the graph alone, at whatever size.
+pub(crate) fn plain_uses(
+    alloc: Global,
+    graph: &Graph<Shipped>,
+    first: u32,
+    last: u32,
+) -> Result<Vec<Use>, RunFault>
+    requires { last ≤ LAST_FRAME }
+    ensures ok { (q : ℕ) → let reel = plain_reel q (graph_shown graph.now) first last in
+        IfOk result (λ uses. AreUsesOf reel uses.items) }
     ensures err { IfErr result (λ e. e ≡ OutOfMemory) }
 {
     let none = Takes {
         list: Vec::new(alloc),
     };
     match uses(alloc, graph, &none, first, last) {
-        Ok(uses) => Ok(uses.len() as u64),
+        Ok(uses) => Ok(uses),
         Err(Memory) => Err(RunFault::Memory),
     }
 }

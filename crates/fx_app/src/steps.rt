@@ -4,7 +4,7 @@ ghost use Rattle.fx_outside.specs.Outside.{AddsPrefix, Files, HasRisen};
 ghost use Rattle.fx_seq.specs.Filling.{IsQuiet};
 ghost use Rattle.fx_words.specs.Ordered.{Ordered};
 ghost use Rattle.fx_words.specs.Texts.{fault_text};
-ghost use Rattle.fx_words.specs.declared.order.Mode.TheVariants.{Check, Bench, Migrate};
+ghost use Rattle.fx_words.specs.declared.order.Mode.TheVariants.{Check, Bench, Migrate, Plan};
 ghost use Rattle.fx_words.specs.declared.fault.RunFault.{RunFault};
 ghost use Rattle.fx_words.specs.declared.fault.RunFault.TheVariants.{Memory as OutOfMemory, Usage as OtherWords};
 ghost use Rattle.fx_words.specs.Order.{order_of};
@@ -14,11 +14,13 @@ ghost use Rattle.fx_app.specs.Run.{ahead_in, is_status, Job, IsAccepted, NamesNo
 ghost use Rattle.fx_app.specs.Check.{HasChecked};
 ghost use Rattle.fx_app.specs.Bench.{made_for, HasBenched};
 ghost use Rattle.fx_app.specs.Migrate.{Migration, HasMigrated, HasToldNodes, NamesSlash};
+ghost use Rattle.fx_app.specs.Plans.{HasPlanned};
 ghost use Rattle.fx_app.specs.Ended.{calls, Ended};
 
 use crate::bench::bench;
 use crate::check::check;
 use crate::migrate::migrate;
+use crate::plan::plan;
 use crate::render::render;
 use crate::tell::tell;
 use fx_outside::{Depot, Library, Pace, Sink};
@@ -29,15 +31,16 @@ use std::sync::Wait;
 use std::thread::Threads;
 
 /// Does what the words order: it renders the frames of a graph and puts their files, as it is written alone or also at
-/// each of its takes, checks a graph, writes it again in format 2, or renders in memory what is made of a number. The
-/// answer is the exit status of the program: 0 done, 1 words that are no use of the command, 2 a graph that is refused,
-/// 3 a source frame that is refused, 4 a fetch that failed, 5 a put that failed, 6 want of memory, 7 a report that could
-/// not be written. Each other than 0 writes its line on `err`. A check fetches the graph alone and puts nothing, a
-/// migration puts one file, and a bench does neither. Frames are rendered one after another, each in tiles of the side
-/// that is ordered, by as many workers as are ordered; as many tiles are kept as are ordered. Where blocks of frames are
-/// ordered, the source frames of one are read and the files of one are put while the frames of the block between them
-/// are rendered; the fault that is told is the first in the order without blocks. These four options change no byte of a
-/// file. Each worker calls `pace.before_draw` before each of its draws.
+/// each of its takes, checks a graph, writes it again in format 2, renders in memory what is made of a number, or tells
+/// which tiles the frames of a graph demand. The answer is the exit status of the program: 0 done, 1 words that are no
+/// use of the command, 2 a graph that is refused, 3 a source frame that is refused, 4 a fetch that failed, 5 a put that
+/// failed, 6 want of memory, 7 a report that could not be written. Each other than 0 writes its line on `err`. A check
+/// fetches the graph alone and puts nothing, a migration puts one file, a bench does neither, and a plan fetches what
+/// a render fetches and puts nothing. Frames are rendered one after another, each in tiles of the side that is ordered,
+/// by as many workers as are ordered; as many tiles are kept as are ordered. Where blocks of frames are ordered, the
+/// source frames of one are read and the files of one are put while the frames of the block between them are rendered;
+/// the fault that is told is the first in the order without blocks. These four options change no byte of a file. Each
+/// worker calls `pace.before_draw` before each of its draws.
 pub fn run<
     R: Threads + Wait + Clock + Sync,
     L: Library + Send,
@@ -126,6 +129,21 @@ pub fn run<
         → NamesSlash (order_of (map string_bytes words.now)) (L.file library.old)
         → (HasRisen (L.faults library.old) (L.faults library.new) → ⊥) → (result ≡ 2) ⊎ (result ≡ 6) }
 
+    // A plan at status 0 was accepted, and its report was written: what each frame demands, exactly and in order. It
+    // reads what a render reads, and leaves the depot as it was.
+    ensures planned { Orders (map string_bytes words.now) Plan → L.tells → result ≡ 0
+        → IsAccepted (order_of (map string_bytes words.now)) (L.file library.old) }
+    ensures plan_reports { Orders (map string_bytes words.now) Plan → L.tells → O.tells → result ≡ 0
+        → HasPlanned (order_of (map string_bytes words.now)) (L.file library.old)
+        (O.written out.old) (O.written out.new) }
+    ensures plan_keeps { Orders (map string_bytes words.now) Plan → depot.new ≡ depot.old }
+    ensures plan_statuses { Orders (map string_bytes words.now) Plan → result ≢ 5 }
+    ensures plan_completes { Orders (map string_bytes words.now) Plan → L.tells
+        → IsAccepted (order_of (map string_bytes words.now)) (L.file library.old)
+        → (HasRisen (L.faults library.old) (L.faults library.new) → ⊥)
+        → (HasRisen (O.faults out.old) (O.faults out.new) → ⊥)
+        → (result ≡ 0) ⊎ (result ≡ 6) }
+
     // At status 0 no line is written. Each other status has a fault, which the outside shows, which has its cause,
     // leaves what it leaves, and is told on `err`. No count of faults rose but where the fault tells of it, at 6 too.
     ensures silent { result ≡ 0 → F.written err.new ≡ F.written err.old }
@@ -204,6 +222,12 @@ fn outcome<R: Threads + Wait + Clock + Sync, L: Library + Send, D: Depot + Send,
     ensures migrate_told { let asked = order_of (map string_bytes words.now) in
         Orders (map string_bytes words.now) Migrate → L.tells → O.tells
         → OnOk result (HasToldNodes asked (L.file library.old) (O.written out.old) (O.written out.new)) }
+    ensures planned { Orders (map string_bytes words.now) Plan → L.tells
+        → OnOk result (IsAccepted (order_of (map string_bytes words.now)) (L.file library.old)) }
+    ensures plan_told { let asked = order_of (map string_bytes words.now) in
+        Orders (map string_bytes words.now) Plan → L.tells → O.tells
+        → OnOk result (HasPlanned asked (L.file library.old) (O.written out.old) (O.written out.new)) }
+    ensures plan_keeps { Orders (map string_bytes words.now) Plan → depot.new ≡ depot.old }
     ensures quiet_library { OnOk result
         (IsQuiet (L.faults library.old) (L.faults library.new) (L.last library.old) (L.last library.new)) }
     ensures quiet_depot { OnOk result
@@ -226,6 +250,7 @@ fn outcome<R: Threads + Wait + Clock + Sync, L: Library + Send, D: Depot + Send,
         Mode::Check => check(alloc, &order, library, out),
         Mode::Bench => bench(rt, alloc, pace, &order, out),
         Mode::Migrate => migrate(alloc, &order, library, depot, out),
+        Mode::Plan => plan(alloc, &order, library, out),
     }
 }
 

@@ -7,18 +7,18 @@ ghost use Rattle.fx_region.specs.Ends.{end_of, end_shown};
 ghost use Rattle.fx_region.specs.Needs.{need_shown};
 ghost use Rattle.fx_region.specs.Tables.{AreRegions, Has, IsMadeOf};
 ghost use Rattle.fx_scene.specs.Areas.{area};
-ghost use Rattle.fx_scene.specs.Depends.{AreImages};
-ghost use Rattle.fx_scene.specs.Right.{HasGrown, HasWanted};
+ghost use Rattle.fx_scene.specs.Depends.{AgreeOnWanted, AreImages};
+ghost use Rattle.fx_scene.specs.Right.{HasWanted};
 ghost use Rattle.fx_scene.specs.Scenes.{Images, images_in};
 ghost use Rattle.fx_scene.specs.Sites.{scene_nodes};
 ghost use Rattle.fx_plan.specs.Keys.{Adds, AreDemanded, AreRenders, HasRect, IsRenderEntry, KeyHasRect, entry_of, key_region};
 ghost use Rattle.fx_plan.specs.Plan.{IsBefore, IsPlanOf, entry_at, need_entry, needed_entries, window_entries};
 
 use crate::entry::{Entry, SortKey};
+use crate::laws::ends_agree;
 use fx_actions::Asking;
 use fx_base::{Grid, Memory, Rect};
 use fx_effect::Catalogue;
-use fx_region::held_laws::ends_stay;
 use fx_region::{End, Need, Regions, demand_by, follow_by};
 use fx_scene::Scene;
 use fx_scene::laws::{scene_is, scene_nodes};
@@ -42,16 +42,17 @@ pub fn plan<E: Catalogue>(
     ensures plan { let g = scene.now.graph in let held = images_in scene.now.store in
         IfOk result (λ entries. IsPlanOf E.meaning g held grid frame entries.items) }
 
-    // It is the same over all that was fetched, and whatever more is.
-    ensures stays { let g = scene.now.graph in let held = images_in scene.now.store in
-        IfOk result (λ entries. (more : Images) → AreImages more → HasGrown held more
-        → IsPlanOf E.meaning g more grid frame entries.items) }
+    // It is the same over any images that have the same of what the frame wants.
+    ensures agrees { let g = scene.now.graph in let held = images_in scene.now.store in
+        IfOk result (λ entries. (other : Images) → AreImages other
+        → AgreeOnWanted E.meaning g g.output frame frame held other
+        → IsPlanOf E.meaning g other grid frame entries.items) }
 {
     let demanded = demanded_keys(alloc, scene, regions, frame, grid)?;
     let entries = entries_of(alloc, &demanded)?;
-    // They tell the proof that more frames change no end of what is reached.
+    // They tell the proof that no other images change an end of what is reached.
     scene_is(scene);
-    ends_stay(scene.graph());
+    ends_agree(scene.graph());
     Ok(entries)
 }
 

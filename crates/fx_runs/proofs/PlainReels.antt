@@ -16,14 +16,14 @@ use Rattle.fx_words.specs.declared.order.Mode.{Mode}
 use Rattle.fx_words.specs.declared.order.Mode.TheVariants.{Render}
 use Rattle.fx_app.specs.Graphs.{Graph, first_of, frame_count, last_of}
 use Rattle.fx_app.specs.Files.{with_file, with_moments}
-use Rattle.fx_app.specs.Reels.{file_name, file_text, moments_in, picture_text, plain_reel, takes_for, wanting_in}
+use Rattle.fx_app.specs.Reels.{file_name, file_text, moments_in, ordered_file, picture_text, plain_reel, takes_for, wanting_in}
 use Rattle.fx_app.specs.Run.{Job}
 use Rattle.fx_app.proofs.ReelLemmas.{alone_many, alone_name, plain_is}
 
 -- ---- its moments
 
-pub moments_are : (g : Graph) (a b : ℕ) → moments_in (plain_reel g a b) ≡ frame_count a b
-moments_are g a b = alone_many g a (frame_count a b)
+pub moments_are : (q : ℕ) (g : Graph) (a b : ℕ) → moments_in (plain_reel q g a b) ≡ frame_count a b
+moments_are q g a b = alone_many q g a (frame_count a b)
 
 nodes_stay : (nodes : List (Shown Shipped)) (k : ℕ) → nodes_at nodes [] k ≡ nodes
 nodes_stay nodes zero = refl
@@ -36,17 +36,17 @@ frame_is : (a n j : ℕ) → j < n → frame_at a n j ≡ a + j
 frame_is a n j low = ap (λ (k : ℕ). a + k) (mod-eq_of_lt low)
 
 -- what the frame of moment j wants, both ways
-module _ (g : Graph) (a b j k : ℕ) (f : ℤ) (low : j < frame_count a b) where
+module _ (q : ℕ) (g : Graph) (a b j k : ℕ) (f : ℤ) (low : j < frame_count a b) where
   abbrev Wants : Graph → ℕ → Type 0
   Wants h t = IsWanted (graph_nodes meaning_of h no_images) g.output (pos t) (pos t) k f
 
-  pub moment_wants : Wants g (a + j) → wanting_in (plain_reel g a b) j k f
+  pub moment_wants : Wants g (a + j) → wanting_in (plain_reel q g a b) j k f
   moment_wants wants =
       let n = frame_count a b in
       subst (λ (h : Graph). Wants h (frame_at a n j)) (sym (graph_stays g (take_at n j)))
       (subst (λ (t : ℕ). Wants g t) (sym (frame_is a n j low)) wants)
 
-  pub wants_of : wanting_in (plain_reel g a b) j k f → Wants g (a + j)
+  pub wants_of : wanting_in (plain_reel q g a b) j k f → Wants g (a + j)
   wants_of wants =
       let n = frame_count a b in
       subst (λ (t : ℕ). Wants g t) (frame_is a n j low)
@@ -64,9 +64,9 @@ with_frames g images a zero files = files
 with_frames g images a (suc n) files =
     with_file (frame_name g (a + n)) (picture_text g images (a + n)) (with_frames g images a n files)
 
-text_is : (g : Graph) (images : Images) (a b j : ℕ) → j < frame_count a b
-    → file_text (plain_reel g a b) images j ≡ picture_text g images (a + j)
-text_is g images a b j low =
+text_is : (q : ℕ) (g : Graph) (images : Images) (a b j : ℕ) → j < frame_count a b
+    → file_text (plain_reel q g a b) images j ≡ picture_text g images (a + j)
+text_is q g images a b j low =
     let n = frame_count a b in
     ap (λ (h : Graph). picture_text h images (frame_at a n j)) (graph_stays g (take_at n j))
     ∙ ap (λ (t : ℕ). picture_text g images t) (frame_is a n j low)
@@ -78,29 +78,30 @@ one_file name m n x y o p names texts rest =
     ∙ ap (λ (k : List ℕ). if bytes_eq n name then Some k else o) texts
     ∙ ap (λ (q : Option (List ℕ)). if bytes_eq n name then Some y else q) rest
 
-first_moments : (g : Graph) (images : Images) (a b n : ℕ) (files : Files) (name : List ℕ) → n ≤ frame_count a b
-    → with_moments (plain_reel g a b) images n files name ≡ with_frames g images a n files name
-first_moments g images a b zero files name few = refl
-first_moments g images a b (suc n) files name few =
-    let r = plain_reel g a b in
+first_moments : (q : ℕ) (g : Graph) (images : Images) (a b n : ℕ) (files : Files) (name : List ℕ) → n ≤ frame_count a b
+    → with_moments (plain_reel q g a b) images n files name ≡ with_frames g images a n files name
+first_moments q g images a b zero files name few = refl
+first_moments q g images a b (suc n) files name few =
+    let r = plain_reel q g a b in
     let low : n < frame_count a b = omega (arith, few) in
     one_file name (file_name r n) (frame_name g (a + n)) (file_text r images n) (picture_text g images (a + n))
     (with_moments r images n files name) (with_frames g images a n files name)
-    (alone_name g a (frame_count a b) n low) (text_is g images a b n low)
-    (first_moments g images a b n files name (omega (arith, few)))
+    (alone_name q g a (frame_count a b) n low) (text_is q g images a b n low)
+    (first_moments q g images a b n files name (omega (arith, few)))
 
 -- the files of its moments are those of the stretch's frames
-pub moments_are_frames : (g : Graph) (images : Images) (a b : ℕ) (files : Files) (name : List ℕ)
-    → with_moments (plain_reel g a b) images (moments_in (plain_reel g a b)) files name
+pub moments_are_frames : (q : ℕ) (g : Graph) (images : Images) (a b : ℕ) (files : Files) (name : List ℕ)
+    → with_moments (plain_reel q g a b) images (moments_in (plain_reel q g a b)) files name
     ≡ with_frames g images a (frame_count a b) files name
-moments_are_frames g images a b files name =
-    ap (λ (n : ℕ). with_moments (plain_reel g a b) images n files name) (moments_are g a b)
-    ∙ first_moments g images a b (frame_count a b) files name (omega arith)
+moments_are_frames q g images a b files name =
+    ap (λ (n : ℕ). with_moments (plain_reel q g a b) images n files name) (moments_are q g a b)
+    ∙ first_moments q g images a b (frame_count a b) files name (omega arith)
 
 -- ---- in mode `render` it is what is rendered
 
 pub is_plain : {asked : Option Ordered} {library : Files} (job : Job asked library) → job.order.mode ≡ Render
-    → job.reel ≡ plain_reel job.file.graph (first_of job.file.graph job.order) (last_of job.file.graph job.order)
+    → (let g = (ordered_file job.order job.file).graph in
+    job.reel ≡ plain_reel job.order.scale g (first_of g job.order) (last_of g job.order))
 is_plain job render =
     let none : takes_for job.order.mode job.file.takes ≡ [] = ap (λ (m : Mode). takes_for m job.file.takes) render in
     plain_is job.order job.file none job.reel job.is

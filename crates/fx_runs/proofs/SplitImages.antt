@@ -21,7 +21,9 @@ use Rattle.fx_pixel.specs.declared.Components.TheVariants as components
 use Rattle.fx_pixel.specs.declared.Depth.{Depth}
 use Rattle.fx_pixel.specs.declared.Pixel.{Pixel}
 use Rattle.fx_pixel.specs.declared.Pixel.TheVariants.{Rgba}
+use Rattle.fx_proxy.specs.Reduced.{IsScale, reduced}
 use Rattle.fx_scene.specs.Nodes.{IsFrameImage}
+use Rattle.fx_app.proofs.ScaledLemmas.{small_image}
 
 -- ---- one file, one image
 
@@ -185,6 +187,17 @@ module _ (bytes : List ℕ) (side : ℕ) (image : Image) (pam : IsPam bytes side
         });
         fit = record { depth = λ x y. (fits_by x y (within image.rect x y) refl).0; components = λ x y. (fits_by x y (within image.rect x y) refl).1 };
       }
+
+  -- and so is it at a fraction of its size
+  pub small_frame : (q : ℕ) → IsScale q → side ≤ MOST_SIDE → IsFrameImage (reduced q image)
+  small_frame q scale few =
+      let wide = is_ranged.width in
+      let high = is_ranged.height in
+      let w0 = wide.0 in let w1 = wide.1 in let h0 = high.0 in let h1 = high.1 in
+      small_image q scale image (ap (λ (r : Bounds). r.x1) pam.rect) (ap (λ (r : Bounds). r.y1) pam.rect)
+      (rw pam.rect (omega (arith, ints, w0), omega (arith, ints, w1, few)))
+      (rw pam.rect (omega (arith, ints, h0), omega (arith, ints, h1, few)))
+      (frame_image few).fit
 
 -- two images of the same bytes are the same
 pub same_image : (bytes : List ℕ) (side : ℕ) (a b : Image) → IsPam bytes side a → IsPam bytes side b → SameImage a b

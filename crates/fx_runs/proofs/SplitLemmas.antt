@@ -1,11 +1,12 @@
 -- A range of frames that is rendered in stretches.
-use Rattle.std.proofs.Common.{◌≡◌, ◌≤◌, ◌<◌, ◌+◌, ◌-◌, inl, inr, ◌⊎◌, ℕ, ℤ, pos, Bool, true, false, nat_eq, List, [], ◌∷◌, Option, Some, refl, sym, ap, subst, ◌∙◌, arith}
+use Rattle.std.proofs.Common.{◌≡◌, ◌≤◌, ◌<◌, ◌+◌, ◌-◌, inl, inr, ◌⊎◌, ℕ, ℤ, pos, Bool, true, false, nat_eq, List, [], ◌∷◌, Option, None, Some, refl, sym, ap, subst, ◌∙◌, arith}
 use Rattle.std.specs.Ordering.{int_eq}
 use Rattle.std.proofs.lemmas.Bool.{and_parts, false≢true}
 use Rattle.std.proofs.lemmas.Bool.Decides.{nat_tests, Decides-int_eq}
 use Rattle.std.proofs.lemmas.Int.{ints}
 use Rattle.std.proofs.lemmas.List.Elements.{All-contains}
 use Rattle.std.proofs.lemmas.Option.{none-some, same_Some}
+use Rattle.std.specs.Option.{option_map}
 use Rattle.std.specs.Prelude.{IsTrue}
 use Rattle.fx_base.specs.Pattern.{is_pattern, runs}
 use Rattle.fx_graph.specs.Graphs.{is_output}
@@ -18,6 +19,8 @@ use Rattle.fx_pam.specs.Text.{pam_text}
 use Rattle.fx_pam.specs.Reading.{IsPam}
 use Rattle.fx_seq.specs.declared.used.Use.{Use}
 use Rattle.fx_seq.specs.declared.wanted.Wanted.{Wanted}
+use Rattle.fx_proxy.specs.Proxy.{scaled_images}
+use Rattle.fx_proxy.specs.Reduced.{IsScale, reduced}
 use Rattle.fx_scene.specs.Depends as scene
 use Rattle.fx_scene.specs.Depends.{PicturesDependOnWanted}
 use Rattle.fx_scene.specs.Nodes.{IsFrameImage}
@@ -28,28 +31,29 @@ use Rattle.fx_scene.proofs.Members.{In, in_of}
 use Rattle.fx_scene.proofs.WantLemmas.{contains_of}
 use Rattle.fx_shipped.specs.Shipped.{meaning_of}
 use Rattle.fx_app.specs.Graphs.{Graph, frame_count}
-use Rattle.fx_app.specs.Reels.{Reel, moments_in, picture_text, plain_reel}
+use Rattle.fx_app.specs.Reels.{Reel, moments_in, picture_text, plain_reel, scaled_in}
 use Rattle.fx_app.specs.Files.{AreImages, AreUsesOf, HasGained, IsFileOf, wanted_of}
 use Rattle.fx_runs.specs.Stretches.{AreStretches, HasRun, HaveRun, IsIn, RunsAreSuch, Stretch, StretchesMakeWhole, StretchesWantNoMore}
 use Rattle.fx_base.specs.declared.limits.TheConstants.{MOST_SIDE}
 use Rattle.fx_runs.proofs.PlainReels.{frame_name, is_plain, moment_wants, moments_are, moments_are_frames, wants_of, with_frames}
 use Rattle.fx_runs.proofs.SplitFiles.{IsOf, hit, miss, seek}
-use Rattle.fx_runs.proofs.SplitImages.{frame_image, same_image}
+use Rattle.fx_runs.proofs.SplitImages.{same_image, small_frame}
+use Rattle.fx_app.proofs.ScaledLemmas.{same_small}
 use Rattle.fx_app.proofs.UsesLemmas.{from_wanted, one_name}
 
 -- ---- what is wanted
 
 -- what a frame wants is used by a run over a stretch that has the frame
-used_at : (g : Graph) (p : Stretch) (uses : List Use) → AreUsesOf (plain_reel g p.first p.last) uses → (t : ℕ) → IsIn p t
+used_at : (q : ℕ) (g : Graph) (p : Stretch) (uses : List Use) → AreUsesOf (plain_reel q g p.first p.last) uses → (t : ℕ) → IsIn p t
     → (k : ℕ) (f : ℤ) → IsWanted (graph_nodes meaning_of g no_images) g.output (pos t) (pos t) k f → ListsUse uses k f
-used_at g p uses are t is k f w =
+used_at q g p uses are t is k f w =
     let from = is.from in
     let to = is.to in
     let n = frame_count p.first p.last in
     let at : p.first + (t - p.first) ≡ t = omega (arith, from) in
     let low : t - p.first < n = omega (arith, from, to) in
-    are.moments.all (t - p.first) k f (subst (λ (m : ℕ). t - p.first < m) (sym (moments_are g p.first p.last)) low)
-    (moment_wants g p.first p.last (t - p.first) k f low (subst (λ (u : ℕ). IsWanted (graph_nodes meaning_of g no_images) g.output (pos u) (pos u) k f) (sym at) w))
+    are.moments.all (t - p.first) k f (subst (λ (m : ℕ). t - p.first < m) (sym (moments_are q g p.first p.last)) low)
+    (moment_wants q g p.first p.last (t - p.first) k f low (subst (λ (u : ℕ). IsWanted (graph_nodes meaning_of g no_images) g.output (pos u) (pos u) k f) (sym at) w))
 
 lists_in : (uses : List Use) (n : ℕ) (f : ℤ) → ListsUse uses n f → Lists (wanted_of uses) n f
 lists_in uses n f l =
@@ -61,14 +65,14 @@ lists_in uses n f l =
     }
 
 pub want_no_more : (g : Graph) → StretchesWantNoMore g
-want_no_more g whole p uses some inside all of w listed =
+want_no_more g q whole p uses some inside all of w listed =
     let u = from_wanted some w listed in
     let is = of.moments.each u.0 u.1 in
     let order = is.order in
-    let end : u.0.until < frame_count p.first p.last = subst (λ (m : ℕ). u.0.until < m) (moments_are g p.first p.last) is.end in
+    let end : u.0.until < frame_count p.first p.last = subst (λ (m : ℕ). u.0.until < m) (moments_are q g p.first p.last) is.end in
     let t = p.first + u.0.from in
-    let there = wants_of g p.first p.last u.0.from u.0.wanted.node u.0.wanted.frame (omega (arith, order, end)) is.first in
-    let l = used_at g whole uses all t (inside t (record { from = omega arith; to = omega (arith, order, end) })) u.0.wanted.node u.0.wanted.frame there in
+    let there = wants_of q g p.first p.last u.0.from u.0.wanted.node u.0.wanted.frame (omega (arith, order, end)) is.first in
+    let l = used_at q g whole uses all t (inside t (record { from = omega arith; to = omega (arith, order, end) })) u.0.wanted.node u.0.wanted.frame there in
     subst (λ (v : Wanted). Lists (wanted_of uses) v.node v.frame) u.2 (lists_in uses u.0.wanted.node u.0.wanted.frame l)
 
 -- ---- whether a frame is listed
@@ -131,15 +135,18 @@ has_file library ws images are n f l =
       file = e.2;
     }
 
-images_are : (library : Files) (ws : List Wanted) (images : Images) → AreImages library ws images → scene.AreImages images
-images_are library ws images are n f image is = by (seek_entry ws n f)
+images_are : (q : ℕ) → IsScale q → (library : Files) (ws : List Wanted) (images : Images) → AreImages library ws images
+    → scene.AreImages (scaled_images q images)
+images_are q scale library ws images are n f image is = by (images n f) refl is (seek_entry ws n f)
   where
-    by : Listed ws n f ⊎ (Listed ws n f → ⊥) → IsFrameImage image
-    by (inl l) =
+    by : (o : Option Image) → images n f ≡ o → option_map (reduced q) o ≡ Some image → Listed ws n f ⊎ (Listed ws n f → ⊥) → IsFrameImage image
+    by None there e seen = absurd (none-some image e)
+    by (Some i) there e (inl l) =
         let has = has_file library ws images are n f (lists_of ws n f l) in
-        let same : has.image ≡ image = same_Some has.image image (sym has.is ∙ is) in
-        subst (λ (i : Image). IsFrameImage i) same (frame_image has.file.bytes MOST_SIDE has.image has.file.reads (omega arith))
-    by (inr none) = absurd (none-some image (sym (are.only n f (λ l. none (of_lists ws n f l))) ∙ is))
+        let same : has.image ≡ i = same_Some has.image i (sym has.is ∙ there) in
+        let small : reduced q has.image ≡ image = ap (reduced q) same ∙ same_Some (reduced q i) image e in
+        subst (λ (k : Image). IsFrameImage k) small (small_frame has.file.bytes MOST_SIDE has.image has.file.reads q scale (omega arith))
+    by (Some i) there e (inr none) = absurd (none-some i (sym (are.only n f (λ l. none (of_lists ws n f l))) ∙ there))
 
 -- one file gives both the same image
 same_file : (library : Files) (name other : List ℕ) (a b : Option Image) → name ≡ other → HasFile library name a → HasFile library other b
@@ -154,23 +161,24 @@ same_file library name other a b same p q =
 -- ---- runs over stretches of a whole
 
 -- a run over a stretch leaves the files of its frames
-gained_in : (g : Graph) (library : Files) (p : Stretch) (old new : Files) (run : HasRun g library p old new) (name : List ℕ)
-    → new name ≡ with_frames g run.images p.first (frame_count p.first p.last) old name
-gained_in g library p old new run name = run.gained name ∙ moments_are_frames g run.images p.first p.last old name
+gained_in : (q : ℕ) (g : Graph) (library : Files) (p : Stretch) (old new : Files) (run : HasRun q g library p old new) (name : List ℕ)
+    → new name ≡ with_frames g (scaled_images q run.images) p.first (frame_count p.first p.last) old name
+gained_in q g library p old new run name =
+    run.gained name ∙ moments_are_frames q g (scaled_images q run.images) p.first p.last old name
 
-module _ (g : Graph) (one : runs g.file ≡ 1) (depend : PicturesDependOnWanted meaning_of g) (library : Files) (whole : Stretch)
-    (few : whole.last ≤ LAST_FRAME) where
+module _ (q : ℕ) (scale : IsScale q) (g : Graph) (one : runs g.file ≡ 1) (depend : PicturesDependOnWanted meaning_of g) (library : Files)
+    (whole : Stretch) (few : whole.last ≤ LAST_FRAME) where
   -- a frame's file in a run over a stretch is that in a run over the whole
-  module _ (start end : Files) (all : HasRun g library whole start end) where
+  module _ (start end : Files) (all : HasRun q g library whole start end) where
     text : ℕ → List ℕ
-    text t = picture_text g all.images t
+    text t = picture_text g (scaled_images q all.images) t
 
-    agree : (p : Stretch) (old new : Files) (run : HasRun g library p old new) → ((t : ℕ) → IsIn p t → IsIn whole t) → (t : ℕ) → IsIn p t
+    agree : (p : Stretch) (old new : Files) (run : HasRun q g library p old new) → ((t : ℕ) → IsIn p t → IsIn whole t) → (t : ℕ) → IsIn p t
         → scene.AgreeOnWanted meaning_of g g.output (pos t) (pos t) run.images all.images
     unfolding used_at lists_in
     agree p old new run inside t is k f w =
-        let e = used_at g p run.uses run.are t is k f w in
-        let d = used_at g whole all.uses all.are t (inside t is) k f w in
+        let e = used_at q g p run.uses run.are t is k f w in
+        let d = used_at q g whole all.uses all.are t (inside t is) k f w in
         let shows : Shows (graph_nodes meaning_of g no_images e.use_.wanted.node) w.at e.use_.wanted.frame =
         subst (λ (n : ℕ). Shows (graph_nodes meaning_of g no_images n) w.at e.use_.wanted.frame) (sym e.node)
         (subst (λ (h : ℤ). Shows (graph_nodes meaning_of g no_images k) w.at h) (sym e.frame) w.shows) in
@@ -181,13 +189,15 @@ module _ (g : Graph) (one : runs g.file ≡ 1) (depend : PicturesDependOnWanted 
         (has_file library (wanted_of run.uses) run.images run.shown k f (lists_in run.uses k f e))
         (has_file library (wanted_of all.uses) all.images all.shown k f (lists_in all.uses k f d))
 
-    same_text : (p : Stretch) (old new : Files) (run : HasRun g library p old new) → ((t : ℕ) → IsIn p t → IsIn whole t) → (t : ℕ) → IsIn p t
-        → picture_text g run.images t ≡ text t
+    same_text : (p : Stretch) (old new : Files) (run : HasRun q g library p old new) → ((t : ℕ) → IsIn p t → IsIn whole t) → (t : ℕ) → IsIn p t
+        → picture_text g (scaled_images q run.images) t ≡ text t
     unfolding picture_text text
     same_text p old new run inside t is =
         ap (pam_text g.format)
-        (depend (pos t) (pos t) run.images all.images (images_are library (wanted_of run.uses) run.images run.shown)
-        (images_are library (wanted_of all.uses) all.images all.shown) (agree p old new run inside t is) (pos t) (omega (arith, ints)) (omega (arith, ints)))
+        (depend (pos t) (pos t) (scaled_images q run.images) (scaled_images q all.images)
+        (images_are q scale library (wanted_of run.uses) run.images run.shown)
+        (images_are q scale library (wanted_of all.uses) all.images all.shown)
+        (λ k f wanted. same_small q (run.images k f) (all.images k f) (agree p old new run inside t is k f wanted)) (pos t) (omega (arith, ints)) (omega (arith, ints)))
 
     of_stretch : (p : Stretch) (t : ℕ) → IsIn p t → IsOf p.first (frame_count p.first p.last) t
     of_stretch p t is = let from = is.from in let to = is.to in record { from = from; below = omega (arith, from, to) }
@@ -196,18 +206,18 @@ module _ (g : Graph) (one : runs g.file ≡ 1) (depend : PicturesDependOnWanted 
     in_stretch p t is = let from = is.from in let below = is.below in record { from = from; to = omega (arith, from, below) }
 
     -- the file of a frame of the stretch is put
-    run_hit : (p : Stretch) (old new : Files) → HasRun g library p old new → ((t : ℕ) → IsIn p t → IsIn whole t) → (t : ℕ) → IsIn p t
+    run_hit : (p : Stretch) (old new : Files) → HasRun q g library p old new → ((t : ℕ) → IsIn p t → IsIn whole t) → (t : ℕ) → IsIn p t
         → new (frame_name g t) ≡ Some (text t)
     run_hit p old new run inside t is =
         let from = is.from in
         let to = is.to in
         let last = (inside p.last (record { from = omega (arith, from, to); to = omega arith })).to in
-        gained_in g library p old new run (frame_name g t)
-        ∙ hit g one run.images p.first (frame_count p.first p.last) old t (omega (arith, from, to, last, few)) (of_stretch p t is)
+        gained_in q g library p old new run (frame_name g t)
+        ∙ hit g one (scaled_images q run.images) p.first (frame_count p.first p.last) old t (omega (arith, from, to, last, few)) (of_stretch p t is)
         ∙ ap Some (same_text p old new run inside t is)
 
     -- the file of a frame of the whole stays
-    run_keep : (p : Stretch) (old new : Files) → HasRun g library p old new → ((t : ℕ) → IsIn p t → IsIn whole t) → (t : ℕ) → IsIn whole t
+    run_keep : (p : Stretch) (old new : Files) → HasRun q g library p old new → ((t : ℕ) → IsIn p t → IsIn whole t) → (t : ℕ) → IsIn whole t
         → old (frame_name g t) ≡ Some (text t) → new (frame_name g t) ≡ Some (text t)
     run_keep p old new run inside t is before = by (seek g one p.first (frame_count p.first p.last) (frame_name g t))
       where
@@ -220,21 +230,21 @@ module _ (g : Graph) (one : runs g.file ≡ 1) (depend : PicturesDependOnWanted 
             let high = is.to in
             let same : found.0 ≡ t = name_of-apart g.file found.0 t one (omega (arith, low, few)) (omega (arith, high, few)) found.2 in
             run_hit p old new run inside t (subst (IsIn p) same at)
-        by (inr none) = gained_in g library p old new run (frame_name g t) ∙ miss g one run.images p.first (frame_count p.first p.last) old (frame_name g t) none ∙ before
+        by (inr none) = gained_in q g library p old new run (frame_name g t) ∙ miss g one (scaled_images q run.images) p.first (frame_count p.first p.last) old (frame_name g t) none ∙ before
 
     -- a name of no frame of the whole has what it had
-    run_miss : (p : Stretch) (old new : Files) → HasRun g library p old new → ((t : ℕ) → IsIn p t → IsIn whole t) → (name : List ℕ)
+    run_miss : (p : Stretch) (old new : Files) → HasRun q g library p old new → ((t : ℕ) → IsIn p t → IsIn whole t) → (name : List ℕ)
         → ((t : ℕ) → IsIn whole t → frame_name g t ≡ name → ⊥) → new name ≡ old name
     run_miss p old new run inside name none =
-        gained_in g library p old new run name ∙ miss g one run.images p.first (frame_count p.first p.last) old name (λ t is. none t (inside t (in_stretch p t is)))
+        gained_in q g library p old new run name ∙ miss g one (scaled_images q run.images) p.first (frame_count p.first p.last) old name (λ t is. none t (inside t (in_stretch p t is)))
 
-    runs_keep : (stretches : List Stretch) (old new : Files) → HaveRun g library stretches old new → ((p : Stretch) → In stretches p → (t : ℕ) → IsIn p t → IsIn whole t)
+    runs_keep : (stretches : List Stretch) (old new : Files) → HaveRun q g library stretches old new → ((p : Stretch) → In stretches p → (t : ℕ) → IsIn p t → IsIn whole t)
         → (t : ℕ) → IsIn whole t → old (frame_name g t) ≡ Some (text t) → new (frame_name g t) ≡ Some (text t)
     runs_keep [] old new run inside t is before = run (frame_name g t) ∙ before
     runs_keep (p ∷ ps) old new run inside t is before =
         runs_keep ps run.0 new run.2 (λ q i. inside q (inr i)) t is (run_keep p old run.0 run.1 (inside p (inl refl)) t is before)
 
-    runs_hit : (stretches : List Stretch) (old new : Files) → HaveRun g library stretches old new → ((p : Stretch) → In stretches p → (t : ℕ) → IsIn p t → IsIn whole t)
+    runs_hit : (stretches : List Stretch) (old new : Files) → HaveRun q g library stretches old new → ((p : Stretch) → In stretches p → (t : ℕ) → IsIn p t → IsIn whole t)
         → (p : Stretch) → In stretches p → (t : ℕ) → IsIn p t → new (frame_name g t) ≡ Some (text t)
     runs_hit [] old new run inside p there t is = absurd there
     runs_hit (q ∷ ps) old new run inside p there t is = elim there [
@@ -244,13 +254,13 @@ module _ (g : Graph) (one : runs g.file ≡ 1) (depend : PicturesDependOnWanted 
       | inr i ↦ runs_hit ps run.0 new run.2 (λ r j. inside r (inr j)) p i t is
     ]
 
-    runs_miss : (stretches : List Stretch) (old new : Files) → HaveRun g library stretches old new → ((p : Stretch) → In stretches p → (t : ℕ) → IsIn p t → IsIn whole t)
+    runs_miss : (stretches : List Stretch) (old new : Files) → HaveRun q g library stretches old new → ((p : Stretch) → In stretches p → (t : ℕ) → IsIn p t → IsIn whole t)
         → (name : List ℕ) → ((t : ℕ) → IsIn whole t → frame_name g t ≡ name → ⊥) → new name ≡ old name
     runs_miss [] old new run inside name none = run name
     runs_miss (p ∷ ps) old new run inside name none =
         runs_miss ps run.0 new run.2 (λ q i. inside q (inr i)) name none ∙ run_miss p old run.0 run.1 (inside p (inl refl)) name none
 
-    pub whole_made : (stretches : List Stretch) (new : Files) → AreStretches whole stretches → HaveRun g library stretches start new → SameFiles end new
+    pub whole_made : (stretches : List Stretch) (new : Files) → AreStretches whole stretches → HaveRun q g library stretches start new → SameFiles end new
     whole_made stretches new are run name = by (seek g one whole.first (frame_count whole.first whole.last) name)
       where
         inside : (p : Stretch) → In stretches p → (t : ℕ) → IsIn p t → IsIn whole t
@@ -270,8 +280,8 @@ module _ (g : Graph) (one : runs g.file ≡ 1) (depend : PicturesDependOnWanted 
             runs_miss stretches start new run inside name none_in ∙ sym (run_miss whole start end all (λ u is. is) name none_in)
 
 pub stretches_make_whole : (g : Graph) → runs g.file ≡ 1 → PicturesDependOnWanted meaning_of g → StretchesMakeWhole g
-stretches_make_whole g one depend library whole stretches old new other few are run all =
-    whole_made g one depend library whole few old other all stretches new are run
+stretches_make_whole g one depend q library whole stretches old new other scale few are run all =
+    whole_made q scale g one depend library whole few old other all stretches new are run
 
 -- what a run in mode `render` leaves is what such a run does
 pub runs_are_such : RunsAreSuch
@@ -282,7 +292,7 @@ runs_are_such asked library old new put render =
       are = subst (λ (r : Reel). AreUsesOf r put.known.job.uses) same put.known.job.are;
       images = put.images;
       shown = put.are;
-      gained = subst (λ (r : Reel). HasGained r put.images (moments_in r) old new) same put.gained;
+      gained = subst (λ (r : Reel). HasGained r (scaled_in r put.images) (moments_in r) old new) same put.gained;
     }
 
 -- the output's pattern has one run of signs

@@ -11,6 +11,7 @@ ghost use Rattle.fx_shipped.specs.Shipped.{meaning_of};
 
 use crate::noise::{COLUMNS, ROWS, noise};
 use crate::paint::{Copier, NOW, Painter, paint_frames};
+use crate::reduced::Reducing;
 use crate::rows::Strips;
 use fx_base::{Memory, Rect};
 use fx_effect::{Catalogue, Context, Flags, ImageEffect, Inputs, Numbers, Piece, Steps, Values};
@@ -26,10 +27,14 @@ const MOST_IMAGES: usize = 4;
 /// Renders so many frames as the word says: the sum of the samples in the middle of the last one. The
 /// word is the effect's name or `copy`, `byte` or `short`, `whole` or `tiles`, the numbers of the
 /// parameters, and how many frames before and behind the one that is rendered the clips have, as in
-/// `frameblend:byte:whole:1:1:1`. Behind `row:` rows are read. None where it is another word.
+/// `frameblend:byte:whole:1:1:1`. Behind `row:` rows are read, and behind `reduce:` a frame is reduced. None where it is
+/// another word.
 pub(crate) fn render(alloc: Global, word: &str, count: u32) -> Result<Option<u64>, Memory> {
     if let Some(task) = Task::read(word) {
         return task.done(alloc, count);
+    }
+    if let Some(reducing) = word.strip_prefix("reduce:").and_then(Reducing::read) {
+        return Ok(Some(reducing.done(alloc, count)?));
     }
     match word.strip_prefix("row:").and_then(Strips::read) {
         Some(strips) => Ok(Some(strips.done(alloc, count)?)),

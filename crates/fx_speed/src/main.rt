@@ -7,7 +7,7 @@
 //! an image of that width, and `write` and `write_rgb` write it too. `graph` makes the text of a graph of 256
 //! nodes with so many keys each, `parse` reads it too, and `accept` reads it and accepts it over the effects that are
 //! shipped. `regions` asks where twelve nodes have pixels, and what each tile of an HD frame needs of each. Whole frames
-//! are rendered under the words of `effects.rt`. Several such pairs are done in their order.
+//! are rendered, and reduced, under the words of `effects.rt`. Several such pairs are done in their order.
 #![tactic(auto)]
 
 mod effects;
@@ -18,6 +18,7 @@ mod number;
 mod paint;
 mod pam;
 mod pool;
+mod reduced;
 mod regions;
 mod rows;
 mod shared;

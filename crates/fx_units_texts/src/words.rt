@@ -1,10 +1,10 @@
 use crate::same::{same, same_at};
-use fx_base::{Memory, Name};
+use fx_base::{Memory, Name, Rect};
 use fx_pam::PamField;
 use fx_text::{GraphCode, GraphPath};
 use fx_words::{
-    FrameFault, Mode, Report, RunFault, WordFault, fault_text, options_in_any_order, read_words,
-    report_text,
+    FrameFault, Mode, PlanFrame, PlanFrames, PlanLine, PlanLines, Report, RunFault, WordFault,
+    fault_text, options_in_any_order, read_words, report_text,
 };
 use std::alloc::{AllocError, Global};
 
@@ -22,11 +22,14 @@ fn ordered(alloc: Global, line: &str) -> Result<String, AllocError> {
                 Mode::Bench => "bench",
                 Mode::Migrate => "migrate",
                 Mode::Takes => "takes",
+                Mode::Plan => "plan",
             };
             let (graph, first, last) = (order.graph.text(), order.first, order.last);
             let (tile, cache) = (order.tile, order.cache);
-            let (workers, ahead) = (order.workers, order.ahead);
-            format!(in alloc; "{mode} {graph} {first} {last} {tile} {cache} {workers} {ahead}")
+            let (workers, ahead, scale) = (order.workers, order.ahead, order.scale);
+            format!(in alloc;
+                "{mode} {graph} {first} {last} {tile} {cache} {workers} {ahead} {scale}"
+            )
         }
         Err(WordFault::Usage) => format!(in alloc; "usage"),
         Err(WordFault::Memory) => format!(in alloc; "memory"),
@@ -35,26 +38,34 @@ fn ordered(alloc: Global, line: &str) -> Result<String, AllocError> {
 
 // Words with a blank between two of them, so that two blanks have an empty word between them.
 const LINES: &[(&str, &str)] = &[
-    ("render g.json", "render g.json 0 999999 64 4096 4 0"),
-    ("check g.json", "check g.json 0 999999 64 4096 4 0"),
-    ("bench 0", "bench 0 0 999999 64 4096 4 0"),
-    ("bench 123456", "bench 123456 0 999999 64 4096 4 0"),
+    ("render g.json", "render g.json 0 999999 64 4096 4 0 1"),
+    ("check g.json", "check g.json 0 999999 64 4096 4 0 1"),
+    ("bench 0", "bench 0 0 999999 64 4096 4 0 1"),
+    ("bench 123456", "bench 123456 0 999999 64 4096 4 0 1"),
     ("bench 1234567", "usage"),
     ("bench 12a", "usage"),
     ("bench", "usage"),
-    ("migrate g.json", "migrate g.json 0 999999 64 4096 4 0"),
-    ("migrate 7 --tile 16", "migrate 7 0 999999 16 4096 4 0"),
+    ("migrate g.json", "migrate g.json 0 999999 64 4096 4 0 1"),
+    ("migrate 7 --tile 16", "migrate 7 0 999999 16 4096 4 0 1"),
     ("migrate", "usage"),
     ("migrates g.json", "usage"),
-    ("takes g.json", "takes g.json 0 999999 64 4096 4 0"),
+    ("takes g.json", "takes g.json 0 999999 64 4096 4 0 1"),
     (
         "--workers 2 --cache 0 takes --tile 16 g.json --first 3 --last 7",
-        "takes g.json 3 7 16 0 2 0",
+        "takes g.json 3 7 16 0 2 0 1",
     ),
-    ("takes 7", "takes 7 0 999999 64 4096 4 0"),
+    ("takes 7", "takes 7 0 999999 64 4096 4 0 1"),
     ("takes", "usage"),
     ("take g.json", "usage"),
     ("takes g.json more", "usage"),
+    ("plan g.json", "plan g.json 0 999999 64 4096 4 0 1"),
+    (
+        "--tile 32 plan --first 2 7 --last 3",
+        "plan 7 2 3 32 4096 4 0 1",
+    ),
+    ("plan", "usage"),
+    ("plans g.json", "usage"),
+    ("plan g.json more", "usage"),
     ("paint g.json", "usage"),
     ("render", "usage"),
     ("", "usage"),
@@ -63,87 +74,117 @@ const LINES: &[(&str, &str)] = &[
     // Both ends of each range, and one past.
     (
         "render g.json --first 999999 --last 0",
-        "render g.json 999999 0 64 4096 4 0",
+        "render g.json 999999 0 64 4096 4 0 1",
     ),
     ("render g.json --first 1000000", "usage"),
     (
         "render g.json --last 999999 --first 0",
-        "render g.json 0 999999 64 4096 4 0",
+        "render g.json 0 999999 64 4096 4 0 1",
     ),
     ("render g.json --last 1000000", "usage"),
     (
         "render g.json --tile 1",
-        "render g.json 0 999999 1 4096 4 0",
+        "render g.json 0 999999 1 4096 4 0 1",
     ),
     (
         "render g.json --tile 1024",
-        "render g.json 0 999999 1024 256 4 0",
+        "render g.json 0 999999 1024 256 4 0 1",
     ),
     (
         "render g.json --tile 256",
-        "render g.json 0 999999 256 4096 4 0",
+        "render g.json 0 999999 256 4096 4 0 1",
     ),
     (
         "render g.json --tile 257",
-        "render g.json 0 999999 257 4064 4 0",
+        "render g.json 0 999999 257 4064 4 0 1",
     ),
     ("render g.json --tile 0", "usage"),
     ("render g.json --tile 1025", "usage"),
-    ("render g.json --cache 0", "render g.json 0 999999 64 0 4 0"),
+    (
+        "render g.json --cache 0",
+        "render g.json 0 999999 64 0 4 0 1",
+    ),
     (
         "render g.json --cache 65536 --tile 64",
-        "render g.json 0 999999 64 65536 4 0",
+        "render g.json 0 999999 64 65536 4 0 1",
     ),
     ("render g.json --cache 65536 --tile 65", "usage"),
     (
         "render g.json --cache 256 --tile 1024",
-        "render g.json 0 999999 1024 256 4 0",
+        "render g.json 0 999999 1024 256 4 0 1",
     ),
     ("render g.json --cache 257 --tile 1024", "usage"),
     ("render g.json --cache 65537 --tile 1", "usage"),
     (
         "render g.json --workers 1",
-        "render g.json 0 999999 64 4096 1 0",
+        "render g.json 0 999999 64 4096 1 0 1",
     ),
     (
         "render g.json --workers 64",
-        "render g.json 0 999999 64 4096 64 0",
+        "render g.json 0 999999 64 4096 64 0 1",
     ),
     ("render g.json --workers 0", "usage"),
     ("render g.json --workers 65", "usage"),
     (
         "render g.json --ahead 0",
-        "render g.json 0 999999 64 4096 4 0",
+        "render g.json 0 999999 64 4096 4 0 1",
     ),
     (
         "--ahead 4 takes g.json",
-        "takes g.json 0 999999 64 4096 4 4",
+        "takes g.json 0 999999 64 4096 4 4 1",
     ),
     (
         "check --ahead=1 g.json",
-        "check g.json 0 999999 64 4096 4 1",
+        "check g.json 0 999999 64 4096 4 1 1",
     ),
     ("render g.json --ahead 5", "usage"),
     ("render g.json --ahead", "usage"),
     ("render g.json --ahead 2 --ahead 2", "usage"),
+    (
+        "render g.json --scale 1",
+        "render g.json 0 999999 64 4096 4 0 1",
+    ),
+    (
+        "--scale 2 takes g.json",
+        "takes g.json 0 999999 64 4096 4 0 2",
+    ),
+    (
+        "plan --scale=4 g.json",
+        "plan g.json 0 999999 64 4096 4 0 4",
+    ),
+    ("bench 9 --scale 8", "bench 9 0 999999 64 4096 4 0 8"),
+    (
+        "check g.json --scale +2",
+        "check g.json 0 999999 64 4096 4 0 2",
+    ),
+    ("render g.json --scale 0", "usage"),
+    ("render g.json --scale 3", "usage"),
+    ("render g.json --scale 5", "usage"),
+    ("render g.json --scale 6", "usage"),
+    ("render g.json --scale 7", "usage"),
+    ("render g.json --scale 9", "usage"),
+    ("render g.json --scale 16", "usage"),
+    ("render g.json --scale 1/2", "usage"),
+    ("render g.json --scale", "usage"),
+    ("render g.json --scale 2 --scale 2", "usage"),
     // How clap reads words.
     (
         "--tile=16 render --first=5 g.json --workers 2",
-        "render g.json 5 999999 16 4096 2 0",
+        "render g.json 5 999999 16 4096 2 0 1",
     ),
     (
         "--workers 2 --first 5 --tile 16 -- render g.json",
-        "render g.json 5 999999 16 4096 2 0",
+        "render g.json 5 999999 16 4096 2 0 1",
     ),
     ("render -- g.json --first 5", "usage"),
     ("render g.json --first 5 --first 5", "usage"),
     (
         "render g.json --first +5",
-        "render g.json 5 999999 64 4096 4 0",
+        "render g.json 5 999999 64 4096 4 0 1",
     ),
     (
         "render g.json --first 05",
-        "render g.json 5 999999 64 4096 4 0",
+        "render g.json 5 999999 64 4096 4 0 1",
     ),
     ("render g.json --first  5", "usage"),
     ("render g.json --first -1", "usage"),
@@ -283,7 +324,7 @@ fn other_faults_are_told(rt: HostRuntime) -> Result<(), Memory> {
     let alloc = rt.alloc();
     let usage = line(alloc, &RunFault::Usage)?;
     let wanted =
-        b">usage: ofxr MODE GRAPH [--first N] [--last N] [--tile N] [--cache N] [--workers N] [--ahead N]\n";
+        b">usage: ofxr MODE GRAPH [--first N] [--last N] [--tile N] [--cache N] [--workers N] [--ahead N] [--scale N]\n";
     same(&rt, usage.as_slice(), wanted.as_slice());
     let read = line(alloc, &RunFault::Read(name(alloc, "g.json")?))?;
     same(&rt, read.as_slice(), b">ofxr: read: g.json\n".as_slice());
@@ -296,71 +337,144 @@ fn other_faults_are_told(rt: HostRuntime) -> Result<(), Memory> {
     Ok(())
 }
 
-const REPORTS: &[(Report, &[u8])] = &[
-    (
-        Report::Render {
-            frames: 2,
-            tiles: 1020,
-            void_tiles: 3,
-            passed: 4,
-            asked: 1013,
-            landed: 1018,
-            hits: 6,
-        },
-        b"frames 2\ntiles 1020 void 3 passed 4 asked 1013\nlanded 1018 hits 6\n",
-    ),
-    (
-        Report::Check {
-            nodes: 12,
-            frames: 24,
-            wanted: 23,
-        },
-        b"nodes 12\nframes 24\nwanted 23\n",
-    ),
-    (
-        Report::Bench {
-            frames: 4,
-            size: 1229076,
-            sum: 18446744073709551615,
-        },
-        b"frames 4\nbytes 1229076\nsum 18446744073709551615\n",
-    ),
-    (Report::Migrate { nodes: 1024 }, b"nodes 1024\n"),
-    (
-        Report::Takes {
-            takes: 2,
-            frames: 2,
-            tiles: 2,
-            void_tiles: 0,
-            passed: 0,
-            asked: 2,
-            landed: 2,
-            hits: 0,
-        },
-        b"takes 2\nframes 2\ntiles 2 void 0 passed 0 asked 2\nlanded 2 hits 0\n",
-    ),
-    (
-        Report::Takes {
-            takes: 65,
-            frames: 6500000,
-            tiles: 6500000,
-            void_tiles: 1,
-            passed: 2,
-            asked: 6499997,
-            landed: 100000,
-            hits: 6399997,
-        },
-        b"takes 65\nframes 6500000\ntiles 6500000 void 1 passed 2 asked 6499997\nlanded 100000 hits 6399997\n",
-    ),
-];
+// A report behind what was there.
+fn report_told(alloc: Global, report: &Report) -> Result<Vec<u8>, Memory> {
+    let mut out = Vec::new(alloc);
+    out.push(b'>')?;
+    report_text(alloc, report, &mut out)?;
+    Ok(out)
+}
 
 #[test]
 fn reports_are_lines(rt: HostRuntime) -> Result<(), Memory> {
     let alloc = rt.alloc();
-    for (report, wanted) in REPORTS {
-        let mut out = Vec::new(alloc);
-        report_text(alloc, report, &mut out)?;
-        same(&rt, out.as_slice(), *wanted);
+    let render = Report::Render {
+        frames: 2,
+        tiles: 1020,
+        void_tiles: 3,
+        passed: 4,
+        asked: 1013,
+        landed: 1018,
+        hits: 6,
+    };
+    let wanted = b">frames 2\ntiles 1020 void 3 passed 4 asked 1013\nlanded 1018 hits 6\n";
+    same(
+        &rt,
+        report_told(alloc, &render)?.as_slice(),
+        wanted.as_slice(),
+    );
+    let check = Report::Check {
+        nodes: 12,
+        frames: 24,
+        wanted: 23,
+    };
+    let wanted = b">nodes 12\nframes 24\nwanted 23\n";
+    same(
+        &rt,
+        report_told(alloc, &check)?.as_slice(),
+        wanted.as_slice(),
+    );
+    let bench = Report::Bench {
+        frames: 4,
+        size: 1229076,
+        sum: 18446744073709551615,
+    };
+    let wanted = b">frames 4\nbytes 1229076\nsum 18446744073709551615\n";
+    same(
+        &rt,
+        report_told(alloc, &bench)?.as_slice(),
+        wanted.as_slice(),
+    );
+    let migrate = report_told(alloc, &Report::Migrate { nodes: 1024 })?;
+    same(&rt, migrate.as_slice(), b">nodes 1024\n".as_slice());
+    Ok(())
+}
+
+#[test]
+fn reports_of_takes_are_lines(rt: HostRuntime) -> Result<(), Memory> {
+    let alloc = rt.alloc();
+    let two = Report::Takes {
+        takes: 2,
+        frames: 2,
+        tiles: 2,
+        void_tiles: 0,
+        passed: 0,
+        asked: 2,
+        landed: 2,
+        hits: 0,
+    };
+    let wanted = b">takes 2\nframes 2\ntiles 2 void 0 passed 0 asked 2\nlanded 2 hits 0\n";
+    same(&rt, report_told(alloc, &two)?.as_slice(), wanted.as_slice());
+    let many = Report::Takes {
+        takes: 65,
+        frames: 6500000,
+        tiles: 6500000,
+        void_tiles: 1,
+        passed: 2,
+        asked: 6499997,
+        landed: 100000,
+        hits: 6399997,
+    };
+    let wanted =
+        b">takes 65\nframes 6500000\ntiles 6500000 void 1 passed 2 asked 6499997\nlanded 100000 hits 6399997\n";
+    same(
+        &rt,
+        report_told(alloc, &many)?.as_slice(),
+        wanted.as_slice(),
+    );
+    Ok(())
+}
+
+fn plan_told(alloc: Global, frames: Vec<PlanFrame>) -> Result<Vec<u8>, Memory> {
+    let frames = PlanFrames::of(frames);
+    report_told(alloc, &Report::Plan { frames })
+}
+
+#[test]
+fn a_plan_of_nothing_is_told(rt: HostRuntime) -> Result<(), Memory> {
+    let alloc = rt.alloc();
+    let told = plan_told(alloc, Vec::new(alloc))?;
+    same(&rt, told.as_slice(), b">frames 0\n".as_slice());
+    let entries = PlanLines::of(Vec::new(alloc));
+    let mut frames = Vec::new(alloc);
+    frames.push(PlanFrame { frame: 0, entries })?;
+    let told = plan_told(alloc, frames)?;
+    let wanted = b">frames 1\nframe 0 entries 0\n".as_slice();
+    same(&rt, told.as_slice(), wanted);
+    Ok(())
+}
+
+fn entry(node: u32, frame: i64, x1: i64, y1: i64, x2: i64, y2: i64) -> PlanLine {
+    let region = Rect::of(x1, y1, x2, y2);
+    PlanLine {
+        node,
+        frame,
+        region,
     }
+}
+
+#[test]
+fn plans_are_told(rt: HostRuntime) -> Result<(), Memory> {
+    let alloc = rt.alloc();
+    let mut first = Vec::new(alloc);
+    first.push(entry(0, -1, -64, 0, 0, 64))?;
+    first.push(entry(0, 8, 0, -128, 64, -64))?;
+    first.push(entry(1023, 7, -9, -8, 7, 6))?;
+    let mut second = Vec::new(alloc);
+    second.push(entry(4, 999999, 64, 128, 128, 192))?;
+    let entries = PlanLines::of(first);
+    same(&rt, entries.items().len(), 3);
+    let mut frames = Vec::new(alloc);
+    frames.push(PlanFrame { frame: 7, entries })?;
+    let entries = PlanLines::of(PlanLines::of(second).into_items());
+    frames.push(PlanFrame {
+        frame: 999999,
+        entries,
+    })?;
+    let frames = PlanFrames::of(frames).into_items();
+    let told = plan_told(alloc, frames)?;
+    let wanted =
+        b">frames 2\nframe 7 entries 3\n0 -1 -64 0 0 64\n0 8 0 -128 64 -64\n1023 7 -9 -8 7 6\nframe 999999 entries 1\n4 999999 64 128 128 192\n";
+    same(&rt, told.as_slice(), wanted.as_slice());
     Ok(())
 }

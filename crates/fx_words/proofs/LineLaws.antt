@@ -9,7 +9,7 @@ use Rattle.clap.specs.Simple.{built, matches_of}
 use Rattle.clap.specs.ValueTests.{accepts}
 use Rattle.clap.specs.Walk.{Held, Row, Rule, Text, Walk, finished, has_row, nothing_held, rows_after, settled, with_default}
 use Rattle.fx_words.specs.Command.{ofxr}
-use Rattle.fx_words.specs.Line.{Setting, first, last, tile, cache, workers, ahead, id_of, Argument, word, option, words_of, words_in, value_in, AreOnce, IsLine, OptionsInAnyOrder}
+use Rattle.fx_words.specs.Line.{Setting, first, last, tile, cache, workers, ahead, scale, id_of, Argument, word, option, words_of, words_in, value_in, AreOnce, IsLine, OptionsInAnyOrder}
 use Rattle.fx_words.specs.Order.{order_in, order_by, order_of}
 use Rattle.fx_words.specs.Ordered.{Ordered}
 use Rattle.fx_words.proofs.LineRows.{rows_from, option_row, word_row, distinct, setting_found, mode_found, graph_found}
@@ -47,7 +47,7 @@ no_defaults_fault (a ∷ rest) rows none =
 
 none_has_defaults : HaveNoDefaults top.rules
 unfolding top
-none_has_defaults = (refl, (refl, (refl, (refl, (refl, (refl, (refl, (refl, tt))))))))
+none_has_defaults = (refl, (refl, (refl, (refl, (refl, (refl, (refl, (refl, (refl, tt)))))))))
 
 abbrev Found : ℕ → Text → List Row → List Text → Type 0
 Found k id rows texts = find (λ r. bytes_eq r.id id) rows ≡ option_map (word_row k) (slice_get texts k)
@@ -146,7 +146,7 @@ passes_if s (Some value) = passes s value
 
 abbrev each_passes : (Setting → Option Text) → Bool
 each_passes f = passes_if first (f first) && (passes_if last (f last) && (passes_if tile (f tile)
-    && (passes_if cache (f cache) && (passes_if workers (f workers) && (passes_if ahead (f ahead) && true)))))
+    && (passes_if cache (f cache) && (passes_if workers (f workers) && (passes_if ahead (f ahead) && (passes_if scale (f scale) && true))))))
 
 swap : (a b r : Bool) → (a && (b && r)) ≡ (b && (a && r))
 swap true b r = refl
@@ -165,6 +165,10 @@ swap_5 a b c d e r = swap_4 a b c d (e && r) ∙ ap (λ (x : Bool). b && (c && (
 swap_6 : (a b c d e g r : Bool) → (a && (b && (c && (d && (e && (g && r)))))) ≡ (b && (c && (d && (e && (g && (a && r))))))
 swap_6 a b c d e g r = swap_5 a b c d e (g && r) ∙ ap (λ (x : Bool). b && (c && (d && (e && x)))) (swap a g r)
 
+swap_7 : (a b c d e g h r : Bool)
+    → (a && (b && (c && (d && (e && (g && (h && r))))))) ≡ (b && (c && (d && (e && (g && (h && (a && r)))))))
+swap_7 a b c d e g h r = swap_6 a b c d e g (h && r) ∙ ap (λ (x : Bool). b && (c && (d && (e && (g && x))))) (swap a h r)
+
 -- each value of a line is that of its setting
 all_is : (ps : List Argument) → AreOnce ps → all_pass ps ≡ each_passes (λ s. value_in s ps)
 all_is [] once = refl
@@ -172,22 +176,25 @@ all_is (word text ∷ ps) once = all_is ps once
 all_is (option first value ∷ ps) once = rw (all_is ps once.1, once.0) refl
 all_is (option last value ∷ ps) once =
     let f : Setting → Bool = λ s. passes_if s (value_in s ps) in
-    rw (all_is ps once.1, once.0) (swap (passes last value) (f first) (f tile && (f cache && (f workers && (f ahead && true)))))
+    rw (all_is ps once.1, once.0) (swap (passes last value) (f first) (f tile && (f cache && (f workers && (f ahead && (f scale && true))))))
 all_is (option tile value ∷ ps) once =
     let f : Setting → Bool = λ s. passes_if s (value_in s ps) in
-    rw (all_is ps once.1, once.0) (swap_3 (passes tile value) (f first) (f last) (f cache && (f workers && (f ahead && true))))
+    rw (all_is ps once.1, once.0) (swap_3 (passes tile value) (f first) (f last) (f cache && (f workers && (f ahead && (f scale && true)))))
 all_is (option cache value ∷ ps) once =
     let f : Setting → Bool = λ s. passes_if s (value_in s ps) in
-    rw (all_is ps once.1, once.0) (swap_4 (passes cache value) (f first) (f last) (f tile) (f workers && (f ahead && true)))
+    rw (all_is ps once.1, once.0) (swap_4 (passes cache value) (f first) (f last) (f tile) (f workers && (f ahead && (f scale && true))))
 all_is (option workers value ∷ ps) once =
     let f : Setting → Bool = λ s. passes_if s (value_in s ps) in
-    rw (all_is ps once.1, once.0) (swap_5 (passes workers value) (f first) (f last) (f tile) (f cache) (f ahead && true))
+    rw (all_is ps once.1, once.0) (swap_5 (passes workers value) (f first) (f last) (f tile) (f cache) (f ahead && (f scale && true)))
 all_is (option ahead value ∷ ps) once =
     let f : Setting → Bool = λ s. passes_if s (value_in s ps) in
-    rw (all_is ps once.1, once.0) (swap_6 (passes ahead value) (f first) (f last) (f tile) (f cache) (f workers) true)
+    rw (all_is ps once.1, once.0) (swap_6 (passes ahead value) (f first) (f last) (f tile) (f cache) (f workers) (f scale && true))
+all_is (option scale value ∷ ps) once =
+    let f : Setting → Bool = λ s. passes_if s (value_in s ps) in
+    rw (all_is ps once.1, once.0) (swap_7 (passes scale value) (f first) (f last) (f tile) (f cache) (f workers) (f ahead) true)
 
 each_same : (f g : Setting → Option Text) → ((s : Setting) → f s ≡ g s) → each_passes f ≡ each_passes g
-each_same f g same = rw (same first, same last, same tile, same cache, same workers, same ahead) refl
+each_same f g same = rw (same first, same last, same tile, same cache, same workers, same ahead, same scale) refl
 
 -- ---- the order of rows
 
@@ -196,7 +203,7 @@ FindSame rows others id = find (λ r. bytes_eq r.id id) rows ≡ find (λ r. byt
 
 order_same : (rows others : List Row) → FindSame rows others (codes "mode") → FindSame rows others (codes "graph")
     → ((s : Setting) → FindSame rows others (id_of s)) → order_in rows ≡ order_in others
-order_same rows others mode graph same = rw (mode, graph, same first, same last, same tile, same cache, same workers, same ahead) refl
+order_same rows others mode graph same = rw (mode, graph, same first, same last, same tile, same cache, same workers, same ahead, same scale) refl
 
 if_same : (a b : Bool) (rows others : List Row) → a ≡ b → order_in rows ≡ order_in others → order_if a rows ≡ order_if b others
 if_same true true rows others same is = is

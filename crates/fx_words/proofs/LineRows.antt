@@ -7,7 +7,7 @@ use Rattle.clap.specs.Walk.{Row, Text, has_row, without, with_values}
 use Rattle.clap.specs.declared.builder.value_parser.Reading.{Reading}
 use Rattle.clap.specs.declared.builder.value_parser.Reading.TheVariants as reading
 use Rattle.clap.specs.declared.parser.matches.ValueSource.TheVariants.{CommandLine}
-use Rattle.fx_words.specs.Line.{Setting, first, last, tile, cache, workers, ahead, id_of, Argument, word, option, words_in, value_in, AreOnce}
+use Rattle.fx_words.specs.Line.{Setting, first, last, tile, cache, workers, ahead, scale, id_of, Argument, word, option, words_in, value_in, AreOnce}
 
 -- a row of one value from the words
 abbrev pub row : Reading → Text → Text → Row
@@ -88,12 +88,14 @@ other_place zero tile = refl
 other_place zero cache = refl
 other_place zero workers = refl
 other_place zero ahead = refl
+other_place zero scale = refl
 other_place (suc k) first = refl
 other_place (suc k) last = refl
 other_place (suc k) tile = refl
 other_place (suc k) cache = refl
 other_place (suc k) workers = refl
 other_place (suc k) ahead = refl
+other_place (suc k) scale = refl
 
 other_setting : (k : ℕ) (s : Setting) → bytes_eq (id_of s) (place_of k) ≡ false
 other_setting k s = apart (place_of k) (id_of s) (other_place k s)

@@ -13,7 +13,7 @@ use Rattle.clap.specs.declared.builder.value_parser.Reading.TheVariants as readi
 use Rattle.clap.specs.declared.builder.value_parser.ValueParser.{ValueParser}
 use Rattle.clap.specs.declared.builder.value_parser.ValueParser.TheVariants as vp
 use Rattle.fx_words.specs.Command.{ofxr, word_rule}
-use Rattle.fx_words.specs.Line.{Setting, first, last, tile, cache, workers, ahead, id_of, Argument, word, option, words_of, words_in, is_plain, IsPlain}
+use Rattle.fx_words.specs.Line.{Setting, first, last, tile, cache, workers, ahead, scale, id_of, Argument, word, option, words_of, words_in, is_plain, IsPlain}
 use Rattle.fx_words.proofs.LineRows.{word_row, option_row, place_of, rows_from, added, AreDistinct, is_new}
 
 -- the command as clap builds it
@@ -50,6 +50,7 @@ parser_of tile = vp.Signed (pos 1) (pos 1024)
 parser_of cache = vp.Signed (pos 0) (pos 65536)
 parser_of workers = vp.Signed (pos 1) (pos 64)
 parser_of ahead = vp.Signed (pos 0) (pos 4)
+parser_of scale = vp.Signed (pos 1) (pos 8)
 
 -- ---- a text that doesn't begin with a hyphen
 
@@ -84,6 +85,7 @@ name_step tile rows pending k = refl
 name_step cache rows pending k = refl
 name_step workers rows pending k = refl
 name_step ahead rows pending k = refl
+name_step scale rows pending k = refl
 
 value_step : (s : Setting) (value : Text) (rows : List Row) (k : ℕ) → is_plain value ≡ true
     → walked top.rules [] (wanting s rows k) value ≡ between rows (Some (id_of s, value ∷ [])) k
@@ -94,6 +96,7 @@ value_step tile value rows k plain = rw (no_end value plain, no_long value plain
 value_step cache value rows k plain = rw (no_end value plain, no_long value plain, no_short value plain) refl
 value_step workers value rows k plain = rw (no_end value plain, no_long value plain, no_short value plain) refl
 value_step ahead value rows k plain = rw (no_end value plain, no_long value plain, no_short value plain) refl
+value_step scale value rows k plain = rw (no_end value plain, no_long value plain, no_short value plain) refl
 
 mode_step : (text : Text) (rows : List Row) (pending : Pending) → is_plain text ≡ true
     → walked top.rules [] (between rows pending 0) text ≡ between (settled_rows top.rules pending rows) (Some (place_of 0, text ∷ [])) 1
@@ -118,6 +121,7 @@ name_fault tile rows pending k = refl
 name_fault cache rows pending k = refl
 name_fault workers rows pending k = refl
 name_fault ahead rows pending k = refl
+name_fault scale rows pending k = refl
 
 value_fault : (s : Setting) (value : Text) (rows : List Row) (k : ℕ) → is_plain value ≡ true
     → turn_fault top [] (wanting s rows k) value ≡ []
@@ -128,6 +132,7 @@ value_fault tile value rows k plain = rw (no_end value plain, no_long value plai
 value_fault cache value rows k plain = rw (no_end value plain, no_long value plain, no_short value plain) refl
 value_fault workers value rows k plain = rw (no_end value plain, no_long value plain, no_short value plain) refl
 value_fault ahead value rows k plain = rw (no_end value plain, no_long value plain, no_short value plain) refl
+value_fault scale value rows k plain = rw (no_end value plain, no_long value plain, no_short value plain) refl
 
 mode_fault : (text : Text) (rows : List Row) (pending : Pending) → is_plain text ≡ true
     → turn_fault top [] (between rows pending 0) text ≡ settle_fault top.rules false (held rows pending)
@@ -160,6 +165,7 @@ option_settled tile value rows none = added reading.WithoutMinus (codes "tile") 
 option_settled cache value rows none = added reading.WithoutMinus (codes "cache") value rows none
 option_settled workers value rows none = added reading.WithoutMinus (codes "workers") value rows none
 option_settled ahead value rows none = added reading.WithoutMinus (codes "ahead") value rows none
+option_settled scale value rows none = added reading.WithoutMinus (codes "scale") value rows none
 
 word_settled : (k : ℕ) (text : Text) (rows : List Row) → has_row (place_of k) rows ≡ false
     → settled_rows top.rules (Some (place_of k, text ∷ [])) rows ≡ rows ++ word_row k text ∷ []
@@ -176,6 +182,7 @@ option_settles tile value rows none = rw none refl
 option_settles cache value rows none = rw none refl
 option_settles workers value rows none = rw none refl
 option_settles ahead value rows none = rw none refl
+option_settles scale value rows none = rw none refl
 
 word_settles : (k : ℕ) (text : Text) (rows : List Row) → has_row (place_of k) rows ≡ false
     → settle_fault top.rules false (held rows (Some (place_of k, text ∷ []))) ≡ []

@@ -12,6 +12,7 @@ pub data Setting : Type 0 where
   cache : Setting
   workers : Setting
   ahead : Setting
+  scale : Setting
 
 abbrev pub id_of : Setting → Text
 id_of first = codes "first"
@@ -20,6 +21,7 @@ id_of tile = codes "tile"
 id_of cache = codes "cache"
 id_of workers = codes "workers"
 id_of ahead = codes "ahead"
+id_of scale = codes "scale"
 
 pub data Argument : Type 0 where
   word : Text → Argument

@@ -12,10 +12,10 @@ use Rattle.clap.specs.ValueTests.{is_unsigned_in}
 use Rattle.clap.specs.Simple.{matches_of}
 use Rattle.clap.specs.Faults.{fault_of}
 use Rattle.clap.specs.Kinds.{Kinds}
-use Rattle.fx_words.specs.declared.order.TheConstants.{MOST_AHEAD, MOST_CACHE, MOST_WORKERS}
+use Rattle.fx_words.specs.declared.order.TheConstants.{MOST_AHEAD, MOST_CACHE, MOST_SCALE, MOST_WORKERS}
 use Rattle.fx_words.specs.declared.order.Mode.{Mode}
-use Rattle.fx_words.specs.declared.order.Mode.TheVariants.{Render, Check, Bench, Migrate, Takes}
-use Rattle.fx_words.specs.Ordered.{Ordered}
+use Rattle.fx_words.specs.declared.order.Mode.TheVariants.{Render, Check, Bench, Migrate, Takes, Plan}
+use Rattle.fx_words.specs.Ordered.{Ordered, is_scale}
 use Rattle.fx_words.specs.Command.{ofxr}
 
 abbrev pub mode_of : Text → Option Mode
@@ -24,7 +24,8 @@ mode_of word =
     if bytes_eq word (codes "check") then Some Check else
     if bytes_eq word (codes "bench") then Some Bench else
     if bytes_eq word (codes "migrate") then Some Migrate else
-    if bytes_eq word (codes "takes") then Some Takes else None
+    if bytes_eq word (codes "takes") then Some Takes else
+    if bytes_eq word (codes "plan") then Some Plan else None
 
 -- for bench the graph is a number of 1 to 6 decimal digits
 abbrev pub is_bench_number : Text → Bool
@@ -62,9 +63,9 @@ abbrev pub given : {A B : Type 0} → Option A → (A → Option B) → Option B
 given (Some a) next = next a
 given None next = None
 
-abbrev pub order_with : Mode → Text → ℕ → ℕ → ℕ → ℕ → ℕ → ℕ → Option Ordered
-order_with mode graph first last tile cache workers ahead =
-    if is_graph_for mode graph && fits_memory cache tile
+abbrev pub order_with : Mode → Text → ℕ → ℕ → ℕ → ℕ → ℕ → ℕ → ℕ → Option Ordered
+order_with mode graph first last tile cache workers ahead scale =
+    if is_graph_for mode graph && fits_memory cache tile && is_scale scale
     then Some (record {
       mode = mode;
       graph = graph;
@@ -74,6 +75,7 @@ order_with mode graph first last tile cache workers ahead =
       cache = cache;
       workers = workers;
       ahead = ahead;
+      scale = scale;
     })
     else None
 
@@ -88,7 +90,8 @@ order_in rows =
     given (option_of (codes "cache") 0 MOST_CACHE (default_cache tile) rows) (λ cache.
     given (option_of (codes "workers") 1 MOST_WORKERS 4 rows) (λ workers.
     given (option_of (codes "ahead") 0 MOST_AHEAD 0 rows) (λ ahead.
-    order_with mode graph first last tile cache workers ahead))))))))
+    given (option_of (codes "scale") 1 MOST_SCALE 1 rows) (λ scale.
+    order_with mode graph first last tile cache workers ahead scale)))))))))
 
 -- the order of what clap found, where it found no fault
 abbrev pub order_by : Kinds → List Row → Option Ordered

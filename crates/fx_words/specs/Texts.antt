@@ -1,7 +1,8 @@
 -- The lines that a run writes. Numbers are plain decimal, names as they are, and each line ends with one line
 -- feed.
-use Rattle.std.specs.Prelude.{ℕ, ℤ, List, [], ◌∷◌, ◌++◌, codes, decimal}
+use Rattle.std.specs.Prelude.{ℕ, ℤ, List, [], ◌∷◌, ◌++◌, length, codes, decimal}
 use Rattle.std.specs.Fmt.{signed_decimal}
+use Rattle.std.specs.List.{flat_map}
 use Rattle.fx_pam.specs.declared.fault.PamField.{PamField}
 use Rattle.fx_pam.specs.declared.fault.PamField.TheVariants.{Width, Height, Depth, Maxval}
 use Rattle.fx_text.specs.declared.fault.GraphCode.{GraphCode}
@@ -10,6 +11,8 @@ use Rattle.fx_words.specs.declared.fault.FrameFault.{FrameFault}
 use Rattle.fx_words.specs.declared.fault.FrameFault.TheVariants as frame
 use Rattle.fx_words.specs.declared.fault.RunFault.{RunFault}
 use Rattle.fx_words.specs.declared.fault.RunFault.TheVariants as run
+use Rattle.fx_words.specs.declared.plan.PlanFrame.{PlanFrame}
+use Rattle.fx_words.specs.declared.plan.PlanLine.{PlanLine}
 use Rattle.fx_words.specs.declared.report.Report.{Report}
 use Rattle.fx_words.specs.declared.report.Report.TheVariants as report
 
@@ -54,7 +57,8 @@ frame_text (frame.SampleAboveMaxval place value) = codes "P5 " ++ (decimal place
 frame_text (frame.TooLarge sum) = codes "P6 " ++ decimal sum
 
 abbrev pub usage_text : List ℕ
-usage_text = codes "usage: ofxr MODE GRAPH [--first N] [--last N] [--tile N] [--cache N] [--workers N] [--ahead N]\n"
+usage_text =
+    codes "usage: ofxr MODE GRAPH [--first N] [--last N] [--tile N] [--cache N] [--workers N] [--ahead N] [--scale N]\n"
 
 -- a line that tells of a name
 abbrev pub name_text : List ℕ → List ℕ → List ℕ
@@ -108,6 +112,25 @@ bench_text frames size sum =
 abbrev pub migrate_text : ℕ → List ℕ
 migrate_text nodes = codes "nodes " ++ (decimal nodes ++ codes "\n")
 
+-- a region of a node at a frame: the node's place in the graph's list, the frame, and the four bounds
+abbrev pub plan_line_text : PlanLine → List ℕ
+plan_line_text l =
+    let r = l.region in
+    decimal l.node ++ (codes " " ++ (signed_decimal l.frame ++ (
+    codes " " ++ (signed_decimal r.x1 ++ (codes " " ++ (signed_decimal r.y1 ++ (
+    codes " " ++ (signed_decimal r.x2 ++ (codes " " ++ (signed_decimal r.y2 ++ codes "\n"))))))))))
+
+-- a frame, how many entries it has, and a line for each
+abbrev pub plan_frame_text : PlanFrame → List ℕ
+plan_frame_text f =
+    (codes "frame " ++ (decimal f.frame ++ (codes " entries " ++ (decimal (length f.entries) ++ codes "\n"))))
+    ++ flat_map plan_line_text f.entries
+
+-- how many frames, and the lines of each
+abbrev pub plan_text : List PlanFrame → List ℕ
+plan_text frames =
+    (codes "frames " ++ (decimal (length frames) ++ codes "\n")) ++ flat_map plan_frame_text frames
+
 -- the report of a run
 abbrev pub report_text : Report → List ℕ
 report_text (report.Render frames tiles void passed asked landed hits) =
@@ -117,3 +140,4 @@ report_text (report.Bench frames size sum) = bench_text frames size sum
 report_text (report.Migrate nodes) = migrate_text nodes
 report_text (report.Takes takes frames tiles void passed asked landed hits) =
     takes_text takes frames tiles void passed asked landed hits
+report_text (report.Plan frames) = plan_text frames

@@ -1,10 +1,10 @@
-//! The command as `clap` is told it: two words that are required, and six options with a whole number each.
+//! The command as `clap` is told it: two words that are required, and seven options with a whole number each.
 ghost use Rattle.std.specs.Prelude.{◌≡◌, ◌≤◌, ◌≤ℤ◌, false, pos, IfOk};
 ghost use Rattle.clap.specs.Simple.{app_of};
 ghost use Rattle.clap.specs.Walk.{rule_of};
 ghost use Rattle.fx_words.specs.Command.{bare, ofxr, word_rule, number_rule};
 
-use crate::order::{MOST_AHEAD, MOST_CACHE, MOST_WORKERS};
+use crate::order::{MOST_AHEAD, MOST_CACHE, MOST_SCALE, MOST_WORKERS};
 use clap::{Arg, Command, value_parser};
 use fx_base::limits::{LAST_FRAME, MOST_TILE_SIDE};
 use std::alloc::{AllocError, Global};
@@ -61,5 +61,6 @@ pub(crate) fn command<'a>(alloc: Global) -> Result<Command<'a>, AllocError>
         .arg(number(alloc, "tile", 1, MOST_TILE_SIDE))?
         .arg(number(alloc, "cache", 0, MOST_CACHE))?
         .arg(number(alloc, "workers", 1, MOST_WORKERS))?
-        .arg(number(alloc, "ahead", 0, MOST_AHEAD))
+        .arg(number(alloc, "ahead", 0, MOST_AHEAD))?
+        .arg(number(alloc, "scale", 1, MOST_SCALE))
 }

@@ -10,7 +10,7 @@ use std::alloc::{AllocError, Global};
 
 // The line of words that are no use of the command.
 const USAGE: &str =
-    "usage: ofxr MODE GRAPH [--first N] [--last N] [--tile N] [--cache N] [--workers N] [--ahead N]\n";
+    "usage: ofxr MODE GRAPH [--first N] [--last N] [--tile N] [--cache N] [--workers N] [--ahead N] [--scale N]\n";
 
 /// Why a source frame is refused.
 #[derive(Clone, Copy, Debug, PartialEq, Eq)]

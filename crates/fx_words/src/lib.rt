@@ -6,11 +6,13 @@ mod command;
 mod fault;
 mod law;
 mod order;
+mod plan;
 mod report;
 mod words;
 
 pub use fault::{FrameFault, RunFault, fault_text};
 pub use law::options_in_any_order;
 pub use order::{Mode, Order};
+pub use plan::{PlanFrame, PlanFrames, PlanLine, PlanLines};
 pub use report::{Report, report_text};
 pub use words::{WordFault, read_words};

@@ -11,6 +11,9 @@ pub const MOST_WORKERS: u32 = 64;
 /// The most moments of a block that is read ahead.
 pub const MOST_AHEAD: u32 = 4;
 
+/// The most that a picture's sides are divided by.
+pub const MOST_SCALE: u32 = 8;
+
 /// What is done with the graph.
 #[derive(Clone, Copy, Debug, PartialEq, Eq)]
 pub enum Mode {
@@ -24,6 +27,8 @@ pub enum Mode {
     Migrate,
     /// Its frames are rendered and written as it is written, and then after the edits of each take that it lists.
     Takes,
+    /// Which tiles each of its frames demands is told, and nothing is rendered or written beside.
+    Plan,
 }
 
 /// An order: the mode, the graph's name (for bench 1 to 6 decimal digits), and the options or their defaults.
@@ -44,6 +49,8 @@ pub struct Order {
     /// How many moments a block has whose source frames are read, and whose files are written, while the moments of
     /// another block are rendered, 1 to 4; where it is 0, moment after moment is read, rendered and written.
     pub ahead: u32,
+    /// What the sides of a picture and all lengths are divided by: 1, 2, 4 or 8.
+    pub scale: u32,
 }
 
 impl Model for Order {
@@ -60,7 +67,8 @@ impl Model for Order {
       cache = o.cache;
       workers = o.workers;
       ahead = o.ahead;
+      scale = o.scale;
     } };
 
-    ghost invariant = { λ o. AreInRange o.first o.last o.tile o.cache o.workers o.ahead };
+    ghost invariant = { λ o. AreInRange o.first o.last o.tile o.cache o.workers o.ahead o.scale };
 }

@@ -2,11 +2,12 @@
 ghost use Rattle.std.specs.Prelude.{◌≡◌, ◌++◌, codes, decimal, string_bytes, IfOk, OnOk, OnErr};
 ghost use Rattle.fx_words.specs.Texts.{tiles_text, landed_text, render_text, takes_text, check_text, bench_text, migrate_text, report_text};
 
+use crate::plan::{PlanFrames, plan_lines};
 use fx_base::Memory;
 use std::alloc::{AllocError, Global};
 
-/// The numbers that a run reports, by its mode.
-#[derive(Clone, Copy, Debug, PartialEq, Eq)]
+/// What a run reports, by its mode.
+#[derive(Debug, Drop)]
 pub enum Report {
     /// Frames rendered and window tiles over them all, of which so many were void, passed on to another node's
     /// frame, or asked for; and how many tiles were landed and how often a kept one served.
@@ -45,6 +46,10 @@ pub enum Report {
         asked: u64,
         landed: u64,
         hits: u64,
+    },
+    /// What each of the frames demands.
+    Plan {
+        frames: PlanFrames,
     },
 }
 
@@ -124,8 +129,8 @@ fn migrate_line(alloc: Global, nodes: u64) -> Result<String, AllocError>
     format!(in alloc; "nodes {nodes}\n")
 }
 
-fn lines_of(alloc: Global, report: Report) -> Result<String, AllocError>
-    ensures { IfOk result (λ text. string_bytes text ≡ report_text report) }
+fn lines_of(alloc: Global, report: &Report) -> Result<String, AllocError>
+    ensures { IfOk result (λ text. string_bytes text ≡ report_text report.now) }
 {
     match report {
         Report::Render {
@@ -137,15 +142,22 @@ fn lines_of(alloc: Global, report: Report) -> Result<String, AllocError>
             landed,
             hits,
         } => render_lines(
-            alloc, frames, tiles, void_tiles, passed, asked, landed, hits,
+            alloc,
+            *frames,
+            *tiles,
+            *void_tiles,
+            *passed,
+            *asked,
+            *landed,
+            *hits,
         ),
         Report::Check {
             nodes,
             frames,
             wanted,
-        } => check_lines(alloc, nodes, frames, wanted),
-        Report::Bench { frames, size, sum } => bench_lines(alloc, frames, size, sum),
-        Report::Migrate { nodes } => migrate_line(alloc, nodes),
+        } => check_lines(alloc, *nodes, *frames, *wanted),
+        Report::Bench { frames, size, sum } => bench_lines(alloc, *frames, *size, *sum),
+        Report::Migrate { nodes } => migrate_line(alloc, *nodes),
         Report::Takes {
             takes,
             frames,
@@ -157,10 +169,18 @@ fn lines_of(alloc: Global, report: Report) -> Result<String, AllocError>
             hits,
         } => {
             let render = render_lines(
-                alloc, frames, tiles, void_tiles, passed, asked, landed, hits,
+                alloc,
+                *frames,
+                *tiles,
+                *void_tiles,
+                *passed,
+                *asked,
+                *landed,
+                *hits,
             )?;
-            takes_lines(alloc, takes, render.as_str())
+            takes_lines(alloc, *takes, render.as_str())
         }
+        Report::Plan { frames } => plan_lines(alloc, frames.items()),
     }
 }
 
@@ -169,6 +189,6 @@ pub fn report_text(alloc: Global, report: &Report, out: &mut Vec<u8>) -> Result<
     ensures ok { OnOk result (out.new.items ≡ out.old.items ++ report_text report.now) }
     ensures err { OnErr result (out.new.items ≡ out.old.items) }
 {
-    let lines = lines_of(alloc, *report)?;
+    let lines = lines_of(alloc, report)?;
     push(out, lines.as_str())
 }

@@ -8,12 +8,13 @@ ghost use Rattle.clap.specs.Matches.{found_of};
 ghost use Rattle.clap.specs.Walk.{first_of, one_of, rows_of};
 ghost use Rattle.fx_words.specs.Order.{mode_of, is_bench_number, is_graph_for, fits_memory, default_cache, option_of};
 ghost use Rattle.fx_words.specs.Order.{number_or, within, order_in, order_of};
+ghost use Rattle.fx_words.specs.Ordered.{is_scale};
 ghost use Rattle.fx_words.specs.Seen.{is_memory, Reads};
 ghost use Rattle.fx_words.specs.declared.order.TheConstants.{MOST_CACHE};
 ghost use Rattle.fx_words.specs.declared.words.WordFault.TheVariants.{Memory as OutOfMemory};
 
 use crate::command::command;
-use crate::order::{MOST_AHEAD, MOST_CACHE, MOST_WORKERS, Mode, Order};
+use crate::order::{MOST_AHEAD, MOST_CACHE, MOST_SCALE, MOST_WORKERS, Mode, Order};
 use clap::error::ErrorKind;
 use clap::{ArgMatches, Error};
 use fx_base::Name;
@@ -24,7 +25,8 @@ use std::alloc::{AllocError, Global};
 #[derive(Clone, Copy, Debug, PartialEq, Eq)]
 pub enum WordFault {
     /// The words are no use of the command: a word too many or too few, an unknown or repeated option, a number
-    /// out of its range, an unknown mode, too large a cache, or for bench a graph that is no number.
+    /// out of its range, an unknown mode, too large a cache, a scale that is none of the four, or for bench a graph
+    /// that is no number.
     Usage,
     /// Memory was wanting.
     Memory,
@@ -47,6 +49,7 @@ fn mode_of(word: &str) -> Option<Mode>
         "bench" => Some(Mode::Bench),
         "migrate" => Some(Mode::Migrate),
         "takes" => Some(Mode::Takes),
+        "plan" => Some(Mode::Plan),
         _ => None,
     }
 }
@@ -67,7 +70,7 @@ fn is_graph_for(mode: Mode, word: &str) -> bool
     ensures { result ≡ is_graph_for mode word.now }
 {
     match mode {
-        Mode::Render | Mode::Check | Mode::Migrate | Mode::Takes => true,
+        Mode::Render | Mode::Check | Mode::Migrate | Mode::Takes | Mode::Plan => true,
         Mode::Bench => is_bench_number(word),
     }
 }
@@ -79,6 +82,12 @@ fn fits_memory(cache: u32, tile: u32) -> bool
     ensures fits { IsTrue result → cache * tile * tile * 8 ≤ 2 ^ 31 }
 {
     u64::from(cache) * u64::from(tile) * u64::from(tile) * 8 <= 1 << 31
+}
+
+fn is_scale(number: u32) -> bool
+    ensures { result ≡ is_scale number }
+{
+    matches!(number, 1 | 2 | 4 | 8)
 }
 
 fn default_cache(tile: u32) -> u32
@@ -171,7 +180,8 @@ fn order_in(alloc: Global, matches: &ArgMatches<'_>) -> Result<Order, WordFault>
     let cache = option_of(matches, "cache", 0, MOST_CACHE, default_cache(tile))?;
     let workers = option_of(matches, "workers", 1, MOST_WORKERS, 4)?;
     let ahead = option_of(matches, "ahead", 0, MOST_AHEAD, 0)?;
-    if !is_graph_for(mode, graph) || !fits_memory(cache, tile) {
+    let scale = option_of(matches, "scale", 1, MOST_SCALE, 1)?;
+    if !is_graph_for(mode, graph) || !fits_memory(cache, tile) || !is_scale(scale) {
         return Err(WordFault::Usage);
     }
     Ok(Order {
@@ -183,6 +193,7 @@ fn order_in(alloc: Global, matches: &ArgMatches<'_>) -> Result<Order, WordFault>
         cache,
         workers,
         ahead,
+        scale,
     })
 }
 

@@ -6,6 +6,7 @@ use Rattle.std.proofs.lemmas.Result.{err_from_is_err_and}
 use Rattle.fx_base.specs.Pattern.{name_of}
 use Rattle.fx_outside.specs.Outside.{Files}
 use Rattle.fx_outside.specs.Sure.{sure_library_files, sure_depot_files}
+use Rattle.fx_proxy.specs.Proxy.{scaled_images}
 use Rattle.fx_scene.specs.Scenes.{graph_shown}
 use Rattle.fx_tile.specs.declared.count.TileCount.{TileCount}
 use Rattle.fx_words.specs.Ordered.{Ordered}
@@ -13,12 +14,12 @@ use Rattle.fx_words.specs.declared.order.Mode.{Mode}
 use Rattle.fx_words.specs.declared.order.Mode.TheVariants.{Bench}
 use Rattle.fx_app.specs.Bench.{made_of, bytes_of}
 use Rattle.fx_app.specs.Files.{HasGained}
-use Rattle.fx_app.specs.Graphs.{FileShown, file_shown, first_of, frame_count, graph_under, last_of}
+use Rattle.fx_app.specs.Graphs.{FileShown, Graph, file_shown, first_of, frame_count, graph_under, last_of}
 use Rattle.fx_app.specs.Moments.{HasRendered}
-use Rattle.fx_app.specs.Reels.{plain_reel, takes_for}
+use Rattle.fx_app.specs.Reels.{ordered_file, plain_reel, takes_for}
 use Rattle.fx_app.specs.Steps.{bytes_under, GraphCause, GraphFetch}
-use Rattle.fx_app.proofs.BenchLemmas.{are_short, bytes_put, bench_graph, bench_stops, bench_is}
-use Rattle.fx_app.proofs.RenderLemmas.{gained_here}
+use Rattle.fx_app.proofs.BenchLemmas.{are_short, bytes_put, bench_graph, bench_stops, bench_is, small_files}
+use Rattle.fx_app.proofs.RenderLemmas.{gained_here, size_here}
 use Rattle.fx_app.proofs.StepsLemmas.{both}
 use Rattle.fx_app.proofs.bench.bench_report.Goals as goal
 
@@ -30,13 +31,17 @@ made_as inside word library same each = fun_ext each ∙ ap made_of same
 no_takes : (order : Ordered) (file : FileShown) → order.mode ≡ Bench → takes_for order.mode file.takes ≡ []
 no_takes order file is = ap (λ (m : Mode). takes_for m file.takes) is
 
+abbrev small_graph : Ordered → FileShown → Graph
+small_graph order file = (ordered_file order file).graph
+
 -- what was put, over the frames from a to b
 gained_from : (order : Ordered) (library old new : Files) (file : FileShown) (a b : ℕ) (count : TileCount)
     → graph_under library order.graph ≡ Some (Ok file) → takes_for order.mode file.takes ≡ []
     → a ≡ first_of file.graph order → b ≡ last_of file.graph order → (r : HasRendered (Unit {0}) (Some order) library old new count)
-    → HasGained (plain_reel file.graph a b) r.images (frame_count a b) old new
+    → HasGained (plain_reel order.scale (ordered_file order file).graph a b) (scaled_images order.scale r.images) (frame_count a b) old new
 gained_from order library old new file a b count there none first last r =
-    both (λ m n. HasGained (plain_reel file.graph m n) r.images (frame_count m n) old new) (first_of file.graph order) (last_of file.graph order)
+    let h = (ordered_file order file).graph in
+    both (λ m n. HasGained (plain_reel order.scale h m n) (scaled_images order.scale r.images) (frame_count m n) old new) (first_of file.graph order) (last_of file.graph order)
     a b (sym first) (sym last) (gained_here order library old new file count r there none tt)
 
 pub returns-in_err-file-clause-cause : goal.returns-in_err-file-clause-cause
@@ -79,7 +84,8 @@ totals_of-totals-requires-clause-short g c =
     let none = no_takes c.args.order.now (file_shown c.in_ok-file.file) c.requires.in_mode in
     let gained = gained_from c.args.order.now (sure_library_files c.graph_of.new.library) (sure_depot_files c.new-depot.result) (sure_depot_files c.put_moments.new.depot) (file_shown c.in_ok-file.file)
     c.first_of-first.result c.last_of-last.result c.in_ok-put_moments.field-0 there none c.first_of-first.ensures.value c.last_of-last.ensures.value r in
-    are_short (graph_shown c.in_ok-file.file.graph) r.images c.first_of-first.result (frame_count c.first_of-first.result c.last_of-last.result) (sure_depot_files c.new-depot.result) (sure_depot_files c.put_moments.new.depot) c.in_ok-names.ensures.files c.new-depot.ensures
+    are_short c.args.order.now.scale (small_graph c.args.order.now (file_shown c.in_ok-file.file)) (scaled_images c.args.order.now.scale r.images) c.first_of-first.result (frame_count c.first_of-first.result c.last_of-last.result) (sure_depot_files c.new-depot.result) (sure_depot_files c.put_moments.new.depot)
+    (small_files c.args.order.now.scale (graph_shown c.in_ok-file.file.graph) (size_here c.args.order.now (sure_library_files c.graph_of.new.library) (sure_depot_files c.new-depot.result) (sure_depot_files c.put_moments.new.depot) (file_shown c.in_ok-file.file) c.in_ok-put_moments.field-0 r there) c.in_ok-names.ensures.files) c.new-depot.ensures
     gained
 
 pub returns-clause-ok : goal.returns-clause-ok
@@ -96,9 +102,13 @@ returns-clause-ok g c =
     c.first_of-first.result c.last_of-last.result c.in_ok-put_moments.field-0 there none c.first_of-first.ensures.value c.last_of-last.ensures.value r in
     let low = c.last_of-last.ensures.small in
     let early = c.first_of-first.ensures.small in
-    let bytes : flat_map (bytes_under (sure_depot_files c.put_moments.new.depot)) c.deref.result.now ≡ bytes_of (plain_reel (graph_shown c.in_ok-file.file.graph) c.first_of-first.result c.last_of-last.result) r.images (frame_count c.first_of-first.result c.last_of-last.result) =
+    let order = c.args.order.now in
+    let h = small_graph order (file_shown c.in_ok-file.file) in
+    let small = scaled_images order.scale r.images in
+    let bytes : flat_map (bytes_under (sure_depot_files c.put_moments.new.depot)) c.deref.result.now ≡ bytes_of (plain_reel order.scale h c.first_of-first.result c.last_of-last.result) small (frame_count c.first_of-first.result c.last_of-last.result) =
     ap (λ (ns : List (List ℕ)). flat_map (bytes_under (sure_depot_files c.put_moments.new.depot)) ns) (c.deref.ensures.value ∙ c.in_ok-names.ensures.names)
-    ∙ bytes_put (graph_shown c.in_ok-file.file.graph) r.images c.first_of-first.result (frame_count c.first_of-first.result c.last_of-last.result) (sure_depot_files c.new-depot.result) (sure_depot_files c.put_moments.new.depot) c.in_ok-names.ensures.files c.new-depot.ensures
+    ∙ bytes_put order.scale h small c.first_of-first.result (frame_count c.first_of-first.result c.last_of-last.result) (sure_depot_files c.new-depot.result) (sure_depot_files c.put_moments.new.depot)
+    (small_files order.scale (graph_shown c.in_ok-file.file.graph) (size_here c.args.order.now (sure_library_files c.graph_of.new.library) (sure_depot_files c.new-depot.result) (sure_depot_files c.put_moments.new.depot) (file_shown c.in_ok-file.file) c.in_ok-put_moments.field-0 r there) c.in_ok-names.ensures.files) c.new-depot.ensures
     gained (omega (arith, low, early)) in
     bench_is c.args.order.now (sure_library_files c.graph_of.new.library) (sure_depot_files c.new-depot.result) (sure_depot_files c.put_moments.new.depot) (file_shown c.in_ok-file.file) c.in_ok-put_moments.field-0
     c.first_of-first.result c.last_of-last.result c.frame_count.result c.totals_of-totals.result.size c.totals_of-totals.result.sum

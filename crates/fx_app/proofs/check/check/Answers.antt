@@ -1,10 +1,11 @@
 use Rattle.std.proofs.Common.{◌≡◌, ◌++◌, ◌∙◌, ℕ, List, [], Some, Ok, subst, ap}
 use Rattle.std.proofs.lemmas.Result.{err_from_is_err_and}
+use Rattle.fx_scene.specs.Scenes.{graph_shown}
 use Rattle.fx_words.specs.Ordered.{Ordered}
 use Rattle.fx_words.specs.Texts.{check_text}
 use Rattle.fx_words.specs.declared.order.Mode.{Mode}
 use Rattle.fx_app.specs.Check.{check_report}
-use Rattle.fx_app.specs.Graphs.{file_shown, graph_under}
+use Rattle.fx_app.specs.Graphs.{FileShown, file_shown, graph_under}
 use Rattle.fx_app.specs.Reels.{takes_for}
 use Rattle.fx_app.specs.Run.{Job}
 use Rattle.fx_app.specs.Steps.{GraphCause, GraphFetch}
@@ -43,10 +44,12 @@ returns-in_err-report_lines-clause-ended g c = λ depot faults name.
     let there : L.tells → graph_under (L.file c.args.library.now) c.args.order.now.graph ≡ Some (Ok (file_shown c.in_ok-file.file)) = λ one.
     subst (λ (n : List ℕ). graph_under (L.file c.args.library.now) n ≡ Some (Ok (file_shown c.in_ok-file.file))) at (c.in_ok-file.ensures.ok one) in
     let none : takes_for c.args.order.now.mode (file_shown c.in_ok-file.file).takes ≡ [] = ap (λ (m : Mode). takes_for m (file_shown c.in_ok-file.file).takes) c.requires in
-    let own : L.tells → (job : Job (Some c.args.order.now) (L.file c.args.library.now)) × ((check_text c.node_count.result c.frame_count.result c.in_ok-count_wanted.field-0) ≡ check_report job) = λ one. (
-      end.check_job (L.file c.args.library.now) c.args.order.now (file_shown c.in_ok-file.file) c.first_of-first.result c.last_of-last.result c.in_ok-count_wanted.field-0 (there one) none c.first_of-first.ensures.value c.last_of-last.ensures.value c.in_ok-count_wanted.ensures.ok,
-      end.check_is (L.file c.args.library.now) c.args.order.now (file_shown c.in_ok-file.file) c.first_of-first.result c.last_of-last.result c.node_count.result c.frame_count.result c.in_ok-count_wanted.field-0 (there one) none c.first_of-first.ensures.value c.last_of-last.ensures.value c.in_ok-count_wanted.ensures.ok c.node_count.ensures c.frame_count.ensures,
-    ) in
+    let order = c.args.order.now in
+    let small = c.ordered-small.ensures.shown in
+    let own : L.tells → (job : Job (Some order) (L.file c.args.library.now)) × ((check_text c.node_count.result c.frame_count.result c.in_ok-count_wanted.field-0) ≡ check_report job) = λ one.
+    end.checked (L.file c.args.library.now) order (file_shown c.in_ok-file.file) (graph_shown c.ordered-small.result.graph) c.first_of-first.result c.last_of-last.result
+    c.node_count.result c.frame_count.result c.in_ok-count_wanted.field-0 (there one) none (ap (λ (f : FileShown). f.graph) small)
+    c.first_of-first.ensures.value c.last_of-last.ensures.value (c.in_ok-count_wanted.ensures.ok order.scale) c.node_count.ensures c.frame_count.ensures in
     let p = err_from_is_err_and c.from_residual-in_err-report_lines.result c.from_residual-in_err-report_lines.ensures.1 in
     rw (p.1, p.2) (end.report_ended c.args.order.now (L.file c.args.library.now) depot faults name
     c.node_count.result c.frame_count.result c.in_ok-count_wanted.field-0
@@ -62,10 +65,12 @@ returns-clause-checked g c = λ one.
     let there : L.tells → graph_under (L.file c.args.library.now) c.args.order.now.graph ≡ Some (Ok (file_shown c.in_ok-file.file)) = λ one.
     subst (λ (n : List ℕ). graph_under (L.file c.args.library.now) n ≡ Some (Ok (file_shown c.in_ok-file.file))) at (c.in_ok-file.ensures.ok one) in
     let none : takes_for c.args.order.now.mode (file_shown c.in_ok-file.file).takes ≡ [] = ap (λ (m : Mode). takes_for m (file_shown c.in_ok-file.file).takes) c.requires in
-    let own : L.tells → (job : Job (Some c.args.order.now) (L.file c.args.library.now)) × ((check_text c.node_count.result c.frame_count.result c.in_ok-count_wanted.field-0) ≡ check_report job) = λ one. (
-      end.check_job (L.file c.args.library.now) c.args.order.now (file_shown c.in_ok-file.file) c.first_of-first.result c.last_of-last.result c.in_ok-count_wanted.field-0 (there one) none c.first_of-first.ensures.value c.last_of-last.ensures.value c.in_ok-count_wanted.ensures.ok,
-      end.check_is (L.file c.args.library.now) c.args.order.now (file_shown c.in_ok-file.file) c.first_of-first.result c.last_of-last.result c.node_count.result c.frame_count.result c.in_ok-count_wanted.field-0 (there one) none c.first_of-first.ensures.value c.last_of-last.ensures.value c.in_ok-count_wanted.ensures.ok c.node_count.ensures c.frame_count.ensures,
-    ) in
+    let order = c.args.order.now in
+    let small = c.ordered-small.ensures.shown in
+    let own : L.tells → (job : Job (Some order) (L.file c.args.library.now)) × ((check_text c.node_count.result c.frame_count.result c.in_ok-count_wanted.field-0) ≡ check_report job) = λ one.
+    end.checked (L.file c.args.library.now) order (file_shown c.in_ok-file.file) (graph_shown c.ordered-small.result.graph) c.first_of-first.result c.last_of-last.result
+    c.node_count.result c.frame_count.result c.in_ok-count_wanted.field-0 (there one) none (ap (λ (f : FileShown). f.graph) small)
+    c.first_of-first.ensures.value c.last_of-last.ensures.value (c.in_ok-count_wanted.ensures.ok order.scale) c.node_count.ensures c.frame_count.ensures in
     (own one).0
 
 pub returns-clause-told : goal.returns-clause-told
@@ -76,8 +81,10 @@ returns-clause-told g c = λ one told.
     let there : L.tells → graph_under (L.file c.args.library.now) c.args.order.now.graph ≡ Some (Ok (file_shown c.in_ok-file.file)) = λ one.
     subst (λ (n : List ℕ). graph_under (L.file c.args.library.now) n ≡ Some (Ok (file_shown c.in_ok-file.file))) at (c.in_ok-file.ensures.ok one) in
     let none : takes_for c.args.order.now.mode (file_shown c.in_ok-file.file).takes ≡ [] = ap (λ (m : Mode). takes_for m (file_shown c.in_ok-file.file).takes) c.requires in
-    let own : L.tells → (job : Job (Some c.args.order.now) (L.file c.args.library.now)) × ((check_text c.node_count.result c.frame_count.result c.in_ok-count_wanted.field-0) ≡ check_report job) = λ one. (
-      end.check_job (L.file c.args.library.now) c.args.order.now (file_shown c.in_ok-file.file) c.first_of-first.result c.last_of-last.result c.in_ok-count_wanted.field-0 (there one) none c.first_of-first.ensures.value c.last_of-last.ensures.value c.in_ok-count_wanted.ensures.ok,
-      end.check_is (L.file c.args.library.now) c.args.order.now (file_shown c.in_ok-file.file) c.first_of-first.result c.last_of-last.result c.node_count.result c.frame_count.result c.in_ok-count_wanted.field-0 (there one) none c.first_of-first.ensures.value c.last_of-last.ensures.value c.in_ok-count_wanted.ensures.ok c.node_count.ensures c.frame_count.ensures,
-    ) in
+    let order = c.args.order.now in
+    let small = c.ordered-small.ensures.shown in
+    let own : L.tells → (job : Job (Some order) (L.file c.args.library.now)) × ((check_text c.node_count.result c.frame_count.result c.in_ok-count_wanted.field-0) ≡ check_report job) = λ one.
+    end.checked (L.file c.args.library.now) order (file_shown c.in_ok-file.file) (graph_shown c.ordered-small.result.graph) c.first_of-first.result c.last_of-last.result
+    c.node_count.result c.frame_count.result c.in_ok-count_wanted.field-0 (there one) none (ap (λ (f : FileShown). f.graph) small)
+    c.first_of-first.ensures.value c.last_of-last.ensures.value (c.in_ok-count_wanted.ensures.ok order.scale) c.node_count.ensures c.frame_count.ensures in
     ((own one).0, c.in_ok-report_lines.ensures.ok told ∙ ap (λ text. O.written c.args.out.now ++ text) (own one).1)

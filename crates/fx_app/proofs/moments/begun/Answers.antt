@@ -1,6 +1,5 @@
 use Rattle.std.proofs.Common.{rules, ◌≡◌, ◌≢◌, ◌∙◌, List, map, ap, sym, subst, refl}
 use Rattle.std.specs.List.{AllPairs, Contains}
-use Rattle.fx_seq.proofs.MomentLemmas.{begins}
 use Rattle.fx_scene.specs.Scenes.{Shot, graph_shown}
 use Rattle.fx_scene.specs.Takes.{edits_of}
 use Rattle.fx_shipped.specs.declared.shipped.Shipped.{Shipped}
@@ -8,7 +7,9 @@ use Rattle.fx_shipped.specs.Shipped.{number_of}
 use Rattle.fx_shipped.proofs.NumberLaws.{numbers_differ, number_among}
 use Rattle.fx_life.specs.Posts.{HasLife}
 use Rattle.fx_life.proofs.LifeLemmas.{started_life}
+use Rattle.fx_words.specs.Ordered.{Ordered}
 use Rattle.fx_app.specs.Graphs.{Graph}
+use Rattle.fx_app.proofs.ScaledLemmas.{holds_none}
 use Rattle.fx_app.proofs.StartLemmas.{first_script, stands_first}
 use Rattle.fx_app.proofs.moments.begun.Goals as goal
 
@@ -38,6 +39,6 @@ returns-clause-making c = λ p reel side cache.
     ∙ ap (λ (s : Shot Shipped). record s.script { takes = edits_of takes }) c.new-scene.ensures.scene in
     let graph : scene.graph ≡ graph_shown c.args.file.graph =
     ap (λ (s : Shot Shipped). s.graph) c.remember.ensures ∙ ap (λ (s : Shot Shipped). s.graph) c.new-scene.ensures.scene in
-    stands_first (graph_shown c.args.file.graph) takes c.args.first c.args.last c.requires.order p reel _ script graph (search rules) refl refl refl
-    refl refl c.in_ok-crew.crew refl is.crew (is.new.side ∙ sym side) (is.new.capacity ∙ sym cache) is.new.nothing c.none.ensures
-    (begins p.uses scene.store (search rules) (search rules))
+    stands_first c.args.order.now.scale (graph_shown c.args.file.graph) takes c.args.first c.args.last c.requires.order p reel _ (ap (λ (o : Ordered). o.scale) c.order.view_is) script graph (search rules)
+    refl refl refl refl refl c.in_ok-crew.crew refl is.crew (is.new.side ∙ sym side) (is.new.capacity ∙ sym cache) is.new.nothing c.none.ensures
+    (holds_none p.reel.scale p.uses _ scene.store (search rules) (search rules) (search rules))

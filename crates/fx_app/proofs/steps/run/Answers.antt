@@ -1,9 +1,10 @@
 use Rattle.std.proofs.Common.{inr, map, string_bytes}
-use Rattle.fx_words.specs.declared.order.Mode.TheVariants.{Check, Bench, Migrate}
+use Rattle.fx_words.specs.declared.order.Mode.TheVariants.{Check, Bench, Migrate, Plan}
 use Rattle.fx_words.specs.Order.{order_of}
 use Rattle.fx_app.proofs.StepsLemmas.{only_memory, ends_by_memory}
 use Rattle.fx_app.proofs.MigrateLemmas as migrate
 use Rattle.fx_app.proofs.ModeLemmas as mode
+use Rattle.fx_app.proofs.PlanLemmas as plan
 use Rattle.fx_app.proofs.steps.run.Goals as goal
 
 pub returns-in-Ok-clause-accepted : goal.returns-in-Ok-clause-accepted
@@ -30,7 +31,7 @@ returns-in-Ok-clause-bench_reports g c = λ bench tells done. c.in-Ok.ensures.be
 pub returns-in-Ok-clause-refuses_graph : goal.returns-in-Ok-clause-refuses_graph
 returns-in-Ok-clause-refuses_graph g c = λ other told bad fetched.
     absurd (mode.not_refused g.L.Library.tells (order_of (map string_bytes c.args.words.now)) (g.L.Library.file c.args.library.now) other told bad
-    c.in-Ok.ensures.accepted c.in-Ok.ensures.checked c.in-Ok.ensures.migratable)
+    c.in-Ok.ensures.accepted c.in-Ok.ensures.checked c.in-Ok.ensures.migratable c.in-Ok.ensures.planned)
 
 pub returns-in-Err-clause-completes : goal.returns-in-Err-clause-completes
 returns-in-Err-clause-completes g c = λ render told known fetched wrote reported.
@@ -162,3 +163,28 @@ returns-in-Err-clause-refuses_slash g c = λ migrates told bad fetched.
     (sink.faults c.args.out.now, sink.faults c.outcome.new.out) c.tell.ensures.status told bad
     (mode.cause_at Migrate library.tells (order_of (map string_bytes c.args.words.now)) (library.file c.args.library.now) c.in-Err.ensures.ended.moment c.in-Err.fault migrates c.in-Err.ensures.ended.cause)
     c.in-Err.ensures.ended.rose fetched
+
+pub returns-in-Ok-clause-planned : goal.returns-in-Ok-clause-planned
+returns-in-Ok-clause-planned g c = λ plans told done. c.in-Ok.ensures.planned plans told
+
+pub returns-in-Ok-clause-plan_reports : goal.returns-in-Ok-clause-plan_reports
+returns-in-Ok-clause-plan_reports g c = λ plans told tells done. c.in-Ok.ensures.plan_told plans told tells
+
+pub returns-in-Err-clause-plan_statuses : goal.returns-in-Err-clause-plan_statuses
+returns-in-Err-clause-plan_statuses g c = λ plans.
+    let library = g.L.Library in
+    plan.plan_answers library.tells (order_of (map string_bytes c.args.words.now)) (library.file c.args.library.now) c.in-Err.ensures.ended.moment c.tell.result c.in-Err.fault c.tell.ensures.status
+    (mode.cause_at Plan library.tells (order_of (map string_bytes c.args.words.now)) (library.file c.args.library.now) c.in-Err.ensures.ended.moment c.in-Err.fault plans c.in-Err.ensures.ended.cause)
+
+pub returns-in-Err-clause-plan_completes : goal.returns-in-Err-clause-plan_completes
+returns-in-Err-clause-plan_completes g c = λ plans told known fetched reported.
+    let library = g.L.Library in
+    let depot = g.D.Depot in
+    let sink = g.O.Sink in
+    ends_by_memory c.tell.result c.in-Err.fault c.tell.ensures.status
+    (plan.only_plan_memory library.tells (order_of (map string_bytes c.args.words.now)) (library.file c.args.library.now) c.in-Err.ensures.ended.moment
+    (library.faults c.args.library.now, library.faults c.outcome.new.library, library.last c.outcome.new.library)
+    (depot.faults c.args.depot.now, depot.faults c.outcome.new.depot, depot.last c.outcome.new.depot)
+    (sink.faults c.args.out.now, sink.faults c.outcome.new.out)
+    c.in-Err.fault told known (mode.cause_at Plan library.tells (order_of (map string_bytes c.args.words.now)) (library.file c.args.library.now) c.in-Err.ensures.ended.moment c.in-Err.fault plans c.in-Err.ensures.ended.cause)
+    c.in-Err.ensures.ended.rose fetched reported)

@@ -12,4 +12,5 @@ returns c =
     let tile = c.in_ok-arg-5.ensures.shape c.number-3.ensures.local ∙ ap₂ with_rule last c.number-3.ensures.rule in
     let cache = c.in_ok-arg-6.ensures.shape c.number-4.ensures.local ∙ ap₂ with_rule tile c.number-4.ensures.rule in
     let workers = c.in_ok-arg-7.ensures.shape c.number-5.ensures.local ∙ ap₂ with_rule cache c.number-5.ensures.rule in
-    IfOk-weaker c.arg-8.result _ _ (λ m h. h.shape c.number-6.ensures.local ∙ ap₂ with_rule workers c.number-6.ensures.rule) c.arg-8.ensures
+    let ahead = c.in_ok-arg-8.ensures.shape c.number-6.ensures.local ∙ ap₂ with_rule workers c.number-6.ensures.rule in
+    IfOk-weaker c.arg-9.result _ _ (λ m h. h.shape c.number-7.ensures.local ∙ ap₂ with_rule ahead c.number-7.ensures.rule) c.arg-9.ensures
