@@ -3,6 +3,8 @@
 #![tactic(auto)]
 
 #[cfg(test)]
+mod count;
+#[cfg(test)]
 mod plan;
 #[cfg(test)]
 mod same;

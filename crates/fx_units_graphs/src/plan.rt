@@ -4,13 +4,13 @@ ghost use Rattle.fx_scene.specs.Right.{HasWanted};
 ghost use Rattle.fx_scene.specs.Scenes.{graph_shown, images_in};
 ghost use Rattle.fx_shipped.specs.Shipped.{meaning_of};
 
-use crate::same::same_at;
+use crate::same::{same, same_at};
 use fx_base::{Grid, Name};
 use fx_graph::{Graph, accept};
 use fx_outside::SureLibrary;
 use fx_plan::{Entry, plan};
 use fx_region::Regions;
-use fx_scene::{Scene, wants};
+use fx_scene::{Scene, uses, wants};
 use fx_seq::Store;
 use fx_shipped::Shipped;
 use fx_text::{GraphFault, read_graph};
@@ -297,5 +297,40 @@ fn a_frame_demands_renders(rt: HostRuntime) -> Result<(), Fail> {
         let rows = rows_of(alloc, planned, 7)?;
         same_at(&rt, planned, rows.as_slice(), *wanted);
     }
+    Ok(())
+}
+
+// Of frames 1 to 3 each wants the source's frames beside its own.
+const NEIGHBOURS: Planned<'static> = Planned {
+    project: (1, 1),
+    file: (1, 1),
+    side: 64,
+    nodes: r#"{"name":"s","source":"s#.pam","first":0,"last":9},{"name":"n","effect":"frameblend","clips":{"Source":"s"},"params":{"radius":1}}"#,
+};
+
+// A source's frame that is used, and the first and the last moment that wants it.
+type Used = (i64, u64, u64);
+
+const USED: &[Used] = &[(0, 0, 0), (1, 0, 1), (2, 0, 2), (3, 1, 2), (4, 2, 2)];
+
+fn used(alloc: Global, first: u32, last: u32) -> Result<Vec<Used>, Fail>
+    requires { last ≤ 999999 }
+{
+    let graph = graph_of(alloc, &NEIGHBOURS)
+        .ok()
+        .ok_or("the graph is refused")?;
+    let mut rows = Vec::new(alloc);
+    for one in uses(alloc, &graph, first, last)? {
+        rows.push((one.wanted.frame, one.from, one.until))?;
+    }
+    Ok(rows)
+}
+
+#[test]
+fn frames_use_what_they_want(rt: HostRuntime) -> Result<(), Fail> {
+    let alloc = rt.alloc();
+    let rows = used(alloc, 1, 3)?;
+    same(&rt, rows.as_slice(), USED);
+    same(&rt, used(alloc, 3, 1)?.len(), 0);
     Ok(())
 }
