@@ -107,8 +107,8 @@ impl<'a> BlockRows<'a> {
         self.each_sample(depth, step, first, cells, count, row);
     }
 
-    // Sets each of `count` samples of a row, whose first has this number, to the mean of its block. Depth and step are
-    // known to the loop, which then divides by neither.
+    // Sets each of `count` samples of a row, whose first has this number, to the mean of its block. The sides that a
+    // scale has are known to the loop, which then neither counts the cells of a block nor divides by as many.
     fn each_sample(
         &self,
         depth: Depth,
@@ -119,29 +119,32 @@ impl<'a> BlockRows<'a> {
         row: &mut [u8],
     )
         requires step { (0 < step) × (step ≤ 4) }
-        requires side { self.now.side ≤ 8 }
+        requires side { (1 ≤ self.now.side) × (self.now.side ≤ 8) }
+        requires mean { self.now.mean ≡ self.now.side * self.now.side }
         requires first { first ≤ 2 ^ 33 }
         requires few { count ≤ 2 ^ 34 }
         requires long { length row.old ≡ count * size depth }
         requires small { AreSmall cells.now }
         requires bound { (s : ℕ) → s < count
             → window (strided cells.now step (first_cell self.now.side step (first + s))) self.now.side
-            ≤ self.now.mean * greatest depth }
+            ≤ (self.now.side * self.now.side) * greatest depth }
         ensures { (s : ℕ) → s < count → sample_in depth row.new s
             ≡ rounded (window (strided cells.now step (first_cell self.now.side step (first + s))) self.now.side)
-            self.now.mean }
+            (self.now.side * self.now.side) }
     {
-        match (depth, step) {
-            (Depth::Byte, 4) => self.samples(Depth::Byte, 4, first, cells, count, row),
-            (Depth::Short, 4) => self.samples(Depth::Short, 4, first, cells, count, row),
-            (Depth::Byte, step) => self.samples(Depth::Byte, step, first, cells, count, row),
-            (Depth::Short, step) => self.samples(Depth::Short, step, first, cells, count, row),
+        match self.side {
+            2 => self.block_means(2, depth, step, first, cells, count, row),
+            4 => self.block_means(4, depth, step, first, cells, count, row),
+            8 => self.block_means(8, depth, step, first, cells, count, row),
+            side => self.block_means(side, depth, step, first, cells, count, row),
         }
     }
 
+    // Depth and step are known to the loop, too, which then divides by neither.
     #[inline(always)]
-    fn samples(
+    fn block_means(
         &self,
+        side: usize,
         depth: Depth,
         step: usize,
         first: usize,
@@ -150,22 +153,78 @@ impl<'a> BlockRows<'a> {
         row: &mut [u8],
     )
         requires step { (0 < step) × (step ≤ 4) }
-        requires side { self.now.side ≤ 8 }
+        requires side { (1 ≤ side) × (side ≤ 8) }
+        requires mean { self.now.mean ≡ side * side }
         requires first { first ≤ 2 ^ 33 }
         requires few { count ≤ 2 ^ 34 }
         requires long { length row.old ≡ count * size depth }
         requires small { AreSmall cells.now }
         requires bound { (s : ℕ) → s < count
-            → window (strided cells.now step (first_cell self.now.side step (first + s))) self.now.side
-            ≤ self.now.mean * greatest depth }
+            → window (strided cells.now step (first_cell side step (first + s))) side ≤ (side * side) * greatest depth }
         ensures { (s : ℕ) → s < count → sample_in depth row.new s
-            ≡ rounded (window (strided cells.now step (first_cell self.now.side step (first + s))) self.now.side)
-            self.now.mean }
+            ≡ rounded (window (strided cells.now step (first_cell side step (first + s))) side) (side * side) }
+    {
+        match (depth, step) {
+            (Depth::Byte, 4) => self.samples(side, Depth::Byte, 4, first, cells, count, row),
+            (Depth::Short, 4) => self.samples(side, Depth::Short, 4, first, cells, count, row),
+            (Depth::Byte, step) => self.samples(side, Depth::Byte, step, first, cells, count, row),
+            (Depth::Short, step) => self.samples(
+                side,
+                Depth::Short,
+                step,
+                first,
+                cells,
+                count,
+                row,
+            ),
+        }
+    }
+
+    #[inline(always)]
+    fn samples(
+        &self,
+        side: usize,
+        depth: Depth,
+        step: usize,
+        first: usize,
+        cells: &[u64],
+        count: usize,
+        row: &mut [u8],
+    )
+        requires step { (0 < step) × (step ≤ 4) }
+        requires side { (1 ≤ side) × (side ≤ 8) }
+        requires mean { self.now.mean ≡ side * side }
+        requires first { first ≤ 2 ^ 33 }
+        requires few { count ≤ 2 ^ 34 }
+        requires long { length row.old ≡ count * size depth }
+        requires small { AreSmall cells.now }
+        requires bound { (s : ℕ) → s < count
+            → window (strided cells.now step (first_cell side step (first + s))) side ≤ (side * side) * greatest depth }
+        ensures { (s : ℕ) → s < count → sample_in depth row.new s
+            ≡ rounded (window (strided cells.now step (first_cell side step (first + s))) side) (side * side) }
     {
         for s in 0..count {
-            let cell = (first + s) / step * self.side * step + (first + s) % step;
-            let sum = block_sum(cells, self.side, step, cell);
-            set_sample(depth, row, s, self.mean.sample(depth, sum));
+            let cell = (first + s) / step * side * step + (first + s) % step;
+            let sum = block_sum(cells, side, step, cell);
+            set_sample(depth, row, s, self.block_mean(side, depth, sum));
+        }
+    }
+
+    // The mean of a block by its sum: a shift where the loop knows the side, and else no division either.
+    #[inline(always)]
+    fn block_mean(&self, side: usize, depth: Depth, sum: u64) -> u16
+        requires side { (1 ≤ side) × (side ≤ 8) }
+        requires mean { self.now.mean ≡ side * side }
+        requires sum { sum ≤ (side * side) * greatest depth }
+        ensures value { result ≡ rounded sum (side * side) }
+        ensures bound { result ≤ greatest depth }
+    {
+        match side {
+            2 | 4 | 8 => {
+                let count = (side * side) as u64;
+                ((2 * sum + count) / (2 * count)) as u16
+            }
+            _ => self.mean.sample(depth, sum),
         }
     }
 }

@@ -31,7 +31,7 @@ each_sample-requires-clause-bound c s low =
     let n = nat_abs (to_z w64 (of_z w64 c.rect.inside.x1)) in
     let bound = block_bound image c.args.components me.side (greatest c.args.depth) w c.args._y c.args.cells.now c.requires.sums c.requires.cells
     (beyond_zero image w left wide) (n * count c.args.components + s) in
-    rw (step, im.mean) (square_bound me.side (greatest c.args.depth) _ bound)
+    rw step (square_bound me.side (greatest c.args.depth) _ bound)
 
 pub returns : goal.returns
 returns c = λ x inside.
@@ -53,7 +53,7 @@ returns c = λ x inside.
     let n_is : pos n ≡ rect.x1 = grind (arith, ints) in
     let ends = simp to_z-of_z at c.offset.ensures in
     let many : c.offset.result ≡ columns rect = rw (← c.rect.view_is) ends in
-    let means = rw (step, many, im.mean) at c.each_sample.ensures in
+    let means = rw (step, many) at c.each_sample.ensures in
     shows_samples c.args.depth e rect c.args._y c.each_sample.new.row
     (λ x k. rounded (sum_of k (block (pixel_at image) me.side x c.args._y)) (me.side * me.side))
     (λ i k low few.
