@@ -157,7 +157,8 @@ def other_report(said, report, words):
     """Whether another report was printed."""
     said, wanted = said.splitlines(), report.splitlines()
     # a cache that lets tiles go has its own count of those that landed or were found
-    if host.option(words, "--cache", 4096) == 1:
+    landed = int(wanted[-1].split()[1])
+    if 0 < host.option(words, "--cache", 4096) < landed:
         said, wanted = said[:-1], wanted[:-1]
     return None if said == wanted else f"reports {said} in place of {wanted}"
 
