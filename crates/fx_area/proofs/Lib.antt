@@ -1,4 +1,5 @@
 mod AnswerLaws
+mod BlockLaws
 mod BoxLaws
 mod LineLaws
 mod GatherLaws

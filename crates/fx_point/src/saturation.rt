@@ -1,5 +1,5 @@
 //! The effect saturation.
-ghost use Rattle.std.specs.Prelude.{◌≡◌, ◌≤◌, ◌≤ℤ◌, ◌*ℤ◌, pos, negsuc};
+ghost use Rattle.std.specs.Prelude.{◌≡◌, ◌≤◌, ℕ, ◌≤ℤ◌, ◌*ℤ◌, pos, negsuc};
 ghost use Rattle.std.specs.Int.{int_div_euclid};
 ghost use Rattle.fx_pixel.specs.Pixel.{greatest};
 ghost use Rattle.fx_point.specs.Saturation.{saturation, luma, saturated, saturated_pixel};
@@ -150,7 +150,8 @@ impl PointKernel for Saturating {
 
 #[inline(always)]
 fn luma(r: u16, g: u16, b: u16) -> u16
-    ensures { result ≡ luma r g b }
+    ensures value { result ≡ luma r g b }
+    ensures bound { (m : ℕ) → r ≤ m → g ≤ m → b ≤ m → result ≤ m }
 {
     let sum = u32::from(r) * 2126 + u32::from(g) * 7152 + u32::from(b) * 722;
     ((sum + 5000) / 10000) as u16
@@ -158,15 +159,59 @@ fn luma(r: u16, g: u16, b: u16) -> u16
 
 #[inline(always)]
 fn saturated(depth: Depth, amount: i64, luma: u16, c: u16) -> u16
-    requires { (pos 0 ≤ℤ amount) × (amount ≤ℤ pos 262144) }
+    requires amount { (pos 0 ≤ℤ amount) × (amount ≤ℤ pos 262144) }
+    requires luma { luma ≤ greatest depth }
+    requires sample { c ≤ greatest depth }
     ensures value { result ≡ saturated (greatest depth) amount luma c }
     ensures bound { result ≤ greatest depth }
 {
-    let most = depth.greatest() as u16;
-    clamped(
-        most,
-        i64::from(luma) + moved(i64::from(c) - i64::from(luma), amount),
-    )
+    match depth {
+        Depth::Byte => byte_saturated(amount as i32, luma, c),
+        Depth::Short => short_saturated(amount, luma, c),
+    }
+}
+
+// In 32 bits, so that the compiler does four pixels at once.
+#[inline(always)]
+fn byte_saturated(amount: i32, luma: u16, c: u16) -> u16
+    requires amount { (pos 0 ≤ℤ amount) × (amount ≤ℤ pos 262144) }
+    requires luma { luma ≤ 255 }
+    requires sample { c ≤ 255 }
+    ensures value { result ≡ saturated 255 amount luma c }
+    ensures bound { result ≤ 255 }
+{
+    let luma = i32::from(luma);
+    byte_clamped(luma + byte_moved(i32::from(c) - luma, amount))
+}
+
+// A part of the way between two bytes, rounded down.
+#[inline(always)]
+fn byte_moved(gap: i32, amount: i32) -> i32
+    requires gap { (negsuc 254 ≤ℤ gap) × (gap ≤ℤ pos 255) }
+    requires amount { (pos 0 ≤ℤ amount) × (amount ≤ℤ pos 262144) }
+    ensures value { result ≡ int_div_euclid (gap *ℤ amount) (pos 65536) }
+    ensures low { negsuc 1023 ≤ℤ result }
+    ensures high { result ≤ℤ pos 1024 }
+{
+    (gap * amount) >> 16
+}
+
+#[inline(always)]
+fn byte_clamped(z: i32) -> u16
+    ensures value { result ≡ clamped 255 z }
+    ensures bound { result ≤ 255 }
+{
+    if z < 0 { 0 } else { (z as u32).min(255) as u16 }
+}
+
+#[inline(always)]
+fn short_saturated(amount: i64, luma: u16, c: u16) -> u16
+    requires { (pos 0 ≤ℤ amount) × (amount ≤ℤ pos 262144) }
+    ensures value { result ≡ saturated 65535 amount luma c }
+    ensures bound { result ≤ 65535 }
+{
+    let luma = i64::from(luma);
+    clamped(65535, luma + moved(i64::from(c) - luma, amount))
 }
 
 // A part of the way, rounded down.

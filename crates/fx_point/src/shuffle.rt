@@ -146,10 +146,10 @@ impl PointKernel for Shuffling {
             Pixel::Rgba { r, g, b, a } => {
                 let samples = [r, g, b, a, 0];
                 Pixel::Rgba {
-                    r: chosen(samples, self.r),
-                    g: chosen(samples, self.g),
-                    b: chosen(samples, self.b),
-                    a: chosen(samples, self.a),
+                    r: chosen(&samples, self.r),
+                    g: chosen(&samples, self.g),
+                    b: chosen(&samples, self.b),
+                    a: chosen(&samples, self.a),
                 }
             }
             Pixel::Alpha { a } => Pixel::Alpha { a },
@@ -157,10 +157,11 @@ impl PointKernel for Shuffling {
     }
 }
 
+// The samples are lent, so that they are stored once a pixel and not once a choice.
 #[inline(always)]
-fn chosen(samples: [u16; 5], choice: i64) -> u16
+fn chosen(samples: &[u16; 5], choice: i64) -> u16
     requires { IsChoice choice }
-    ensures { result ≡ chosen samples choice }
+    ensures { result ≡ chosen samples.now choice }
 {
     samples[choice as usize]
 }

@@ -149,8 +149,10 @@ fn byte_quotient(factor: u64, a: u16, c: u16) -> u16
     ensures value { result ≡ quotient 255 a c }
     ensures bound { result ≤ 255 }
 {
-    let rounded = ((u64::from(c) * 510 + u64::from(a)) * factor) >> 32;
-    rounded.min(255) as u16
+    // No quotient goes above 255, so a sample above a is taken for a: the least is picked before the product, since behind
+    // it the compiler makes a branch of that, which the processor can't guess.
+    let kept = c.min(a);
+    (((u64::from(kept) * 510 + u64::from(a)) * factor) >> 32) as u16
 }
 
 // A table of all shorts would cost more than the divisions of a tile.
