@@ -153,12 +153,21 @@ def other_files(left, wanted):
     return next((f"{name} differs" for name in sorted({*left, *wanted}) if left.get(name) != wanted.get(name)), None)
 
 
-def other_report(said, report, words):
+def kept(graph, words):
+    """How many renders are kept at least: tiles, or where a node renders whole images, of these."""
+    cache, side, scale = (host.option(words, *it) for it in (("--cache", 4096), ("--tile", 64), ("--scale", 1)))
+    if not any(node.get("effect") in host.WHOLE for node in host.expanded(graph)["nodes"]):
+        return cache
+    width, height = (-(-graph["project"][it] // scale) for it in ("width", "height"))
+    return cache // len(host.tiles((0, 0, width, height), side))
+
+
+def other_report(graph, said, report, words):
     """Whether another report was printed."""
     said, wanted = said.splitlines(), report.splitlines()
-    # a cache that lets tiles go has its own count of those that landed or were found
+    # a cache that lets renders go has its own count of those that landed or were found
     landed = int(wanted[-1].split()[1])
-    if 0 < host.option(words, "--cache", 4096) < landed:
+    if host.option(words, "--cache", 4096) > 0 and kept(graph, words) < landed:
         said, wanted = said[:-1], wanted[:-1]
     return None if said == wanted else f"reports {said} in place of {wanted}"
 
@@ -166,7 +175,7 @@ def other_report(said, report, words):
 def differs(graph, files, words, wanted, report):
     """What the program leaves otherwise than host.py does, if anything."""
     said, left, why = left_by(graph, files, words)
-    return why or other_files(left, wanted) or other_report(said, report, words)
+    return why or other_files(left, wanted) or other_report(graph, said, report, words)
 
 
 def hold(runs):

@@ -55,6 +55,7 @@ measure() {
     if [ $depth = short ]; then bytes=16588800; fi
     printf '%-11s %-20s %-5s' "$1" "$2" $depth
     for shape in whole tiles; do
+      if [ "$1:$shape" = autogain:tiles ]; then continue; fi
       least=$(cost "$1:$depth:$shape:$2${3:+:$3}" 4 200)
       costs[$1:$2:$depth:$shape]=$least
       printf ' %5d.%03d ms %6d MB/s %7s' $((least / 1000000)) $((least / 1000 % 1000)) $((bytes * 1000 / least)) \
@@ -141,6 +142,8 @@ measure dissolve 30000
 measure wipe 30000
 for operation in 0 1 2 3 4 5 6; do measure merge $operation; done
 measure keymix ''
+# It renders no tiles.
+measure autogain ''
 beside boxblur 64,64 2,2
 beside erode 32 2
 beside dilate 32 2

@@ -81,6 +81,7 @@ PARAMS = {
     "wipe": [("fix", "Transition", 0)],
     "merge": [("choice", "operation", "over")],
     "keymix": [],
+    "autogain": [],
 }
 CLIPS = {"dissolve": ["SourceFrom", "SourceTo"], "wipe": ["SourceFrom", "SourceTo"], "merge": ["A", "B"], "keymix": ["A", "B", "Mask"]}
 CLIPS.update({name: [] for name in ("solid", "checker", "ramp", "grain")})
@@ -107,7 +108,9 @@ def value_at(kind, value, t):
 # ---- pixels: a tuple of samples, four of RGBA or one of Alpha
 
 GREATEST = {"byte": 255, "short": 65535}
-RGBA_ALONE = {"invert", "premult", "unpremult", "shuffle", "saturation", "posterise"}
+RGBA_ALONE = {"invert", "premult", "unpremult", "shuffle", "saturation", "posterise", "autogain"}
+# effects that render whole images alone
+WHOLE = {"autogain"}
 
 
 def rounded(p, q):
@@ -258,6 +261,13 @@ def mixed(node, t, x, y, read, most):
         return each(lambda *samples: (sum(weight(*at) * s for at, s in zip(taps, samples)) + 32768) // 65536, *found)
     if e == "mirror":
         return read("Source", t, *((size[0] - 1 - x, y) if v["axis"] == "x" else (x, size[1] - 1 - y)))
+    if e == "autogain":
+        if not (0 <= x < size[0] and 0 <= y < size[1]):
+            return zero(node.components)
+        if t not in node.levels:
+            node.levels[t] = max(max(read("Source", t, i, j)[:3]) for j in range(size[1]) for i in range(size[0]))
+        m = node.levels[t]
+        return colour(lambda c: min(most, rounded(c * most, m)) if m else c, read("Source", t, x, y))
     if e == "timeoffset":
         return read("Source", t - v["offset"], x, y)
     if e == "frameblend":
@@ -286,7 +296,7 @@ class Node:
         self.depth, self.components = said.get("depth", project["depth"]), said.get("components", project["components"])
         if self.is_source:
             return
-        self.effect = said["effect"]
+        self.effect, self.levels = said["effect"], {}
         places = {node.name: place for place, node in enumerate(nodes)}
         self.clips = [(clip, places.get(said.get("clips", {}).get(clip))) for clip in clips_of(self.effect)]
         there = [(clip, nodes[place]) for clip, place in self.clips if place is not None]
@@ -351,6 +361,8 @@ class Node:
             return moved(area, -r, -r, r, r)
         if self.effect == "crop":
             return meet(area, rect(v["x"], v["y"], v["x"] + v["width"], v["y"] + v["height"]))
+        if self.effect == "autogain":
+            return meet(area, whole)
         if self.effect == "translate":
             nx, _, ex, ny, _, ey = self.shift(t)
             return moved(area, -nx - ex, -ny - ey, -nx, -ny)
@@ -373,6 +385,8 @@ class Node:
             return moved(r, -n, -n, n, n)
         if self.effect == "crop":
             return meet(r, rect(v["x"], v["y"], v["x"] + v["width"], v["y"] + v["height"]))
+        if self.effect == "autogain":
+            return (0, 0, *self.size)
         if self.effect == "translate":
             nx, _, ex, ny, _, ey = self.shift(t)
             return moved(r, nx, ny, nx + ex, ny + ey)
@@ -494,7 +508,7 @@ class Scene:
                 return ("frame", n, t, r)
             same = node.same(t, r)
             if same is None:
-                return ("render", n, t, r)
+                return ("render", n, t, self.area(n, t) if node.effect in WHOLE else r)
             n, t = dict(node.clips)[same[0]], same[1]
 
     def needs(self, n, t, r, side):

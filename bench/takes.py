@@ -150,7 +150,7 @@ def differs(graph, graphs, files, words):
     if why:
         return f"beside a render of each take: {why}", left
     wanted, report = host.run(graph, lambda name: host.Frame(files[name]), run)
-    return agree.other_files(left, wanted) or agree.other_report(said, report, run), left
+    return agree.other_files(left, wanted) or agree.other_report(graph, said, report, run), left
 
 
 def main(words):

@@ -1,5 +1,5 @@
 -- The counts of a run: moment by moment, and as its report tells them.
-use Rattle.std.proofs.Common.{◌≡◌, ◌+◌, ◌*◌, ℕ, zero, suc, Bool, List, [], ◌++◌, All, length, cond, Some, Ok, refl, sym, ap, subst, ◌∙◌, arith}
+use Rattle.std.proofs.Common.{◌≡◌, ◌+◌, ◌*◌, ℕ, zero, suc, Bool, List, [], ◌++◌, length, cond, Some, Ok, refl, sym, ap, subst, ◌∙◌, arith}
 use Rattle.std.specs.Prelude.{count_by, sum_by}
 use Rattle.std.specs.List.{flat_map, range_with_len}
 use Rattle.std.proofs.Math.Nat.{mul_comm}
@@ -7,23 +7,17 @@ use Rattle.std.proofs.lemmas.List.{append-nil, append_assoc}
 use Rattle.std.proofs.lemmas.List.Concat.{flat_map-cons}
 use Rattle.std.proofs.lemmas.List.Sums.{sum_by-append, sum_by-cons}
 use Rattle.fx_outside.specs.Outside.{Files}
-use Rattle.fx_pool.specs.Weights.{plus}
 use Rattle.fx_region.specs.Counts.{TileCounts, count_ends, is_asked, is_passed, is_void}
 use Rattle.fx_region.specs.Ends.{EndShown}
 use Rattle.fx_region.proofs.CountLaws.{sum_of_kinds}
 use Rattle.fx_scene.specs.Scenes.{Images}
 use Rattle.fx_tile.specs.declared.count.TileCount.{TileCount}
 use Rattle.fx_tile.specs.Counts.{both_counts, no_count}
-use Rattle.fx_tile.specs.declared.share.Shared.{Shared}
-use Rattle.fx_tile.specs.declared.share.TileSeat.{TileSeat}
-use Rattle.fx_tile.specs.Moments.{CountsTiles, IsFree, count_weight}
-use Rattle.fx_tile.specs.Seats.{AreAll}
+use Rattle.fx_tile.specs.Moments.{CountsTiles}
 use Rattle.fx_words.specs.Ordered.{Ordered}
 use Rattle.fx_words.specs.Texts.{report_text}
 use Rattle.fx_words.specs.declared.order.Mode.{Mode}
 use Rattle.fx_words.specs.declared.order.Mode.TheVariants.{Render, Check, Bench, Migrate, Takes, Plan}
-use Rattle.fx_app.specs.declared.crew.Crew.{Crew}
-use Rattle.fx_app.specs.Crews.{KeepsCrew}
 use Rattle.fx_app.specs.Graphs.{FileShown, graph_under, first_of, last_of, frame_count}
 use Rattle.fx_app.specs.Reels.{Reel, takes_for, takes_in}
 use Rattle.fx_app.specs.Run.{IsRenderReport, count_in, lines_for, tile_ends}
@@ -106,39 +100,6 @@ counted_more r images side cache n sum count more adds before one kept =
         ∙ sum_by-append (λ (e : EndShown). cond (is e) 1 0) (ends_in r images side n) (moment_ends r images side n) in
         omega (arith, first, then, split)
 
--- ---- what a crew counts
-
-two : (a b c d : ℕ) → a ≡ c → b ≡ d → ◌≡◌ {A = ℕ × ℕ} (a, b) (c, d)
-two a b c d first second i = (first i, second i)
-
-pub keeps_same : (crew : Crew) → KeepsCrew crew crew no_count
-keeps_same crew =
-    let made = crew.seat.directory.made in
-    record { shared = refl; weight = two made.landed made.hits (made.landed + 0) (made.hits + 0) (omega arith) (omega arith) }
-
-pub keeps_more : (a b c : Crew) (m n sum : TileCount) → sum ≡ both_counts m n → KeepsCrew a b m → KeepsCrew b c n → KeepsCrew a c sum
-keeps_more a b c m n sum adds first then =
-    subst (KeepsCrew a c) (sym adds)
-    (record {
-      shared = then.shared ∙ first.shared;
-      weight =
-          let l1 = ap (λ (w : ℕ × ℕ). w.0) first.weight in let h1 = ap (λ (w : ℕ × ℕ). w.1) first.weight in
-          let l2 = ap (λ (w : ℕ × ℕ). w.0) then.weight in let h2 = ap (λ (w : ℕ × ℕ). w.1) then.weight in
-          let s = a.seat.directory.made in let t = c.seat.directory.made in
-          two t.landed t.hits (s.landed + (m.landed + n.landed)) (s.hits + (m.hits + n.hits)) (omega (arith, l1, l2)) (omega (arith, h1, h2));
-    })
-
--- what the closed directory tells is what was counted
-pub closed_count : (crew : Crew) (count : TileCount) (landed hits : ℕ) (old : ℕ × ℕ) (now : ℕ × ℕ) → old ≡ (0, 0)
-    → now ≡ plus old (count_weight count) → (landed, hits) ≡ now → record count { landed = landed; hits = hits } ≡ count
-closed_count crew count landed hits old now none more told =
-    let l0 = ap (λ (w : ℕ × ℕ). w.0) none in let h0 = ap (λ (w : ℕ × ℕ). w.1) none in
-    let l1 = ap (λ (w : ℕ × ℕ). w.0) more in let h1 = ap (λ (w : ℕ × ℕ). w.1) more in
-    let l2 = ap (λ (w : ℕ × ℕ). w.0) told in let h2 = ap (λ (w : ℕ × ℕ). w.1) told in
-    let l : landed ≡ count.landed = omega (arith, l0, l1, l2) in
-    let h : hits ≡ count.hits = omega (arith, h0, h1, h2) in
-    λ i. record count { landed = l i; hits = h i }
-
 -- ---- the report
 
 -- the lines of a count's report are those of its ends
@@ -198,22 +159,3 @@ render_is order library old new file takes frames count there takes_are frames_a
           let all = r.counted.none_kept nothing in
           (none, omega (arith, all, q));
     }
-
--- ---- the seats of a frame
-
--- as many seats, as free as before, are all again
-pub all_back : {E : Type 0} (shared : Shared E) (first : TileSeat E) (seats back : List (TileSeat E)) → AreAll shared first seats → length back ≡ length seats
-    → All (IsFree shared) back → AreAll shared first back
-all_back shared first seats back all many free =
-    let has = all.all in record { first_is = all.first_is; free = free; all = omega (arith, has, many) }
-
--- what a frame's seats counted is in the first one, once they are joined into it
-pub joined_count : (old mid new seats back count : ℕ × ℕ) → mid ≡ old → seats ≡ (0, 0) → back ≡ plus seats count → new ≡ plus mid back → new ≡ plus old count
-joined_count old mid new seats back count same none more joined =
-    let s0 = ap (λ (w : ℕ × ℕ). w.0) same in let s1 = ap (λ (w : ℕ × ℕ). w.1) same in
-    let n0 = ap (λ (w : ℕ × ℕ). w.0) none in let n1 = ap (λ (w : ℕ × ℕ). w.1) none in
-    let m0 = ap (λ (w : ℕ × ℕ). w.0) more in let m1 = ap (λ (w : ℕ × ℕ). w.1) more in
-    let j0 = ap (λ (w : ℕ × ℕ). w.0) joined in let j1 = ap (λ (w : ℕ × ℕ). w.1) joined in
-    let a : new.0 ≡ old.0 + count.0 = omega (arith, s0, n0, m0, j0) in
-    let b : new.1 ≡ old.1 + count.1 = omega (arith, s1, n1, m1, j1) in
-    λ i. (a i, b i)

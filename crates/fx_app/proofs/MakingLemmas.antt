@@ -460,6 +460,9 @@ module _ (p : Plan) (frames : List SourceFrame) (old begun came renewed drawn : 
   capacity : again.0.shared.directory.capacity ≡ p.cache
   capacity = again.2.capacity ∙ making.crew_is.capacity
 
+  wholes : p.cache ≡ 0 → again.0.shared.wholes.capacity ≡ 0
+  wholes none = again.2.whole_capacity ∙ making.crew_is.wholes none
+
   sum_was : renewed.sum ≡ old.sum
   sum_was =
       ap (λ (m : Making). m.sum) h.rest_renewed ∙ ap (λ (m : Making). m.sum) h.rest_came ∙ ap (λ (m : Making). m.sum) h.rest_begun
@@ -492,7 +495,7 @@ module _ (p : Plan) (frames : List SourceFrame) (old begun came renewed drawn : 
       (counted_grown p.reel renewed.next held_ends small_old small_now
       (small_images q size (seen_by old)) (small_images q size (seen_by renewed)) grown p.side before p.cache old.sum
       (subst (λ (n : ℕ). HasCounted p.reel small_old p.side p.cache n old.sum) (sym next_was) making.counted))
-      one (subst (λ (c : ℕ). c ≡ 0 → shown.count.hits ≡ 0) capacity shown.none_kept)
+      one (λ none. shown.none_kept (capacity ∙ none) (wholes none))
 
   ends_more : EndsHold p.reel (renewed.next + 1)
   ends_more j under = elim (cases_lt j renewed.next) [
@@ -544,6 +547,7 @@ module _ (p : Plan) (frames : List SourceFrame) (old begun came renewed drawn : 
           there = shown.there;
           side = ap (λ s. s.grid) shown.keeps.shared ∙ grid;
           capacity = ap (λ s. s.directory.capacity) shown.keeps.shared ∙ capacity;
+          wholes = λ none. ap (λ s. s.wholes.capacity) shown.keeps.shared ∙ wholes none;
           weight = weighs;
         };
         knew = subst (λ (s : Shot Shipped). KnewScene s shown.after) scene_drawn
@@ -576,11 +580,3 @@ knew p old begun came making rest_begun first nodes rest_came graph then =
         grown = grown_on k.was old.scene came.scene k.grown (grown_on old.scene begun.scene came.scene first then);
       },
     )
-
--- what the closed directory tells is what was counted
-pub told_count : (sum : TileCount) (landed hits : ℕ) (weight : ℕ × ℕ) → weight ≡ count_weight sum → (landed, hits) ≡ weight
-    → record sum { landed = landed; hits = hits } ≡ sum
-told_count sum landed hits weight is told =
-    let l : landed ≡ sum.landed = ap (λ (w : ℕ × ℕ). w.0) (told ∙ is) in
-    let h : hits ≡ sum.hits = ap (λ (w : ℕ × ℕ). w.1) (told ∙ is) in
-    λ i. record sum { landed = l i; hits = h i }

@@ -1,12 +1,13 @@
 -- The first moment of a run.
 use Rattle.std.proofs.Common.{◌≡◌, ◌≤◌, ◌+◌, ◌-◌, ◌*◌, ℕ, suc, List, [], ◌∷◌, ◌++◌, map, length, slice_index_or, All, Option, Some, None, refl, sym, ap, subst, ◌∙◌, arith}
-use Rattle.std.proofs.Math.Nat.{zero-mul}
+use Rattle.std.proofs.Math.Nat.{zero-div, zero-mul}
 use Rattle.std.proofs.lemmas.List.{append-nil, append_assoc, length-append, length-map}
+use Rattle.fx_base.specs.Grid.{tiles_of}
 use Rattle.fx_base.specs.declared.limits.TheConstants.{LAST_FRAME}
 use Rattle.fx_text.specs.declared.raw.TheConstants.{MOST_TAKES}
 use Rattle.fx_seq.specs.declared.used.Use.{Use}
 use Rattle.fx_proxy.specs.Reduced.{IsScale}
-use Rattle.fx_scene.specs.Scenes.{Script}
+use Rattle.fx_scene.specs.Scenes.{Script, Shot}
 use Rattle.fx_scene.specs.Takes.{edits_of, graph_of_take}
 use Rattle.fx_scene.specs.Uses.{AreUses, wanting}
 use Rattle.fx_scene.specs.Wants.{IsNamedIn}
@@ -16,10 +17,11 @@ use Rattle.fx_shipped.specs.Shipped.{meaning_of}
 use Rattle.fx_tile.specs.Counts.{no_count}
 use Rattle.fx_tile.specs.Moments.{count_weight, seat_weight}
 use Rattle.fx_takes.specs.Shown.{TakeShown, edit_shown, take_shown}
+use Rattle.fx_whole.specs.Capacity.{capacity}
 use Rattle.fx_words.specs.Ordered.{Ordered}
 use Rattle.fx_app.specs.declared.crew.Crew.{Crew}
 use Rattle.fx_app.specs.declared.making.Making.{Making}
-use Rattle.fx_app.specs.Crews.{IsCrew}
+use Rattle.fx_app.specs.Crews.{IsCrew, IsNewCrew}
 use Rattle.fx_app.specs.Files.{AreUsesOf}
 use Rattle.fx_app.specs.Graphs.{FileShown, Graph, first_of, frame_count, last_of}
 use Rattle.fx_app.specs.Making.{AreTakesFrom, HoldsScaled, IsAt, IsMaking, MayMake, Plan, pattern_in, seen_by}
@@ -28,6 +30,16 @@ use Rattle.fx_app.specs.Reels.{IsReelOf, Reel, moments_in, ordered_file, pattern
 use Rattle.fx_app.specs.Tiles.{HasCounted}
 use Rattle.fx_app.proofs.CountLemmas.{counted_none}
 use Rattle.fx_app.proofs.MakingLemmas.{grown_itself}
+
+-- ---- those who render at first
+
+-- where no tile may be kept, no whole image is
+pub no_wholes : (order : Ordered) (scene : Shot Shipped) (crew : Crew) → IsNewCrew order scene crew → order.cache ≡ 0
+    → crew.shared.wholes.capacity ≡ 0
+no_wholes order scene crew is none =
+    is.wholes
+    ∙ ap (λ (n : ℕ). capacity n scene.graph.project order.tile) none
+    ∙ zero-div (length (tiles_of order.tile scene.graph.project))
 
 -- ---- the takes that are left at first are all of them
 
@@ -172,14 +184,14 @@ module _ (q : ℕ) (g : Graph) (takes : List Take) (a b : ℕ) (low : a ≤ b) (
       zero_first x none = omega (arith, none, first, frame, next)
 
   pub stands_first : (crew : Crew) → m.crew ≡ Some crew → IsCrew m.scene crew → crew.shared.grid ≡ p.side
-      → crew.shared.directory.capacity ≡ p.cache → seat_weight crew.seat ≡ (0, 0) → m.sum ≡ no_count
+      → crew.shared.directory.capacity ≡ p.cache → (p.cache ≡ 0 → crew.shared.wholes.capacity ≡ 0) → seat_weight crew.seat ≡ (0, 0) → m.sum ≡ no_count
       → HoldsScaled p.reel.scale p.uses 0 (seen_by m) m.scene.store → IsMaking p m
-  stands_first crew there is side capacity weight sum read =
+  stands_first crew there is side capacity wholes weight sum read =
       record {
         at = at_first;
         read = subst (λ (n : ℕ). HoldsScaled p.reel.scale p.uses n (seen_by m) m.scene.store) (sym next) read;
         crew = crew;
-        crew_is = record { there = there; side = side; capacity = capacity; weight = weight ∙ sym (ap count_weight sum) };
+        crew_is = record { there = there; side = side; capacity = capacity; wholes = wholes; weight = weight ∙ sym (ap count_weight sum) };
         knew = record { was = m.scene; is = is; nodes = refl; grown = grown_itself m.scene };
         hold = λ j under. absurd (omega (arith, under, next));
         counted =

@@ -188,6 +188,7 @@ spare_may p uses more m other may =
           there = may.making.crew_is.there;
           side = may.making.crew_is.side;
           capacity = may.making.crew_is.capacity;
+          wholes = may.making.crew_is.wholes;
           weight = may.making.crew_is.weight;
         };
         knew = may.making.knew;

@@ -81,11 +81,13 @@ pub record IsAt (p : Plan) (m : Making) : Type 0 where
 
 -- ---- what stands there
 
--- over tiles of the side, with a directory of as many; through them landed and was found kept what was counted
+-- over tiles of the side, with a directory of as many, and no whole image may be kept where no tile is; through them
+-- landed and was found kept what was counted
 pub record IsCrewOf (p : Plan) (m : Making) (crew : Crew) : Type 0 where
   pub there : m.crew ≡ Some crew
   pub side : crew.shared.grid ≡ p.side
   pub capacity : crew.shared.directory.capacity ≡ p.cache
+  pub wholes : p.cache ≡ 0 → crew.shared.wholes.capacity ≡ 0
   pub weight : seat_weight crew.seat ≡ count_weight m.sum
 
 -- more source frames change no end of the moments that were rendered
@@ -145,7 +147,7 @@ CountsFrame scene side t count =
 pub record HasDrawn (frame : ℕ) (crew : Crew) (old new : Making) : Type 0 where
   pub count : TileCount
   pub tiles : CountsFrame old.scene crew.shared.grid frame count
-  pub none_kept : crew.shared.directory.capacity ≡ 0 → count.hits ≡ 0
+  pub none_kept : crew.shared.directory.capacity ≡ 0 → crew.shared.wholes.capacity ≡ 0 → count.hits ≡ 0
   pub sum : new.sum ≡ both_counts old.sum count
   pub after : Crew
   pub there : new.crew ≡ Some after

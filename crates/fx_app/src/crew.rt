@@ -11,7 +11,7 @@ ghost use Rattle.fx_scene.specs.Sites.{scene_nodes};
 ghost use Rattle.fx_shipped.specs.Shipped.{meaning_of, number_of};
 ghost use Rattle.fx_tile.specs.Moments.{CountsTiles, seat_weight};
 ghost use Rattle.fx_tile.specs.Seats.{AreAll};
-ghost use Rattle.fx_app.specs.Crews.{IsCrew, IsNewCrew, IsRenewed, KeepsCrew, KnewScene};
+ghost use Rattle.fx_app.specs.Crews.{IsCrew, IsLeftAlone, IsNewCrew, IsRenewed, KeepsCrew, KnewScene};
 
 use fx_base::{Grid, Memory};
 use fx_core::{Permit, Totals};
@@ -21,6 +21,7 @@ use fx_outside::Pace;
 use fx_scene::Scene;
 use fx_shipped::Shipped;
 use fx_tile::{Rendered, Shared, TileCount, TileSeat, render_moment};
+use fx_whole::capacity_for;
 use fx_words::Order;
 use std::alloc::Global;
 use std::rt::Clock;
@@ -37,7 +38,8 @@ pub(crate) struct Crew {
 
 impl Crew {
     /// As many workers as are ordered, over tiles of the side and with a directory of as many as are ordered, for the
-    /// scene whose permit this is. There are gates for 64 plug-ins and for each node.
+    /// scene whose permit this is. As many whole images are kept as have that many tiles of the project. There are gates
+    /// for 64 plug-ins and for each node.
     pub(crate) fn of(
         alloc: Global,
         scene: &Scene<Shipped>,
@@ -45,10 +47,11 @@ impl Crew {
         order: &Order,
     ) -> Result<Crew, Memory>
         ensures crew { IfOk result (IsCrew scene.now) }
-        ensures new { IfOk result (IsNewCrew order.now) }
+        ensures new { IfOk result (IsNewCrew order.now scene.now) }
     {
         let grid = Grid { side: order.tile };
-        let (shared, seat) = Shared::new(alloc, scene, permit, order.cache, grid)?;
+        let wholes = capacity_for(order.cache, scene.graph().project, grid);
+        let (shared, seat) = Shared::new(alloc, scene, permit, order.cache, wholes, grid)?;
         Ok(Crew {
             shared,
             seat,
@@ -78,7 +81,8 @@ impl Crew {
         ensures count { let g = scene.now.graph in let nodes = scene_nodes meaning_of scene.now in
             let side = self.old.shared.grid in
             IfOk result (λ r. CountsTiles nodes side (window_ends nodes g.output side g.project (pos frame)) r.1) }
-        ensures none_kept { self.old.shared.directory.capacity ≡ 0 → IfOk result (λ r. r.1.hits ≡ 0) }
+        ensures none_kept { let shared = self.old.shared in
+            shared.directory.capacity ≡ 0 → shared.wholes.capacity ≡ 0 → IfOk result (λ r. r.1.hits ≡ 0) }
         ensures keeps { IfOk result (λ r. KeepsCrew self.old self.new r.1) }
     {
         let seats = self.shared.split(alloc, &mut self.seat, self.workers)?;
@@ -101,7 +105,7 @@ impl Crew {
     }
 
     /// The same who render, for the scene as it is now: the one that they rendered, with more source frames. What is
-    /// kept stays. At `Memory` they are as before.
+    /// kept stays. At `Memory` they are as before, but that their whole images may have the scene's name already.
     pub(crate) fn renewed(
         self,
         alloc: Global,
@@ -109,7 +113,7 @@ impl Crew {
     ) -> Result<Crew, (Crew, Memory)>
         requires knew { KnewScene scene.now self }
         ensures renewed { IfOk result (IsRenewed scene.now self) }
-        ensures back { IfErr result (λ e. e.0 ≡ self) }
+        ensures back { IfErr result (λ e. IsLeftAlone scene.now self e.0) }
     {
         let Crew {
             shared,
@@ -133,7 +137,7 @@ impl Crew {
         }
     }
 
-    /// Closes what is shared, with the counts of its directory. At `Memory` it is let go.
+    /// Closes what is shared, with the counts of both directories together. At `Memory` it is let go.
     pub(crate) fn close(self, alloc: Global) -> Result<Totals, Memory>
         requires { AreAll self.shared self.seat [] }
         ensures { IfOk result (λ totals. (totals.landed, totals.hits) ≡ seat_weight self.seat) }

@@ -50,7 +50,7 @@ use std::thread::Threads;
 /// directory as they are ordered. Where blocks of moments are ordered, one is read and one is put while the moments of
 /// the block between them are rendered. A source frame is dropped after the last moment that wants it. Every sequence is
 /// ended and every instance destroyed, whatever failed. With no frame there is no sequence. What landed and what was
-/// found kept is told by the directory, once it is closed.
+/// found kept is told by the directories, once they are closed.
 pub(crate) fn put_moments<
     R: Threads + Wait + Clock + Sync,
     L: Library + Send,
@@ -119,7 +119,7 @@ fn moment_count(first: u32, last: u32, file: &GraphFile) -> u64
 }
 
 // What stands before the first moment of the frames from `first` to `last`, and the life of the graph's effects. The
-// scene remembers all takes before the directory gets its name.
+// scene remembers all takes before the directories get its name.
 fn begun(
     alloc: Global,
     order: &Order,
@@ -321,8 +321,8 @@ fn finished(alloc: Global, making: Making, end: PipeEnd) -> Result<TileCount, Ru
     }
 }
 
-// The count of a run whose files were all put. What landed and what was found kept is told by the directory, once it is
-// closed.
+// The count of a run whose files were all put. What landed and what was found kept is told by the directories, once they
+// are closed.
 fn closed(alloc: Global, making: Making) -> Result<TileCount, RunFault>
     requires making { (p : Plan) × IsMaking p making }
     ensures count { IfOk result (λ count. count ≡ making.sum) }

@@ -281,3 +281,4 @@ shipped_keep e q project small t clips params clip = by e
     by shipped.Wipe = refl
     by shipped.Merge = refl
     by shipped.Keymix = refl
+    by shipped.Autogain = refl

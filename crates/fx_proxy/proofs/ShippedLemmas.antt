@@ -71,6 +71,7 @@ lengths_first shipped.Dissolve c = (_, refl)
 lengths_first shipped.Wipe c = (_, refl)
 lengths_first shipped.Merge c = (_, refl)
 lengths_first shipped.Keymix c = (_, refl)
+lengths_first shipped.Autogain c = (_, refl)
 
 does_lengths : (project form : Form) (before : List (Shown Shipped)) (does : Does Shipped)
     → IsDoing meaning_of project before form does → DoesLengths number_of does

@@ -26,7 +26,8 @@ use std::sync::Wait;
 use std::test::Fail;
 use std::thread::Threads;
 
-/// The side of a tile, from 1 to 1,024 pixels, how many tiles may be kept, and how many workers there are.
+/// The side of a tile, from 1 to 1,024 pixels, how many tiles may be kept, and as many whole images, and how many workers
+/// there are.
 #[derive(Clone, Copy, Debug)]
 pub(crate) struct Engine {
     pub(crate) side: u32,
@@ -140,7 +141,8 @@ pub(crate) fn by_tiles<R: Threads + Wait + Clock + Sync>(
 {
     let (scene, permit) = scene_of(alloc, library, text, at)?;
     let grid = grid_of(engine.side)?;
-    let (shared, mut first) = Shared::new(alloc, &scene, permit, engine.cache, grid)?;
+    let cache = engine.cache;
+    let (shared, mut first) = Shared::new(alloc, &scene, permit, cache, cache, grid)?;
     let seats = shared.split(alloc, &mut first, engine.workers)?;
     let life = life_of(alloc, &scene)?;
     let at = i64::from(at);

@@ -142,6 +142,7 @@ const EFFECTS: &[Effect] = &[
     ("merge", &["A", "B"], &[("operation", OPERATIONS)]),
     ("keymix", &["A", "B"], &[]),
     ("keymix", &["A", "B", "Mask"], &[]),
+    ("autogain", &["Source"], &[]),
 ];
 
 const GENERATORS: &[&str] = &[

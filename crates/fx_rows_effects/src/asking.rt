@@ -44,6 +44,7 @@ pub struct Row<'a> {
     pub contexts: &'static [&'static str],
     pub depths: &'static [&'static str],
     pub temporal: i64,
+    pub tiles: i64,
     pub safety: &'static str,
     pub clips: &'static [Clip],
     pub params: &'a [Parameter],
@@ -82,6 +83,8 @@ pub enum Picture {
     First,
     Second,
     Mask,
+    Dim,
+    Greys,
 }
 
 impl Picture {
@@ -100,6 +103,18 @@ impl Picture {
                 [255, 255, 255, 255],
             ],
             Picture::Mask => [[0, 0, 0, 0], [0, 0, 0, 128], [0, 0, 0, 0], [0, 0, 0, 255]],
+            Picture::Dim => [
+                [20, 200, 1, 0],
+                [100, 30, 7, 255],
+                [0, 0, 199, 201],
+                [250, 250, 250, 250],
+            ],
+            Picture::Greys => [
+                [50, 50, 50, 255],
+                [100, 100, 100, 255],
+                [0, 0, 0, 0],
+                [0, 0, 0, 0],
+            ],
         }
     }
 }
@@ -189,7 +204,7 @@ fn describes(rt: &impl Abort, alloc: Global, effect: Shipped, row: &Row<'_>) -> 
     )?;
     let temporal = set.get_int("OfxImageEffectPropTemporalClipAccess", 0)?;
     let tiles = set.get_int("OfxImageEffectPropSupportsTiles", 0)?;
-    same_at(rt, &row.label, (temporal, tiles), (row.temporal, 1));
+    same_at(rt, &row.label, (temporal, tiles), (row.temporal, row.tiles));
     let safety = set.get_text("OfxImageEffectPluginRenderThreadSafety", 0)?;
     same_at(rt, &row.label, safety, row.safety);
     Ok(())

@@ -28,3 +28,5 @@ mod times;
 mod toy;
 #[cfg(test)]
 mod toys;
+#[cfg(test)]
+mod wholes;

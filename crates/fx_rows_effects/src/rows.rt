@@ -162,6 +162,7 @@ pub const GENERATED: Row<'static> = Row {
     contexts: &GENERATOR,
     depths: &BOTH_DEPTHS,
     temporal: 0,
+    tiles: 1,
     safety: FULLY_SAFE,
     clips: &[],
     params: &[],
@@ -181,6 +182,7 @@ pub const FILTERED: Row<'static> = Row {
     contexts: &FILTER,
     depths: &BOTH_DEPTHS,
     temporal: 0,
+    tiles: 1,
     safety: FULLY_SAFE,
     clips: &[Clip {
         name: "Source",
@@ -203,6 +205,7 @@ pub const MIXED: Row<'static> = Row {
     contexts: &TRANSITION,
     depths: &BOTH_DEPTHS,
     temporal: 0,
+    tiles: 1,
     safety: FULLY_SAFE,
     clips: &[
         Clip {
@@ -232,6 +235,7 @@ pub const MERGED: Row<'static> = Row {
     contexts: &GENERAL,
     depths: &BOTH_DEPTHS,
     temporal: 0,
+    tiles: 1,
     safety: FULLY_SAFE,
     clips: &[
         Clip {

@@ -28,6 +28,7 @@ use Rattle.fx_trans.specs.Dissolve.{dissolve}
 use Rattle.fx_trans.specs.Wipe.{wipe}
 use Rattle.fx_merge.specs.Merge.{merge}
 use Rattle.fx_merge.specs.Keymix.{keymix}
+use Rattle.fx_whole.specs.Autogain.{autogain}
 use Rattle.fx_shipped.specs.declared.shipped.Shipped.{Shipped}
 use Rattle.fx_shipped.specs.declared.shipped.Shipped.TheVariants as shipped
 
@@ -58,6 +59,7 @@ meaning_of shipped.Dissolve = dissolve
 meaning_of shipped.Wipe = wipe
 meaning_of shipped.Merge = merge
 meaning_of shipped.Keymix = keymix
+meaning_of shipped.Autogain = autogain
 
 abbrev pub name_of : Shipped → List ℕ
 name_of shipped.Solid = codes "solid"
@@ -86,6 +88,7 @@ name_of shipped.Dissolve = codes "dissolve"
 name_of shipped.Wipe = codes "wipe"
 name_of shipped.Merge = codes "merge"
 name_of shipped.Keymix = codes "keymix"
+name_of shipped.Autogain = codes "autogain"
 
 abbrev pub number_of : Shipped → ℕ
 number_of shipped.Solid = 0
@@ -114,6 +117,7 @@ number_of shipped.Dissolve = 22
 number_of shipped.Wipe = 23
 number_of shipped.Merge = 24
 number_of shipped.Keymix = 25
+number_of shipped.Autogain = 26
 
 abbrev pub all : List Shipped
 all =
@@ -143,6 +147,7 @@ all =
     ∷ shipped.Wipe
     ∷ shipped.Merge
     ∷ shipped.Keymix
+    ∷ shipped.Autogain
     ∷ []
 
 -- the first of them that has the name

@@ -1,7 +1,6 @@
 -- What every effect of the program keeps, and that no two have one number.
 use Rattle.std.specs.Prelude.{◌≡◌, ℕ, ◌<◌, ◌==◌, List, [], ◌∷◌, if◌then◌else◌, refl}
 use Rattle.std.proofs.Common.{ap, sym, arith, ◌∙◌}
-use Rattle.fx_effect.specs.Meaning.{Meaning}
 use Rattle.fx_effect.specs.Laws.{Laws}
 use Rattle.fx_gen.specs.SolidLaws.{solid_laws}
 use Rattle.fx_gen.specs.CheckerLaws.{checker_laws}
@@ -29,6 +28,7 @@ use Rattle.fx_trans.specs.DissolveLaws.{dissolve_laws}
 use Rattle.fx_trans.specs.WipeLaws.{wipe_laws}
 use Rattle.fx_merge.specs.MergeLaws.{merge_laws}
 use Rattle.fx_merge.specs.KeymixLaws.{keymix_laws}
+use Rattle.fx_whole.specs.AutogainLaws.{autogain_laws}
 use Rattle.fx_shipped.specs.declared.shipped.Shipped.{Shipped}
 use Rattle.fx_shipped.specs.declared.shipped.Shipped.TheVariants as shipped
 use Rattle.fx_shipped.specs.Shipped.{meaning_of, name_of, number_of, all}
@@ -60,6 +60,7 @@ shipped_laws shipped.Dissolve = dissolve_laws
 shipped_laws shipped.Wipe = wipe_laws
 shipped_laws shipped.Merge = merge_laws
 shipped_laws shipped.Keymix = keymix_laws
+shipped_laws shipped.Autogain = autogain_laws
 
 -- the first of them that has the number, and any where none has
 abbrev first_numbered : List Shipped → ℕ → Shipped
@@ -93,6 +94,7 @@ at_number shipped.Dissolve = refl
 at_number shipped.Wipe = refl
 at_number shipped.Merge = refl
 at_number shipped.Keymix = refl
+at_number shipped.Autogain = refl
 
 one_each : (a b : Shipped) → number_of a ≡ number_of b → a ≡ b
 one_each a b same = sym (at_number a) ∙ ap (first_numbered all) same ∙ at_number b
@@ -130,3 +132,4 @@ few_numbers shipped.Dissolve = omega arith
 few_numbers shipped.Wipe = omega arith
 few_numbers shipped.Merge = omega arith
 few_numbers shipped.Keymix = omega arith
+few_numbers shipped.Autogain = omega arith

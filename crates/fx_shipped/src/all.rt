@@ -37,5 +37,6 @@ pub fn all_effects(alloc: Global) -> Result<Vec<Shipped>, Memory>
         Shipped::Wipe,
         Shipped::Merge,
         Shipped::Keymix,
+        Shipped::Autogain,
     ]?)
 }

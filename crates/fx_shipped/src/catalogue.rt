@@ -38,6 +38,7 @@ impl Shipped {
             Shipped::Wipe => "wipe",
             Shipped::Merge => "merge",
             Shipped::Keymix => "keymix",
+            Shipped::Autogain => "autogain",
         }
     }
 }
@@ -83,6 +84,7 @@ impl Catalogue for Shipped {
             "wipe" => Some(Shipped::Wipe),
             "merge" => Some(Shipped::Merge),
             "keymix" => Some(Shipped::Keymix),
+            "autogain" => Some(Shipped::Autogain),
             _ => None,
         }
     }
@@ -115,6 +117,7 @@ impl Catalogue for Shipped {
             Shipped::Wipe => 23,
             Shipped::Merge => 24,
             Shipped::Keymix => 25,
+            Shipped::Autogain => 26,
         }
     }
 
@@ -127,6 +130,9 @@ impl Catalogue for Shipped {
     }
 
     fn supports_tiles(&self) -> bool {
-        true
+        match self {
+            Shipped::Autogain => false,
+            _ => true,
+        }
     }
 }

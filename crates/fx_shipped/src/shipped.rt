@@ -16,6 +16,7 @@ use fx_point::{Gain, Invert, Posterise, Premult, Saturation, Shuffle, Unpremult}
 use fx_props::PropSet;
 use fx_time::{Echo, Frameblend, Framediff, Timeoffset};
 use fx_trans::{Dissolve, Wipe};
+use fx_whole::Autogain;
 use std::alloc::Global;
 
 /// An effect of the program. It is asked as the effect that it stands for.
@@ -47,6 +48,7 @@ pub enum Shipped {
     Wipe,
     Merge,
     Keymix,
+    Autogain,
 }
 
 // Asks the effect that a value stands for.
@@ -79,6 +81,7 @@ macro_rules! hand_on {
             Shipped::Wipe => Wipe.$action($($given),*),
             Shipped::Merge => Merge.$action($($given),*),
             Shipped::Keymix => Keymix.$action($($given),*),
+            Shipped::Autogain => Autogain.$action($($given),*),
         }
     };
 }

@@ -1,6 +1,5 @@
 -- Counts of tiles add up: of each tile by where it is found, and of two lists of tiles together.
 use Rattle.std.proofs.Common.{◌≡◌, ℕ, ◌≤◌, ◌+◌, List, [], ◌∷◌, ◌++◌, map, cond, refl, sym, subst, arith, inl, inr, ◌⊎◌, All}
-use Rattle.std.specs.List.{sum_by}
 use Rattle.std.proofs.lemmas.List.Elements.{All-head, All-tail}
 use Rattle.std.proofs.lemmas.List.Sums.{sum_by-append, sum_by-cons}
 use Rattle.fx_effect.specs.Meaning.{Meaning}

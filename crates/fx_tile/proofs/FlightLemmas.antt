@@ -25,7 +25,8 @@ use Rattle.fx_scene.specs.Sites.{scene_nodes}
 use Rattle.fx_region.specs.declared.ends.End.{End}
 use Rattle.fx_region.specs.declared.ends.End.TheVariants as code
 use Rattle.fx_region.specs.declared.ends.Need.{Need}
-use Rattle.fx_tile.specs.Counts.{AskedOnce, Fetched, Follows, IsUnasked, Lands, Met, Within, one_if_some}
+use Rattle.fx_tile.specs.Counts.{AskedOnce, Fetched, Follows, IsUnasked, Lands, Met, one_if_some}
+use Rattle.fx_tile.specs.Kept.{row_in}
 use Rattle.fx_tile.specs.Setups.{IsFound, IsKeyOf, IsSetup, IsTileOf, MayBeTileOf, renders_of}
 use Rattle.fx_tile.specs.declared.count.RenderCount.{RenderCount}
 use Rattle.fx_tile.specs.declared.setup.Setup.{Setup}
@@ -60,12 +61,17 @@ module _ {E : Type 0} {c e : _} (meaning : E → Meaning) (number : E → ℕ) (
       (reached_same (scene_nodes meaning scene) (graph_nodes meaning scene.graph no_images) scene.graph.output is.regions.at is.regions.at node frame
       (λ n t m f. reads_same meaning scene.graph (images_in scene.store) no_images n t m f) (is.regions.are.only node frame has))
 
-  -- the image of a key's region is right under it
-  pub right_of : (node : ℕ) (frame : ℤ) (region : Bounds) (key : Key) (image : Stored) → Has setup.regions.now node frame
+  -- both directories are of the scene
+  named_in : (whole : Bool) → (row_in whole setup.shared.now).name.scene.value ≡ scene
+  named_in true = is.whole_name
+  named_in false = is.name
+
+  -- the image of a key's region is right under it, in either directory
+  pub right_of : (whole : Bool) (node : ℕ) (frame : ℤ) (region : Bounds) (key : Key) (image : Stored) → Has setup.regions.now node frame
       → IsKeyOf scene node frame region key → IsTile (scene_nodes meaning scene) node frame region image
-      → IsRightFor meaning setup.shared.now.directory.name.scene.value key image
-  right_of node frame region key image has of tile =
-      subst (λ (s : Shot E). IsRightFor meaning s key image) (sym is.name)
+      → IsRightFor meaning (row_in whole setup.shared.now).name.scene.value key image
+  right_of whole node frame region key image has of tile =
+      subst (λ (s : Shot E). IsRightFor meaning s key image) (sym (named_in whole))
       (subst (λ (k : Key). IsRightFor meaning scene k image) (sym of)
       (is.keeps.made (images_in scene.store) (fetched_in scene.store) scene.script.take is.regions.at own image held_at (reached_at node frame has) refl
       (ap (λ (g : GraphShown E). node_values g node frame) same)
@@ -75,14 +81,14 @@ module _ {E : Type 0} {c e : _} (meaning : E → Meaning) (number : E → ℕ) (
       own = record { node = node; frame = frame; region = region; values = node_values scene.graph node frame; era = era_of scene.script node }
 
   -- and what is right under the key is the image of its region
-  pub tile_of : (node : ℕ) (frame : ℤ) (region : Bounds) (key : Key) (image : Stored) → Has setup.regions.now node frame
-      → IsKeyOf scene node frame region key → IsRightFor meaning setup.shared.now.directory.name.scene.value key image
+  pub tile_of : (whole : Bool) (node : ℕ) (frame : ℤ) (region : Bounds) (key : Key) (image : Stored) → Has setup.regions.now node frame
+      → IsKeyOf scene node frame region key → IsRightFor meaning (row_in whole setup.shared.now).name.scene.value key image
       → IsTile (scene_nodes meaning scene) node frame region image
-  tile_of node frame region key image has of right =
+  tile_of whole node frame region key image has of right =
       subst (λ (g : GraphShown E). IsTile (graph_nodes meaning g (images_in scene.store)) node frame region image) (sym same)
       (is.keeps.right (images_in scene.store) (fetched_in scene.store) scene.script.take is.regions.at own image held_at (reached_at node frame has) refl
       (subst (λ (k : Key). IsRightFor meaning scene k image) of
-      (subst (λ (s : Shot E). IsRightFor meaning s key image) is.name right)))
+      (subst (λ (s : Shot E). IsRightFor meaning s key image) (named_in whole) right)))
     where
       own : Key
       own = record { node = node; frame = frame; region = region; values = node_values scene.graph node frame; era = era_of scene.script node }
@@ -114,11 +120,6 @@ pub follows_more : (a b c : RenderCount) (l m n : Made) → Follows a b l m → 
 follows_more a b c l m n f g =
     let f1 = f.landed in let f2 = f.hits in let g1 = g.landed in let g2 = g.hits in
     record { landed = omega (arith, f1, g1); hits = omega (arith, f2, g2) }
-
-pub within_later : (a b : RenderCount) (m n : Made) → Within a m → Follows a b m n → Within b n
-within_later a b m n w f =
-    let f1 = f.landed in let f2 = f.hits in let w1 = w.landed in let w2 = w.hits in
-    record { landed = omega (arith, f1, w1); hits = omega (arith, f2, w2) }
 
 -- it makes no difference where these counts stay
 pub fetched_from : (r : ℕ) (l m n : Made) → m.dropped ≡ l.dropped → m.landed ≡ l.landed → m.hits ≡ l.hits → Fetched r m n → Fetched r l n

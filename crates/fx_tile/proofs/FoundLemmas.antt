@@ -22,7 +22,7 @@ use Rattle.fx_region.proofs.EndLaws.{end_is}
 use Rattle.fx_region.proofs.FollowLemmas.{cut_window}
 use Rattle.fx_tile.specs.Founds.{IsFoundIn}
 use Rattle.fx_tile.specs.Tiles.{IsSmall}
-use Rattle.fx_tile.proofs.SizeLemmas.{chosen_size}
+use Rattle.fx_tile.proofs.SizeLemmas.{chosen_size, chosen_whole}
 
 module _ (nodes : Nodes) (ok : AreNodes nodes) where
   onward_found : (r : Bounds) (s : Step) (e : EndShown) → IsFoundIn nodes r e → IsFoundIn nodes r (onward s e)
@@ -40,7 +40,7 @@ module _ (nodes : Nodes) (ok : AreNodes nodes) where
   wider r w (Frame m f q through) in_w h =
       record { window = h.window; inside = λ x y i. in_w x y (h.inside x y i); source = h.source; there = h.there; image = h.image; shown = h.shown; within = h.within }
   wider r w (Render m f q cut through) in_w h =
-      record { window = h.window; size = wider_size q r w in_w h.size; effect = h.effect; there = h.there }
+      record { window = h.window; size = wider_size q r w in_w h.size; effect = h.effect; there = h.there; whole = h.whole }
 
   no_place : (r : Bounds) → is_empty r ≡ false → IsWithin r none → ⊥
   no_place r some inside =
@@ -90,6 +90,7 @@ module _ (nodes : Nodes) (ok : AreNodes nodes) where
         size = chosen_size nodes ok k o i there t r few;
         effect = o;
         there = there;
+        whole = chosen_whole nodes k o there t r;
       }
   effect_found k o i there h t r few window (Same clip f) =
       clip_found k o (clip_node o clip) f r few (λ m is. (i.earlier clip m is, h m (i.earlier clip m is)))

@@ -1,5 +1,5 @@
 -- The images of needs, gathered one by one.
-use Rattle.std.proofs.Common.{zero, suc, ◌≡◌, ℕ, ◌<◌, ◌+◌, List, [], ◌∷◌, ◌++◌, length, get_or, take, drop, set, Option, Some, None, true, refl, sym, ap, ◌∙◌, subst, arith}
+use Rattle.std.proofs.Common.{zero, suc, ◌≡◌, ℕ, ◌<◌, ◌+◌, List, [], ◌∷◌, ◌++◌, length, get_or, take, drop, set, Option, Some, None, refl, sym, ap, ◌∙◌, subst, arith}
 use Rattle.std.proofs.lemmas.List.{drop-set-lt}
 use Rattle.std.proofs.Math.ListN.{length-set}
 use Rattle.std.specs.List.{sum_by}
@@ -8,8 +8,6 @@ use Rattle.std.specs.declared.sync.Arc.{Arc}
 use Rattle.fx_directory.specs.Seats.{Made}
 use Rattle.fx_effect.specs.Meaning.{Meaning}
 use Rattle.fx_image.specs.Stored.{Stored}
-use Rattle.fx_region.specs.Counts.{is_asked}
-use Rattle.fx_region.specs.Ends.{end_shown}
 use Rattle.fx_scene.specs.Sites.{scene_nodes}
 use Rattle.fx_region.specs.declared.ends.Need.{Need}
 use Rattle.fx_scene.specs.Nodes.{Nodes}

@@ -1,5 +1,5 @@
 -- The window tiles of a picture: how many, where they lie, and that each place of the picture is in one.
-use Rattle.std.proofs.Common.{◌≡◌, ◌≢◌, ℕ, suc, zero, ◌<◌, ◌≤◌, ◌+◌, ◌-◌, ◌/◌, ℤ, pos, negsuc, ◌≤ℤ◌, ◌+ℤ◌, ◌-ℤ◌, length, refl, ap, ◌∙◌, subst, arith, inl, inr, All, slice_index_or}
+use Rattle.std.proofs.Common.{◌≡◌, ◌≢◌, ℕ, suc, zero, ◌<◌, ◌≤◌, ◌+◌, ◌/◌, ℤ, pos, negsuc, ◌≤ℤ◌, ◌+ℤ◌, ◌-ℤ◌, length, refl, ap, ◌∙◌, subst, arith, inl, inr, All, slice_index_or}
 use Rattle.std.specs.Int.{int_gap}
 use Rattle.std.specs.List.{flat_map}
 use Rattle.std.proofs.Math.Nat.{div-le_self}

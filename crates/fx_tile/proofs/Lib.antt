@@ -6,6 +6,7 @@ pub mod ReadyLemmas
 pub mod SetupLemmas
 pub mod RenderLemmas
 pub mod FlightLemmas
+pub mod KeptLemmas
 pub mod WindowLemmas
 pub mod GatherLemmas
 pub mod GridLemmas

@@ -6,10 +6,9 @@ use Rattle.std.proofs.lemmas.Int.{ints}
 use Rattle.std.proofs.lemmas.List.Elements.{All-nil, All-cons, All-append}
 use Rattle.fx_base.specs.Bounds.{Bounds}
 use Rattle.fx_base.specs.Grid.{IsTileOf, tile_at, tiles_of}
-use Rattle.fx_base.specs.Rect.{IsWithin, columns, meet, rows}
+use Rattle.fx_base.specs.Rect.{columns, meet, rows}
 use Rattle.fx_base.proofs.GridLaws.{All-tiles_of}
 use Rattle.fx_base.proofs.RectLaws.{IsWithin-meet_first}
-use Rattle.fx_base.proofs.RectLemmas.{Encloses-from_within, IsProper}
 use Rattle.fx_scene.specs.Areas.{area}
 use Rattle.fx_scene.specs.Frames.{clip_frames}
 use Rattle.fx_scene.specs.Nodes.{AreNodes, Effect, EffectNode, IsEffectNode, Nodes, clip_node}

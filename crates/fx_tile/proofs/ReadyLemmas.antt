@@ -110,6 +110,7 @@ module _ {E : Type 0} {c e : _} (meaning : E → Meaning) (setup : Setup E c e) 
           reached = stands.reached;
           region_is = record { some = stands.some; window = found.window; small = size };
           within = stands.inside;
+          whole = found.whole;
         },
         stands.holds,
       )

@@ -1,9 +1,8 @@
 -- Effects in their places of a graph: how they may be asked to render, and that a window is the value of the node.
-use Rattle.std.proofs.Common.{◌≡◌, ℕ, ◌<◌, ℤ, List, [], ◌∷◌, map, length, get_or, Bool, refl, sym, ap, ◌∙◌, subst, Option, is_some, arith}
+use Rattle.std.proofs.Common.{◌≡◌, ℕ, ◌<◌, ℤ, List, map, length, get_or, Bool, sym, ap, ◌∙◌, subst, Option, is_some, arith}
 use Rattle.std.specs.List.{All, Contains}
-use Rattle.std.proofs.lemmas.List.{get_or-map, length-map}
+use Rattle.std.proofs.lemmas.List.{length-map}
 use Rattle.std.proofs.lemmas.List.Elements.{All-contains_itself}
-use Rattle.std.proofs.lemmas.Option.{slice_get_within}
 use Rattle.fx_base.specs.Bounds.{Bounds}
 use Rattle.fx_base.specs.Rect.{Holds}
 use Rattle.fx_pixel.specs.declared.Depth.{Depth}
@@ -11,25 +10,15 @@ use Rattle.fx_pixel.specs.declared.Components.{Components}
 use Rattle.fx_pixel.specs.declared.Components.TheVariants.{Rgba}
 use Rattle.fx_pixel.specs.Pixel.{greatest}
 use Rattle.fx_image.specs.Stored.{Stored}
-use Rattle.fx_params.specs.Parameter.{Parameter}
-use Rattle.fx_effect.specs.Asked.{MayRender}
-use Rattle.fx_effect.specs.DefaultLaws.{flag_for_each}
 use Rattle.fx_effect.specs.Given.{Given, clip_components, input_pixel}
-use Rattle.fx_effect.specs.Laws.{seen_as}
 use Rattle.fx_effect.specs.Meaning.{Meaning, rendered}
-use Rattle.fx_effect.specs.Shape.{IsLawfulIn, Shape, clip_names, is_mask, shown_as, shown_components}
 use Rattle.fx_effect.specs.Tap.{Tap}
-use Rattle.fx_effect.specs.declared.action.Context.{Context}
 use Rattle.fx_effect.specs.declared.values.Values.{Values}
-use Rattle.fx_graph.specs.Kept as graph
-use Rattle.fx_graph.specs.Kept.{use_values}
-use Rattle.fx_graph.specs.Nodes.{Form}
 use Rattle.fx_graph.specs.Shown.{GraphShown}
 use Rattle.fx_life.specs.Filled.{IsFilled}
 use Rattle.fx_life.specs.Posts.{HasLife, Lives, Plays, used_by}
 use Rattle.fx_scene.specs.Right.{IsTile}
 use Rattle.fx_scene.specs.Nodes.{AreNodes, Effect, EffectNode as Effects, IsEffectNode, IsNode, Node, Nodes, depth_at, node_components, node_depth, seen}
-use Rattle.fx_scene.specs.Scenes.{Images, graph_nodes}
 use Rattle.fx_scene.specs.Value.{Pixels, node_value, tap_value, value}
 use Rattle.fx_scene.proofs.Equations.{value_is}
 use Rattle.fx_scene.proofs.Members.{In, all_in, map_same}

@@ -1,9 +1,9 @@
 -- Regions are no larger than a project may be: what lies within a small one, and what is rendered of effects that render
 -- no parts of an image.
-use Rattle.std.proofs.Common.{◌≡◌, ℕ, ◌≤◌, ℤ, pos, Bool, true, false, cond, refl, arith, sym, ap, ◌∙◌, subst, inl, inr, ◌⊎◌}
+use Rattle.std.proofs.Common.{◌≡◌, ℕ, ◌≤◌, ℤ, Bool, true, false, cond, refl, arith, sym, ap, ◌∙◌, subst, inl, inr, ◌⊎◌}
 use Rattle.std.proofs.lemmas.Int.{ints}
 use Rattle.fx_base.specs.Bounds.{Bounds, IsRect, none}
-use Rattle.fx_base.specs.Rect.{IsWithin, columns, rows}
+use Rattle.fx_base.specs.Rect.{IsWithin}
 use Rattle.fx_base.proofs.RectLaws.{gap_is}
 use Rattle.fx_base.proofs.RectLemmas.{Encloses-from_within, IsProper}
 use Rattle.fx_effect.specs.Shape.{IsProject}
@@ -65,3 +65,9 @@ module _ (nodes : Nodes) (ok : AreNodes nodes) (k : ℕ) (o : EffectNode) (i : I
   chosen_size t r few =
       subst (λ (node : Node). IsWithin (whole_or_cut node (area nodes k t) r) r ⊎ IsSmall (whole_or_cut node (area nodes k t) r)) (sym there)
       (sized t r few o.meaning.shape.tiles refl)
+
+-- of an effect that renders no parts of an image the whole area is rendered
+pub chosen_whole : (nodes : Nodes) (k : ℕ) (o : EffectNode) → nodes k ≡ Effect o → (t : ℤ) (r : Bounds) → o.meaning.shape.tiles ≡ false
+    → chosen nodes k t r ≡ area nodes k t
+chosen_whole nodes k o there t r none =
+    ap (λ (node : Node). whole_or_cut node (area nodes k t) r) there ∙ ap (λ (b : Bool). cond b r (area nodes k t)) none

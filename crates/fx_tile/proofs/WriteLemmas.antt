@@ -1,13 +1,13 @@
 -- A band into which tiles are written one after the other.
-use Rattle.std.proofs.Common.{◌≡◌, ◌<◌, ◌≤◌, ◌+◌, ◌*◌, ℕ, suc, ℤ, List, ◌∷◌, [], ◌++◌, All, drop, get_or, length, take, false, sym, refl, ap, ◌∙◌, subst, arith, inl, inr, Result, Ok, Err, OnOk}
-use Rattle.std.specs.List.{Contains, sum_by}
+use Rattle.std.proofs.Common.{◌≡◌, ◌<◌, ◌≤◌, ◌*◌, ℕ, suc, ℤ, List, ◌∷◌, [], ◌++◌, All, drop, get_or, length, take, sym, refl, ap, ◌∙◌, subst, arith, inl, inr, Result, Ok, Err, OnOk}
+use Rattle.std.specs.List.{sum_by}
 use Rattle.std.proofs.Math.Nat.{mul-le-mul_right, suc-mul}
 use Rattle.std.proofs.lemmas.List.{drop-map, length-map, take-map}
 use Rattle.std.proofs.lemmas.List.Sums.{sum_by-cons}
 use Rattle.std.proofs.lemmas.Bool.{and_from, cases_Bool, false≢true}
 use Rattle.std.proofs.lemmas.List.Elements.{Contains-push_cases}
 use Rattle.fx_base.specs.Bounds.{Bounds}
-use Rattle.fx_base.specs.Rect.{Holds, IsWithin, meet, within}
+use Rattle.fx_base.specs.Rect.{Holds, meet, within}
 use Rattle.fx_base.specs.declared.memory.Memory.{Memory}
 use Rattle.fx_base.proofs.RectLemmas.{within-meet}
 use Rattle.fx_image.specs.Bands.{AreBands, AreWhole, ShowBands, band_rect, layout_of}

@@ -1,4 +1,4 @@
--- What renders count in a seat of the directory.
+-- What renders count in a seat.
 use Rattle.std.specs.Prelude.{◌≡◌, ◌<◌, ◌≤◌, ◌+◌, ◌^◌, ◌⊎◌, ℕ, Option, None, Some}
 use Rattle.fx_directory.specs.Seats.{Made}
 use Rattle.fx_region.specs.Ends.{EndShown, Frame, Render, Void}
@@ -10,17 +10,18 @@ pub record Follows (old new : RenderCount) (m n : Made) : Type 0 where
   pub landed : new.landed + m.landed ≡ old.landed + n.landed
   pub hits : new.hits + m.hits ≡ old.hits + n.hits
 
--- no more was counted than the seat counted
-pub record Within (t : RenderCount) (m : Made) : Type 0 where
-  pub landed : t.landed ≤ m.landed
-  pub hits : t.hits ≤ m.hits
-
 -- nothing was dropped, and of what landed and was found kept there were so many at least
 pub record Met (r : ℕ) (m n : Made) : Type 0 where
   pub dropped : n.dropped ≡ m.dropped
   pub landed : m.landed ≤ n.landed
   pub hits : m.hits ≤ n.hits
   pub enough : m.landed + m.hits + r ≤ n.landed + n.hits
+
+-- one more was found kept
+pub record IsHit (m n : Made) : Type 0 where
+  pub dropped : n.dropped ≡ m.dropped
+  pub landed : n.landed ≡ m.landed
+  pub hits : n.hits ≡ m.hits + 1
 
 -- one more landed
 pub record Lands (m n : Made) : Type 0 where

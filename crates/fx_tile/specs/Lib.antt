@@ -2,6 +2,7 @@ pub mod Tiles
 pub mod Founds
 pub mod KeyLaws
 pub mod Counts
+pub mod Kept
 pub mod Setups
 pub mod Inputs
 pub mod Moments

@@ -28,16 +28,21 @@ use Rattle.fx_tile.specs.declared.setup.Setup.{Setup}
 use Rattle.fx_tile.specs.declared.share.Shared.{Shared}
 use Rattle.fx_tile.specs.declared.share.TileSeat.{TileSeat}
 use Rattle.fx_tile.specs.Counts.{CountsEnd, CountsWay}
-use Rattle.fx_tile.specs.Setups.{IsReady, IsSetup, IsTileOf, end_renders, made_of}
+use Rattle.fx_tile.specs.Kept.{made_of}
+use Rattle.fx_tile.specs.Setups.{IsReady, IsSetup, IsTileOf, end_renders}
 use Rattle.fx_tile.specs.Tiles.{IsRegion}
 
--- the seat has so many parts of the directory and of the gates, no flight and no gate; where nothing may be kept, nothing
--- was found kept through it
+-- the seat has so many parts of each directory and of the gates, no flight and no gate; where nothing may be kept in a
+-- directory, nothing was found kept there through it
 pub record IsIdle {E : Type 0} (shared : Shared E) (parts : ℕ) (seat : TileSeat E) : Type 0 where
   pub row : seat.directory.row ≡ shared.directory
   pub parts_are : seat.directory.parts ≡ parts
   pub aloft : seat.directory.aloft ≡ []
   pub finds_none : FindsNone seat.directory
+  pub whole_row : seat.wholes.row ≡ shared.wholes
+  pub whole_parts : seat.wholes.parts ≡ parts
+  pub whole_aloft : seat.wholes.aloft ≡ []
+  pub whole_finds_none : FindsNone seat.wholes
   pub gates : seat.gates.row ≡ shared.gates
   pub gate_parts : seat.gates.parts ≡ parts
   pub no_turn : seat.gates.turn ≡ None

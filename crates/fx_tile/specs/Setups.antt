@@ -1,5 +1,5 @@
 -- What renders are made from, and what has to be there before one.
-use Rattle.std.specs.Prelude.{◌≡◌, ◌≢◌, ◌<◌, ◌≤◌, ◌+◌, ℕ, ℤ, List, [], ◌∷◌, map, length, All, Option, Some, None, count_by}
+use Rattle.std.specs.Prelude.{◌≡◌, ◌≢◌, ◌<◌, ◌≤◌, ◌+◌, ℕ, ℤ, List, [], ◌∷◌, map, length, All, Option, Some, None, count_by, false}
 use Rattle.std.specs.Arc.{arc_value}
 use Rattle.std.specs.declared.alloc.Global.{Global}
 use Rattle.std.specs.declared.sync.Arc.{Arc}
@@ -32,6 +32,7 @@ use Rattle.fx_region.specs.Tables.{Has, IsMadeOf}
 use Rattle.fx_tile.specs.declared.share.TileSeat.{TileSeat}
 use Rattle.fx_tile.specs.declared.setup.Setup.{Setup}
 use Rattle.fx_tile.specs.Counts.{Fetched, IsUnasked}
+use Rattle.fx_tile.specs.Kept.{HasRows}
 use Rattle.fx_tile.specs.Tiles.{IsRegion}
 
 -- the scene holds what its output wants at a frame
@@ -60,27 +61,17 @@ pub record IsSetup {E : Type 0} {c e : _} (meaning : E → Meaning) (number : E 
   pub holds : HoldsAt meaning setup.scene.now regions.at
   pub keeps : KeepsTiles meaning setup.scene.now
   pub name : setup.shared.now.directory.name.scene.value ≡ setup.scene.now
+  pub whole_name : setup.shared.now.wholes.name.scene.value ≡ setup.scene.now
   pub gates : 64 + length setup.scene.now.graph.nodes ≤ setup.shared.now.gates.gates
-
--- what was asked, landed and dropped through a seat
-abbrev pub made_of : {E : Type 0} → TileSeat E → Made
-made_of seat = seat.directory.made
 
 -- a seat of the gates that holds none
 abbrev pub IsGateSeat : {E : Type 0} {c e : _} → Setup E c e → GateSeatState → Type 0
 IsGateSeat setup seat = (seat.row ≡ setup.shared.now.gates) × (seat.turn ≡ None)
 
--- the seat is one of the directory, and one of the gates that holds none
+-- the seat is one of both directories, and one of the gates that holds none
 pub record IsSeat {E : Type 0} {c e : _} (setup : Setup E c e) (seat : TileSeat E) : Type 0 where
-  pub row : seat.directory.row ≡ setup.shared.now.directory
+  pub rows : HasRows setup.shared.now seat
   pub gates : IsGateSeat setup seat.gates
-
--- the seat has its directory, its parts and its flights, and what it has of the gates, as before
-pub record KeepsSeat {E : Type 0} (old new : TileSeat E) : Type 0 where
-  pub row : new.directory.row ≡ old.directory.row
-  pub parts : new.directory.parts ≡ old.directory.parts
-  pub aloft : new.directory.aloft ≡ old.directory.aloft
-  pub gates : new.gates ≡ old.gates
 
 -- the key of a region of a node at a frame
 abbrev pub IsKeyOf : {E : Type 0} → Shot E → ℕ → ℤ → Bounds → Key → Type 0
@@ -95,7 +86,8 @@ IsKeyOf scene node frame region key =
 
 -- ---- what has to be there
 
--- a region of an effect's node within its area, at a frame at which it is reached
+-- a region of an effect's node within its area, at a frame at which it is reached; the whole area where the effect
+-- renders no parts of an image (OpenFX 1.4, kOfxImageEffectPropSupportsTiles)
 pub record IsRenderable {E : Type 0} {c e : _} (meaning : E → Meaning) (setup : Setup E c e) (node : ℕ) (frame : ℤ)
     (region : Bounds) : Type 0 where
   pub effect : EffectNode
@@ -103,6 +95,7 @@ pub record IsRenderable {E : Type 0} {c e : _} (meaning : E → Meaning) (setup 
   pub reached : Has setup.regions.now node frame
   pub region_is : IsRegion region
   pub within : IsWithin region (area (scene_nodes meaning setup.scene.now) node frame)
+  pub whole : effect.meaning.shape.tiles ≡ false → region ≡ area (scene_nodes meaning setup.scene.now) node frame
 
 -- a region of a frame of a source that was fetched
 pub record IsShown {E : Type 0} {c e : _} (meaning : E → Meaning) (setup : Setup E c e) (node : ℕ) (frame : ℤ)

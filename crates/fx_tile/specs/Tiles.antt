@@ -1,16 +1,9 @@
 -- Regions of nodes that may be rendered.
-use Rattle.std.specs.Prelude.{◌≡◌, ◌≢◌, ◌≤◌, ℕ, ℤ}
+use Rattle.std.specs.Prelude.{◌≢◌, ◌≤◌}
 use Rattle.fx_base.specs.Bounds.{Bounds, none}
-use Rattle.fx_base.specs.Rect.{Holds, columns, rows}
+use Rattle.fx_base.specs.Rect.{columns, rows}
 use Rattle.fx_base.specs.declared.limits.TheConstants.{MOST_SIDE}
-use Rattle.fx_image.specs.Stored.{Stored, shown}
 use Rattle.fx_effect.specs.Asked.{IsWindow}
-use Rattle.fx_effect.specs.Meaning.{Meaning}
-use Rattle.fx_scene.specs.declared.key.Key.{Key}
-use Rattle.fx_scene.specs.Nodes.{Nodes, components_at, depth_at}
-use Rattle.fx_scene.specs.Scenes.{Shot, node_values}
-use Rattle.fx_scene.specs.Value.{value}
-use Rattle.fx_scene.specs.Sites.{scene_nodes}
 
 -- no more columns and rows than a project may have
 abbrev pub IsSmall : Bounds → Type 0

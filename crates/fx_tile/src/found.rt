@@ -5,8 +5,9 @@ ghost use Rattle.fx_region.specs.Ends.{end_of, end_shown};
 ghost use Rattle.fx_region.specs.Tables.{Has};
 ghost use Rattle.fx_scene.specs.Sites.{scene_nodes};
 ghost use Rattle.fx_tile.specs.Counts.{CountsEnd, CountsRises};
+ghost use Rattle.fx_tile.specs.Kept.{KeepsSeat, made_of};
 ghost use Rattle.fx_tile.specs.Moments.{IsFoundTile};
-ghost use Rattle.fx_tile.specs.Setups.{IsReady, IsSeat, IsSetup, IsTileOf, KeepsSeat, end_renders, made_of};
+ghost use Rattle.fx_tile.specs.Setups.{IsReady, IsSeat, IsSetup, IsTileOf, end_renders};
 ghost use Rattle.fx_tile.specs.Tiles.{IsRegion};
 
 use crate::count::{RenderCount, TileCount};
@@ -33,7 +34,7 @@ pub(crate) struct FoundTile {
 }
 
 /// Finds a tile of the picture of a frame at which the regions are those of the output's node: what is to be rendered
-/// for it is asked of the directory.
+/// for it is asked of the directories.
 pub(crate) fn found_tile<R: Wait + Clock, E: Catalogue + Drop>(
     rt: &R,
     alloc: Global,

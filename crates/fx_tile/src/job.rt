@@ -68,6 +68,7 @@ impl<E: Catalogue + Drop> TileJob<'_, E> {
         let tile = self.tiles[index as usize];
         let found = found_tile(rt, alloc, self.setup, seat, self.frame, tile);
         seat.directory.finds_none();
+        seat.wholes.finds_none();
         found
     }
 }

@@ -8,6 +8,7 @@ mod found;
 mod ground;
 mod inputs;
 mod job;
+mod kept;
 pub mod laws;
 mod moment;
 mod name;

@@ -46,9 +46,9 @@ pub struct Rendered<E: Catalogue> {
 /// Renders the picture of a frame, by one worker for each seat. First they find its window tiles, which are those of the
 /// grid cut to the project's extent: each of these, as `window_tile` does, in one draw. Then they write its bands, which
 /// are the rows of the grid cut so: each band in one draw, with the rows of its tiles. There are 1 to 64 seats, each
-/// with one part of the directory and of the gates, no flight and no gate; they come back so, as many, at `Memory` too,
-/// once all workers have ended. The scene holds what the frame wants, the life is that of its graph, the directory's name
-/// is that of the scene, and there are gates for 64 plug-ins and each node. Each worker calls `pace.before_draw` with its
+/// with one part of each directory and of the gates, no flight and no gate; they come back so, as many, at `Memory` too,
+/// once all workers have ended. The scene holds what the frame wants, the life is that of its graph, the name of both
+/// directories is that of the scene, and there are gates for 64 plug-ins and each node. Each worker calls `pace.before_draw` with its
 /// number before each draw.
 /// `Memory` comes where memory is wanting, or where a count would pass the greatest number that it can be.
 pub fn render_moment<R: Threads + Wait + Clock + Sync, E: Catalogue + Send + Sync + Drop, P: Pace>(
@@ -64,6 +64,7 @@ pub fn render_moment<R: Threads + Wait + Clock + Sync, E: Catalogue + Send + Syn
     requires life { HasLife E.number_of scene.now.graph life.now }
     requires holds { HasWanted E.meaning scene.now.graph (images_in scene.now.store) scene.now.graph.output frame }
     requires name { shared.now.directory.name.scene.value ≡ scene.now }
+    requires whole_name { shared.now.wholes.name.scene.value ≡ scene.now }
     requires gates { 64 + length scene.now.graph.nodes ≤ shared.now.gates.gates }
     requires workers { (1 ≤ vec_len seats) × (vec_len seats ≤ 64) }
     requires seats { All (IsFree shared.now) seats.items }
@@ -76,8 +77,9 @@ pub fn render_moment<R: Threads + Wait + Clock + Sync, E: Catalogue + Send + Syn
         IfOk result (λ r. CountsTiles nodes shared.now.grid ends r.count) }
     ensures rises { IfOk result (λ r.
         weigh seat_weight r.seats.items ≡ plus (weigh seat_weight seats.items) (count_weight r.count)) }
-    // Where nothing may be kept, nothing is found kept.
-    ensures none_kept { shared.now.directory.capacity ≡ 0 → IfOk result (λ r. r.count.hits ≡ 0) }
+    // Where nothing may be kept in either directory, nothing is found kept.
+    ensures none_kept { shared.now.directory.capacity ≡ 0 → shared.now.wholes.capacity ≡ 0
+        → IfOk result (λ r. r.count.hits ≡ 0) }
     ensures seats { IfOk result (λ r. (vec_len r.seats ≡ vec_len seats) × All (IsFree shared.now) r.seats.items) }
     ensures back { IfErr result (λ r. (vec_len r.0 ≡ vec_len seats) × All (IsFree shared.now) r.0.items) }
 {

@@ -35,6 +35,7 @@ impl<'a, E: Catalogue> Setup<'a, E> {
         requires life { HasLife E.number_of scene.now.graph life.now }
         requires regions { AreHeld E.meaning scene.now regions.now }
         requires name { shared.now.directory.name.scene.value ≡ scene.now }
+        requires whole_name { shared.now.wholes.name.scene.value ≡ scene.now }
         requires gates { 64 + length scene.now.graph.nodes ≤ shared.now.gates.gates }
         ensures setup { IsSetup E.meaning E.number_of result }
         ensures scene { result.scene.now ≡ scene.now }

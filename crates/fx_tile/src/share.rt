@@ -5,9 +5,11 @@ ghost use Rattle.fx_pool.specs.Weights.{plus, weigh};
 ghost use Rattle.fx_turn.specs.Seats.{all_parts};
 ghost use Rattle.fx_scene.specs.Scripts.{HasGrownTo};
 ghost use Rattle.fx_tile.specs.Moments.{IsFree, IsIdle, seat_weight};
-ghost use Rattle.fx_tile.specs.Seats.{AreAll};
-ghost use Rattle.fx_tile.specs.Setups.{made_of};
+ghost use Rattle.fx_tile.specs.KeyLaws.{MayGrow};
+ghost use Rattle.fx_tile.specs.Kept.{made_of};
+ghost use Rattle.fx_tile.specs.Seats.{AreAll, IsLeft, both_totals};
 
+use crate::count::both_totals;
 use crate::name::SceneName;
 use fx_base::{Grid, Memory};
 use fx_core::{Permit, Totals};
@@ -20,34 +22,41 @@ use fx_scene::take_laws::scene_tiles;
 use fx_scene::{Key, Scene};
 use std::alloc::Global;
 
-/// What all who render tiles of a scene share: the directory of what was rendered, the gates of plug-ins and
+/// What all who render tiles of a scene share: the directory of tiles that were rendered, and that of whole images, of
+/// effects that render no parts of an image (OpenFX 1.4, kOfxImageEffectPropSupportsTiles); the gates of plug-ins and
 /// instances, and the grid of its tiles.
 #[derive(Drop)]
 pub struct Shared<E: Catalogue> {
     pub directory: Directory<SceneName<E>, Key, Image>,
+    pub wholes: Directory<SceneName<E>, Key, Image>,
     pub gates: Gates,
     pub grid: Grid,
 }
 
-/// What one who renders tiles has for himself: a seat of the directory, and one of the gates.
+/// What one who renders tiles has for himself: a seat of each directory, and one of the gates.
 #[derive(Drop)]
 pub struct TileSeat<E: Catalogue> {
     pub directory: DirSeat<SceneName<E>, Key, Image>,
+    pub wholes: DirSeat<SceneName<E>, Key, Image>,
     pub gates: GateSeat,
 }
 
 impl<E: Catalogue + Drop> Shared<E> {
     /// What all who render tiles of a scene over a grid share, and the first seat, which has all parts: a directory
-    /// under the scene's permit that keeps at most so many tiles, and gates for 64 plug-ins and for each node.
+    /// under the scene's permit that keeps at most so many tiles, one under a permit of the same number that keeps at
+    /// most so many whole images, and gates for 64 plug-ins and for each node.
     pub fn new(
         alloc: Global,
         scene: &Scene<E>,
         permit: Permit,
         capacity: u32,
+        whole_capacity: u32,
         grid: Grid,
     ) -> Result<(Shared<E>, TileSeat<E>), Memory>
         ensures name { IfOk result (λ r. r.0.directory.name.scene.value ≡ scene.now) }
+        ensures whole_name { IfOk result (λ r. r.0.wholes.name.scene.value ≡ scene.now) }
         ensures capacity { IfOk result (λ r. r.0.directory.capacity ≡ capacity) }
+        ensures whole_capacity { IfOk result (λ r. r.0.wholes.capacity ≡ whole_capacity) }
         ensures gates { IfOk result (λ r. r.0.gates.gates ≡ 64 + length scene.now.graph.nodes) }
         ensures grid { IfOk result (λ r. r.0.grid ≡ grid) }
         ensures first { IfOk result (λ r. AreAll r.0 r.1 []) }
@@ -55,17 +64,18 @@ impl<E: Catalogue + Drop> Shared<E> {
     {
         let count = 64 + scene.graph().nodes.len() as u32;
         let (gates, gate_seat) = Gates::new(alloc, count)?;
-        let name = SceneName::of(scene);
-        let Ok((directory, seat)) = Directory::new(alloc, name, permit, capacity) else {
-            return Err(Memory);
-        };
+        let same = Permit::new(permit.scene);
+        let (directory, tiles) = directory_of(alloc, scene, permit, capacity)?;
+        let (wholes, images) = directory_of(alloc, scene, same, whole_capacity)?;
         let shared = Shared {
             directory,
+            wholes,
             gates,
             grid,
         };
         let seat = TileSeat {
-            directory: seat,
+            directory: tiles,
+            wholes: images,
             gates: gate_seat,
         };
         Ok((shared, seat))
@@ -111,8 +121,9 @@ impl<E: Catalogue + Drop> Shared<E> {
         }
     }
 
-    /// The same under the name of a scene that the one of the name has grown to: what is kept stays, and so do the
-    /// gates, the grid and the counts. At `Memory` all is as before.
+    /// The same under the name of a scene that the ones of both names have grown to: what is kept stays, and so do the
+    /// gates, the grid and the counts. At `Memory` all is as before, but that whole images may have the new name already:
+    /// the call can be made again.
     pub fn renew(
         self,
         alloc: Global,
@@ -121,62 +132,110 @@ impl<E: Catalogue + Drop> Shared<E> {
     ) -> Result<(Shared<E>, TileSeat<E>), (Shared<E>, TileSeat<E>, Memory)>
         requires first { AreAll self first [] }
         requires grown { HasGrownTo self.directory.name.scene.value scene.now }
+        requires whole_grown { HasGrownTo self.wholes.name.scene.value scene.now }
         ensures name { IfOk result (λ r. r.0.directory.name.scene.value ≡ scene.now) }
+        ensures whole_name { IfOk result (λ r. r.0.wholes.name.scene.value ≡ scene.now) }
         ensures capacity { IfOk result (λ r. r.0.directory.capacity ≡ self.directory.capacity) }
+        ensures whole_capacity { IfOk result (λ r. r.0.wholes.capacity ≡ self.wholes.capacity) }
         ensures gates { IfOk result (λ r. r.0.gates ≡ self.gates) }
         ensures grid { IfOk result (λ r. r.0.grid ≡ self.grid) }
         ensures first { IfOk result (λ r. AreAll r.0 r.1 []) }
         ensures made { IfOk result (λ r. made_of r.1 ≡ made_of first) }
-        ensures back { IfErr result (λ r. (r.0 ≡ self) × (r.1 ≡ first)) }
+        ensures back { IfErr result (λ r. IsLeft scene.now self r.0 first r.1) }
     {
         scene_is(scene);
         scene_tiles(scene);
-        let Shared {
-            directory,
-            gates,
-            grid,
-        } = self;
-        let TileSeat {
-            directory: seat,
-            gates: gate_seat,
-        } = first;
-        match directory.renew(alloc, seat, SceneName::of(scene)) {
-            Ok((directory, seat)) => Ok((
-                Shared {
-                    directory,
-                    gates,
-                    grid,
-                },
+        let (shared, first) = self.renew_wholes(alloc, first, scene)?;
+        shared.renew_tiles(alloc, first, scene)
+    }
+
+    // The directory of whole images under the name of a scene. At `Memory` all is as before.
+    fn renew_wholes(
+        self,
+        alloc: Global,
+        first: TileSeat<E>,
+        scene: &Scene<E>,
+    ) -> Result<(Shared<E>, TileSeat<E>), (Shared<E>, TileSeat<E>, Memory)>
+        requires first { AreAll self first [] }
+        requires grown { MayGrow E.meaning self.wholes.name.scene.value scene.now }
+        ensures name { IfOk result (λ r. r.0.wholes.name.scene.value ≡ scene.now) }
+        ensures capacity { IfOk result (λ r. r.0.wholes.capacity ≡ self.wholes.capacity) }
+        ensures rest { IfOk result (λ r. r.0 ≡ record self { wholes = r.0.wholes }) }
+        ensures seat { IfOk result (λ r. r.1 ≡ record first { wholes = record first.wholes { row = r.0.wholes } }) }
+        ensures back { IfErr result (λ r. (r.0 ≡ self) × (r.1 ≡ first)) }
+    {
+        let name = SceneName::of(scene);
+        match self.wholes.renew(alloc, first.wholes, name) {
+            Ok((wholes, seat)) => Ok((
+                Shared { wholes, ..self },
                 TileSeat {
-                    directory: seat,
-                    gates: gate_seat,
+                    wholes: seat,
+                    ..first
                 },
             )),
-            Err((directory, seat, _, memory)) => Err((
-                Shared {
-                    directory,
-                    gates,
-                    grid,
-                },
+            Err((wholes, seat, _, memory)) => Err((
+                Shared { wholes, ..self },
                 TileSeat {
-                    directory: seat,
-                    gates: gate_seat,
+                    wholes: seat,
+                    ..first
                 },
                 memory,
             )),
         }
     }
 
-    /// Ends the directory and the gates, with the counts of the directory: of all that was asked, landed and dropped
-    /// through the first seat and those that were joined into it. At `Memory` they are let go.
+    // The directory of tiles under the name of a scene. At `Memory` all is as before.
+    fn renew_tiles(
+        self,
+        alloc: Global,
+        first: TileSeat<E>,
+        scene: &Scene<E>,
+    ) -> Result<(Shared<E>, TileSeat<E>), (Shared<E>, TileSeat<E>, Memory)>
+        requires first { AreAll self first [] }
+        requires grown { MayGrow E.meaning self.directory.name.scene.value scene.now }
+        ensures name { IfOk result (λ r. r.0.directory.name.scene.value ≡ scene.now) }
+        ensures capacity { IfOk result (λ r. r.0.directory.capacity ≡ self.directory.capacity) }
+        ensures rest { IfOk result (λ r. r.0 ≡ record self { directory = r.0.directory }) }
+        ensures seat { IfOk result (λ r.
+            r.1 ≡ record first { directory = record first.directory { row = r.0.directory } }) }
+        ensures back { IfErr result (λ r. (r.0 ≡ self) × (r.1 ≡ first)) }
+    {
+        let name = SceneName::of(scene);
+        match self.directory.renew(alloc, first.directory, name) {
+            Ok((directory, seat)) => Ok((
+                Shared { directory, ..self },
+                TileSeat {
+                    directory: seat,
+                    ..first
+                },
+            )),
+            Err((directory, seat, _, memory)) => Err((
+                Shared { directory, ..self },
+                TileSeat {
+                    directory: seat,
+                    ..first
+                },
+                memory,
+            )),
+        }
+    }
+
+    /// Ends both directories and the gates, with the counts of both together: of all that was asked, landed and dropped
+    /// through the first seat and those that were joined into it. At `Memory` they are let go; it comes too where a sum
+    /// would pass the greatest number that it can be.
     pub fn close(self, alloc: Global, first: TileSeat<E>) -> Result<Totals, Memory>
         requires { AreAll self first [] }
-        ensures { IfOk result (λ totals. totals ≡ totals_of self.directory.capacity (made_of first)) }
+        ensures { let tiles = totals_of self.directory.capacity first.directory.made in
+            let wholes = totals_of self.wholes.capacity first.wholes.made in
+            IfOk result (λ totals. totals ≡ both_totals tiles wholes) }
     {
-        match self.directory.close(alloc, first.directory) {
-            Ok((_, totals)) => Ok(totals),
-            Err((_, _, memory)) => Err(memory),
-        }
+        let Ok((_, tiles)) = self.directory.close(alloc, first.directory) else {
+            return Err(Memory);
+        };
+        let Ok((_, wholes)) = self.wholes.close(alloc, first.wholes) else {
+            return Err(Memory);
+        };
+        both_totals(tiles, wholes).ok_or(Memory)
     }
 
     // A seat with one part of the first one.
@@ -190,15 +249,22 @@ impl<E: Catalogue + Drop> Shared<E> {
         ensures err { OnErr result (IsIdle self.now first.old.directory.parts first.new) }
     {
         let directory = self.directory.split(alloc, &mut first.directory)?;
-        let gates = match self.gates.split(alloc, &mut first.gates) {
-            Ok(gates) => gates,
-            Err(memory) => {
-                self.directory.join(&mut first.directory, directory);
-                return Err(memory);
-            }
+        let Ok(wholes) = self.wholes.split(alloc, &mut first.wholes) else {
+            self.directory.join(&mut first.directory, directory);
+            return Err(Memory);
+        };
+        let Ok(gates) = self.gates.split(alloc, &mut first.gates) else {
+            self.directory.join(&mut first.directory, directory);
+            self.wholes.join(&mut first.wholes, wholes);
+            return Err(Memory);
         };
         directory.finds_none();
-        Ok(TileSeat { directory, gates })
+        wholes.finds_none();
+        Ok(TileSeat {
+            directory,
+            wholes,
+            gates,
+        })
     }
 
     // Joins a worker's seat into the first one.
@@ -208,9 +274,39 @@ impl<E: Catalogue + Drop> Shared<E> {
         ensures idle { IsIdle self.now (first.old.directory.parts + 1) first.new }
         ensures made { made_of first.new ≡ both_made (made_of first.old) (made_of seat) }
     {
-        let TileSeat { directory, gates } = seat;
+        let TileSeat {
+            directory,
+            wholes,
+            gates,
+        } = seat;
         self.directory.join(&mut first.directory, directory);
+        self.wholes.join(&mut first.wholes, wholes);
         self.gates.join(&mut first.gates, gates);
         first.directory.finds_none();
+        first.wholes.finds_none();
+    }
+}
+
+// An empty directory under a scene's name that keeps at most so many images, and its first seat.
+fn directory_of<E: Catalogue + Drop>(
+    alloc: Global,
+    scene: &Scene<E>,
+    permit: Permit,
+    capacity: u32,
+) -> Result<
+    (
+        Directory<SceneName<E>, Key, Image>,
+        DirSeat<SceneName<E>, Key, Image>,
+    ),
+    Memory,
+>
+    ensures name { IfOk result (λ r. r.0.name.scene.value ≡ scene.now) }
+    ensures capacity { IfOk result (λ r. r.0.capacity ≡ capacity) }
+    ensures seat { IfOk result (λ r.
+        r.1 ≡ record { row = r.0; parts = all_parts; aloft = []; made = nothing_made }) }
+{
+    match Directory::new(alloc, SceneName::of(scene), permit, capacity) {
+        Ok(made) => Ok(made),
+        Err(_) => Err(Memory),
     }
 }

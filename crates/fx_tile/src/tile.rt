@@ -1,17 +1,18 @@
-//! A render that is asked of the directory: it is kept there, or it is rendered here and landed.
+//! A render that is asked of a directory: it is kept there, or it is rendered here and landed.
 ghost use Rattle.std.specs.Prelude.{◌≡◌, ◌≤◌, All, IfOk, IfSome, IsTrue, OnOk, sum_by};
 ghost use Rattle.std.specs.Arc.{arc_value};
 ghost use Rattle.fx_base.specs.declared.limits.TheConstants.{MOST_TILE_SIDE};
 ghost use Rattle.fx_core.specs.Flight.{Stands};
-ghost use Rattle.fx_directory.specs.Seats.{LeavesAlone};
 ghost use Rattle.fx_scene.specs.Right.{IsTile};
 ghost use Rattle.fx_scene.specs.Scripts.{IsRightFor};
 ghost use Rattle.fx_scene.specs.Sites.{scene_nodes};
 ghost use Rattle.fx_scene.specs.Scenes.{node_values};
-ghost use Rattle.fx_tile.specs.Setups.{AreNeeds, AreTilesOf, IsFound, IsKeyOf, IsReady, IsRenderable, IsSeat, IsSetup, IsTileOf, KeepsSeat, MayBeTileOf, MayBeTilesOf, made_of, renders_needed, renders_of};
-ghost use Rattle.fx_tile.specs.Counts.{AskedOnce, Fetched, Follows, Lands, Met, Within, one_if_some};
+ghost use Rattle.fx_tile.specs.Setups.{AreNeeds, AreTilesOf, IsFound, IsKeyOf, IsReady, IsRenderable, IsSeat, IsSetup, IsTileOf, MayBeTileOf, MayBeTilesOf, renders_needed, renders_of};
+ghost use Rattle.fx_tile.specs.Counts.{AskedOnce, Fetched, Follows, Lands, Met, one_if_some};
+ghost use Rattle.fx_tile.specs.Kept.{KeepsSeat, Loses, made_of, row_in, seat_in};
 
 use crate::count::RenderCount;
+use crate::kept::{ask, drop_flight, is_whole, land};
 use crate::render::rendered;
 use crate::setup::Setup;
 use crate::share::TileSeat;
@@ -43,7 +44,6 @@ pub(crate) fn fetch<R: Wait + Clock, E: Catalogue + Drop>(
 ) -> Result<Arc<Image>, Memory>
     requires setup { IsSetup E.meaning E.number_of setup.now }
     requires seat { IsSeat setup.now seat.old }
-    requires within { Within sum.old (made_of seat.old) }
     requires renderable { IsRenderable E.meaning setup.now node frame region }
     ensures tile { let nodes = scene_nodes E.meaning setup.now.scene.now in
         IfOk result (λ image. IsTile nodes node frame region (arc_value image)) }
@@ -83,7 +83,6 @@ fn fetch_unless_busy<R: Wait + Clock, E: Catalogue + Drop>(
 ) -> Result<Option<Arc<Image>>, Memory>
     requires setup { IsSetup E.meaning E.number_of setup.now }
     requires seat { IsSeat setup.now seat.old }
-    requires within { Within sum.old (made_of seat.old) }
     requires renderable { IsRenderable E.meaning setup.now node frame region }
     requires key { IsKeyOf setup.now.scene.now node frame region (arc_value key) }
     ensures tile { let nodes = scene_nodes E.meaning setup.now.scene.now in
@@ -94,19 +93,16 @@ fn fetch_unless_busy<R: Wait + Clock, E: Catalogue + Drop>(
     ensures follows { OnOk result
         (Follows sum.old sum.new (made_of seat.old) (made_of seat.new)) }
 {
-    match setup
-        .shared
-        .directory
-        .ask(rt, alloc, &mut seat.directory, key)?
-    {
+    let whole = is_whole(setup, node);
+    match ask(rt, alloc, setup.shared, seat, whole, key)? {
         Answer::Here(image) => {
-            sum.hits += 1;
+            sum.add_hit()?;
             Ok(Some(image))
         }
         Answer::Busy => Ok(None),
         Answer::Fly(flight) => {
             let image = made(
-                rt, alloc, asking, setup, seat, sum, node, frame, region, flight,
+                rt, alloc, asking, setup, seat, sum, whole, node, frame, region, flight,
             )?;
             Ok(Some(image))
         }
@@ -122,6 +118,7 @@ fn made<R: Wait + Clock, E: Catalogue + Drop>(
     setup: &Setup<'_, E>,
     seat: &mut TileSeat<E>,
     sum: &mut RenderCount,
+    whole: bool,
     node: u32,
     frame: i64,
     region: Rect,
@@ -129,16 +126,12 @@ fn made<R: Wait + Clock, E: Catalogue + Drop>(
 ) -> Result<Arc<Image>, Memory>
     requires setup { IsSetup E.meaning E.number_of setup.now }
     requires seat { IsSeat setup.now seat.old }
-    requires within { Within sum.old (made_of seat.old) }
     requires renderable { IsRenderable E.meaning setup.now node frame region }
     requires key { IsKeyOf setup.now.scene.now node frame region (arc_value flight.key) }
-    requires own { Stands seat.old.directory.aloft flight }
+    requires own { Stands (seat_in whole seat.old).aloft flight }
     ensures tile { let nodes = scene_nodes E.meaning setup.now.scene.now in
         IfOk result (λ image. IsTile nodes node frame region (arc_value image)) }
-    ensures row { IsSeat setup.now seat.new }
-    ensures parts { seat.new.directory.parts ≡ seat.old.directory.parts }
-    ensures gates { seat.new.gates ≡ seat.old.gates }
-    ensures aloft { LeavesAlone seat.old.directory.aloft seat.new.directory.aloft flight }
+    ensures loses { Loses whole flight seat.old seat.new }
     ensures fetched { let r = renders_needed E.meaning setup.now node frame region in
         OnOk result (Fetched r (made_of seat.old) (made_of seat.new)) }
     ensures follows { OnOk result
@@ -157,12 +150,9 @@ fn made<R: Wait + Clock, E: Catalogue + Drop>(
         region,
         &mut flight.ticket,
     ) {
-        Ok(image) => landed(rt, alloc, setup, seat, sum, flight, image),
+        Ok(image) => landed(rt, alloc, setup, seat, sum, whole, flight, image),
         Err(memory) => {
-            setup
-                .shared
-                .directory
-                .drop_flight(rt, &mut seat.directory, flight);
+            drop_flight(rt, setup.shared, seat, whole, flight);
             Err(memory)
         }
     }
@@ -175,36 +165,33 @@ fn landed<R: Wait + Clock, E: Catalogue + Drop>(
     setup: &Setup<'_, E>,
     seat: &mut TileSeat<E>,
     sum: &mut RenderCount,
+    whole: bool,
     flight: Flight<Key>,
     image: Arc<Image>,
 ) -> Result<Arc<Image>, Memory>
     requires seat { IsSeat setup.now seat.old }
-    requires within { Within sum.old (made_of seat.old) }
-    requires own { Stands seat.old.directory.aloft flight }
+    requires own { Stands (seat_in whole seat.old).aloft flight }
     requires stamped { IsTrue flight.ticket.stamped }
-    requires right { let scene = setup.now.shared.now.directory.name.scene.value in
+    requires right { let scene = (row_in whole setup.now.shared.now).name.scene.value in
         IsRightFor E.meaning scene (arc_value flight.key) (arc_value image) }
     ensures same { IfOk result (λ tile. arc_value tile ≡ arc_value image) }
-    ensures row { IsSeat setup.now seat.new }
-    ensures parts { seat.new.directory.parts ≡ seat.old.directory.parts }
-    ensures gates { seat.new.gates ≡ seat.old.gates }
-    ensures aloft { LeavesAlone seat.old.directory.aloft seat.new.directory.aloft flight }
+    ensures loses { Loses whole flight seat.old seat.new }
     ensures landed { OnOk result (Lands (made_of seat.old) (made_of seat.new)) }
     ensures follows { OnOk result
         (Follows sum.old sum.new (made_of seat.old) (made_of seat.new)) }
 {
-    let directory = &setup.shared.directory;
+    let shared = setup.shared;
     let Ok(kept) = Arc::try_clone(&image) else {
-        directory.drop_flight(rt, &mut seat.directory, flight);
+        drop_flight(rt, shared, seat, whole, flight);
         return Err(Memory);
     };
-    match directory.land(rt, alloc, &mut seat.directory, flight, kept) {
+    match land(rt, alloc, shared, seat, whole, flight, kept) {
         Ok(()) => {
-            sum.landed += 1;
+            sum.add_landed()?;
             Ok(image)
         }
         Err((flight, _, memory)) => {
-            directory.drop_flight(rt, &mut seat.directory, flight);
+            drop_flight(rt, shared, seat, whole, flight);
             Err(memory)
         }
     }
@@ -226,7 +213,6 @@ fn image_of<R: Wait + Clock, E: Catalogue + Drop>(
 ) -> Result<Arc<Image>, Memory>
     requires setup { IsSetup E.meaning E.number_of setup.now }
     requires seat { IsSeat setup.now seat.old }
-    requires within { Within sum.old (made_of seat.old) }
     requires renderable { IsRenderable E.meaning setup.now node frame region }
     ensures tile { let nodes = scene_nodes E.meaning setup.now.scene.now in
         IfOk result (λ image. IsTile nodes node frame region (arc_value image)) }
@@ -307,7 +293,6 @@ fn gathered<R: Wait + Clock, E: Catalogue + Drop>(
 ) -> Result<Vec<Option<Arc<Image>>>, Memory>
     requires setup { IsSetup E.meaning E.number_of setup.now }
     requires seat { IsSeat setup.now seat.old }
-    requires within { Within sum.old (made_of seat.old) }
     requires ready { All (λ need. IsReady E.meaning setup.now node need.end) needs.now }
     ensures tiles { let nodes = scene_nodes E.meaning setup.now.scene.now in
         IfOk result (λ tiles. AreTilesOf nodes needs.now tiles.items) }
@@ -343,7 +328,6 @@ fn gathered_unless_busy<R: Wait + Clock, E: Catalogue + Drop>(
 ) -> Result<Vec<Option<Arc<Image>>>, Memory>
     requires setup { IsSetup E.meaning E.number_of setup.now }
     requires seat { IsSeat setup.now seat.old }
-    requires within { Within sum.old (made_of seat.old) }
     requires ready { All (λ need. IsReady E.meaning setup.now node need.end) needs.now }
     ensures tiles { let nodes = scene_nodes E.meaning setup.now.scene.now in
         IfOk result (λ tiles. MayBeTilesOf nodes needs.now tiles.items) }
@@ -375,7 +359,6 @@ fn tile_unless_busy<R: Wait + Clock, E: Catalogue + Drop>(
 ) -> Result<Option<Arc<Image>>, Memory>
     requires setup { IsSetup E.meaning E.number_of setup.now }
     requires seat { IsSeat setup.now seat.old }
-    requires within { Within sum.old (made_of seat.old) }
     requires ready { IsReady E.meaning setup.now node end.now }
     ensures tile { let nodes = scene_nodes E.meaning setup.now.scene.now in
         IfOk result (MayBeTileOf nodes end.now) }
@@ -416,7 +399,6 @@ pub(crate) fn tile_for<R: Wait + Clock, E: Catalogue + Drop>(
 ) -> Result<Option<Arc<Image>>, Memory>
     requires setup { IsSetup E.meaning E.number_of setup.now }
     requires seat { IsSeat setup.now seat.old }
-    requires within { Within sum.old (made_of seat.old) }
     requires ready { IsReady E.meaning setup.now node end.now }
     ensures tile { let nodes = scene_nodes E.meaning setup.now.scene.now in
         IfOk result (IsTileOf nodes end.now) }

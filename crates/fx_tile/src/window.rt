@@ -13,8 +13,9 @@ ghost use Rattle.fx_region.specs.Tables.{AreRegions};
 ghost use Rattle.fx_scene.specs.Scenes.{images_in, picture};
 ghost use Rattle.fx_tile.specs.Counts.{CountsEnd, CountsRises};
 ghost use Rattle.fx_life.specs.Posts.{HasLife};
+ghost use Rattle.fx_tile.specs.Kept.{HasRows, KeepsSeat, made_of};
 ghost use Rattle.fx_tile.specs.Moments.{IsFoundTile};
-ghost use Rattle.fx_tile.specs.Setups.{IsReady, IsTileOf, KeepsSeat, end_renders, made_of};
+ghost use Rattle.fx_tile.specs.Setups.{IsReady, IsTileOf, end_renders};
 ghost use Rattle.fx_tile.specs.Tiles.{IsRegion};
 
 use crate::count::TileCount;
@@ -35,9 +36,10 @@ use std::sync::{Arc, Wait};
 
 /// Writes the pixels of a tile of the picture of a frame into a part, and no others. The tile lies within the
 /// project's extent and the part, which has the picture's depth and components; the regions are those of the scene at
-/// that frame, and it holds what the frame wants; the life is that of its graph, and the directory's name is that of the
-/// scene; there are gates for 64 plug-ins and each node. The seat is one of the directory and of the gates, and has no
-/// flight and no gate, before and after. `Memory` comes where memory is wanting: then the pixels of the tile may be
+/// that frame, and it holds what the frame wants; the life is that of its graph, and the name of both directories is that
+/// of the scene; there are gates for 64 plug-ins and each node. The seat is one of both directories and of the gates, and
+/// has no flight and no gate, before and after. What is rendered of an effect that renders no parts of an image is its
+/// whole region of definition, and is kept among whole images (OpenFX 1.4, kOfxImageEffectPropSupportsTiles). `Memory` comes where memory is wanting: then the pixels of the tile may be
 /// anything, and each flight of the call was dropped. Where another renders what is needed it is waited for. A render
 /// holds the gate of its node, once what it reads is there, and releases it before it lands.
 pub fn window_tile<R: Wait + Clock, E: Catalogue + Drop>(
@@ -57,8 +59,9 @@ pub fn window_tile<R: Wait + Clock, E: Catalogue + Drop>(
         AreRegions nodes (length g.nodes) g.output frame regions.now }
     requires holds { HasWanted E.meaning scene.now.graph (images_in scene.now.store) scene.now.graph.output frame }
     requires name { shared.now.directory.name.scene.value ≡ scene.now }
-    requires seat { seat.old.directory.row ≡ shared.now.directory }
-    requires free { seat.old.directory.aloft ≡ [] }
+    requires whole_name { shared.now.wholes.name.scene.value ≡ scene.now }
+    requires seat { HasRows shared.now seat.old }
+    requires free { (seat.old.directory.aloft ≡ []) × (seat.old.wholes.aloft ≡ []) }
     requires gates { 64 + length scene.now.graph.nodes ≤ shared.now.gates.gates }
     requires gate_seat { (seat.old.gates.row ≡ shared.now.gates) × (seat.old.gates.turn ≡ None) }
     requires tile { IsRegion tile }

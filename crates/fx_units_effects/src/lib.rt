@@ -1,8 +1,11 @@
-//! The unit tests of fx_effect and fx_actions, a module for each: the trait and its loops, and the asking, worked by hand.
+//! The unit tests of fx_effect, fx_actions and fx_whole, a module for each: the trait and its loops, the asking, and how
+//! many whole images are kept, worked by hand.
 #![tactic(auto)]
 
 #[cfg(test)]
 mod actions;
+#[cfg(test)]
+mod capacity;
 #[cfg(test)]
 mod effect;
 #[cfg(test)]

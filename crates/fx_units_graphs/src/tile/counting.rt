@@ -189,7 +189,7 @@ fn rendered<'a, R: Threads + Wait + Clock + Sync>(
     let store = store(alloc, &graph)?;
     let (scene, permit) = Scene::new(graph, store, 7);
     let grid = Grid { side: TILE };
-    let (shared, mut first) = Shared::new(alloc, &scene, permit, 9, grid)?;
+    let (shared, mut first) = Shared::new(alloc, &scene, permit, 9, 0, grid)?;
     let seats = shared.split(alloc, &mut first, workers)?;
     let life = Life::start(alloc, scene.graph(), effects, FRAME, FRAME)?;
     let outcome = render_moment(rt, alloc, &FreePace, &scene, &life, &shared, seats, TIME);

@@ -10,7 +10,7 @@ use Rattle.fx_life.proofs.LifeLemmas.{started_life}
 use Rattle.fx_words.specs.Ordered.{Ordered}
 use Rattle.fx_app.specs.Graphs.{Graph}
 use Rattle.fx_app.proofs.ScaledLemmas.{holds_none}
-use Rattle.fx_app.proofs.StartLemmas.{first_script, stands_first}
+use Rattle.fx_app.proofs.StartLemmas.{first_script, no_wholes, stands_first}
 use Rattle.fx_app.proofs.moments.begun.Goals as goal
 
 pub start-requires-clause-numbers : goal.start-requires-clause-numbers
@@ -40,5 +40,5 @@ returns-clause-making c = λ p reel side cache.
     let graph : scene.graph ≡ graph_shown c.args.file.graph =
     ap (λ (s : Shot Shipped). s.graph) c.remember.ensures ∙ ap (λ (s : Shot Shipped). s.graph) c.new-scene.ensures.scene in
     stands_first c.args.order.now.scale (graph_shown c.args.file.graph) takes c.args.first c.args.last c.requires.order p reel _ (ap (λ (o : Ordered). o.scale) c.order.view_is) script graph (search rules)
-    refl refl refl refl refl c.in_ok-crew.crew refl is.crew (is.new.side ∙ sym side) (is.new.capacity ∙ sym cache) is.new.nothing c.none.ensures
+    refl refl refl refl refl c.in_ok-crew.crew refl is.crew (is.new.side ∙ sym side) (is.new.capacity ∙ sym cache) (λ none. no_wholes c.args.order.now scene c.in_ok-crew.crew is.new (sym cache ∙ none)) is.new.nothing c.none.ensures
     (holds_none p.reel.scale p.uses _ scene.store (search rules) (search rules) (search rules))

@@ -1,13 +1,12 @@
-use Rattle.std.proofs.Common.{◌≡◌, ◌<◌, ◌+◌, ◌∙◌, sym, ap, subst, arith, w64, ℤ, ℕ, IfOk}
+use Rattle.std.proofs.Common.{sym, ap, subst, arith, w64, ℤ, ℕ, IfOk}
 use Rattle.std.proofs.lemmas.Int.{to_z-of_z}
 use mir.Val.{SFits}
 use Rattle.fx_graph.specs.Shown.{GraphShown}
 use Rattle.fx_scene.specs.Sites.{scene_nodes}
-use Rattle.fx_region.specs.Ends.{EndShown, end_of, end_shown}
-use Rattle.fx_region.specs.Suffice.{ShowsEnd}
+use Rattle.fx_region.specs.Ends.{EndShown}
 use Rattle.fx_region.specs.Tables.{Has}
 use Rattle.fx_tile.specs.Counts.{CountsRises}
-use Rattle.fx_tile.specs.Founds.{IsFoundIn}
+use Rattle.fx_tile.specs.Kept.{made_of}
 use Rattle.fx_tile.specs.Setups.{end_renders}
 use Rattle.fx_tile.proofs.FoundTileLemmas.{is_found, output_ready}
 use Rattle.fx_tile.proofs.SetupLemmas.{in_graph}
@@ -52,7 +51,7 @@ returns-clause-found g c =
     let is = rw (← output) at own in
     let shows = rw (← output) at (simp to_z-of_z at c.in_ok-end.ensures.shows) in
     let need = simp to_z-of_z at c.at_end.ensures.need in
-    is_found m setup c.args.frame c.args.tile c.in_ok-end.end c.args.seat.now.directory.made c.at_end.new.seat.directory.made ready shows is
+    is_found m setup c.args.frame c.args.tile c.in_ok-end.end (made_of c.args.seat.now) (made_of c.at_end.new.seat) ready shows is
     c.at_end.result c.at_end.ensures.tile need c.at_end.ensures.image c.at_end.ensures.count c.at_end.ensures.rises
 
 pub returns-clause-rises : goal.returns-clause-rises
@@ -63,5 +62,5 @@ returns-clause-rises g c =
     let nodes = scene_nodes m setup.scene.now in
     let output = ap (λ (h : GraphShown _). h.output) c.requires.setup.graph in
     let is = rw (← output) at (simp to_z-of_z at c.in_ok-end.ensures.end) in
-    subst (λ (z : EndShown). IfOk c.at_end.result (λ f. CountsRises (end_renders nodes setup.shared.now.grid z) c.args.seat.now.directory.made c.at_end.new.seat.directory.made f.count)) is
+    subst (λ (z : EndShown). IfOk c.at_end.result (λ f. CountsRises (end_renders nodes setup.shared.now.grid z) (made_of c.args.seat.now) (made_of c.at_end.new.seat) f.count)) is
     c.at_end.ensures.rises

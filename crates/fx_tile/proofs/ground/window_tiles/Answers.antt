@@ -1,7 +1,6 @@
-use Rattle.std.proofs.Common.{ℕ, ◌≤◌, ◌∙◌, List, sym, ap, subst, arith, length, slice_set, All}
+use Rattle.std.proofs.Common.{ℕ, ◌≤◌, ◌∙◌, sym, ap, subst, arith, length, slice_set, All}
 use Rattle.std.proofs.lemmas.Grind.{common_steps}
 use Rattle.std.proofs.lemmas.List.Edits.{map_over_more}
-use Rattle.fx_base.specs.Bounds.{Bounds}
 use Rattle.fx_base.specs.Rect.{meet}
 use Rattle.fx_base.specs.declared.limits.TheConstants.{MOST_TILE_SIDE}
 use Rattle.fx_tile.specs.Moments.{IsWindowTile}

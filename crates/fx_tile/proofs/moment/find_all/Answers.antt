@@ -1,4 +1,4 @@
-use Rattle.std.proofs.Common.{◌≡◌, ℕ, ℤ, ◌∙◌, sym, ap, subst, length, List, map, w64}
+use Rattle.std.proofs.Common.{◌≡◌, ℤ, ◌∙◌, sym, ap, subst, List, map, w64}
 use Rattle.std.proofs.lemmas.Int.{to_z-of_z}
 use mir.Val.{SFits}
 use Rattle.fx_base.specs.Bounds.{Bounds, none}

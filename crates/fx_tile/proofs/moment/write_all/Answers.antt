@@ -1,4 +1,4 @@
-use Rattle.std.proofs.Common.{◌≡◌, ◌<◌, ◌∙◌, ℕ, length, arith}
+use Rattle.std.proofs.Common.{arith}
 use Rattle.fx_tile.proofs.WriteLemmas.{are_bands, is_picture, may_write, weighs_same}
 use Rattle.fx_tile.proofs.moment.write_all.Goals as goal
 

@@ -8,13 +8,14 @@ use Rattle.std.specs.List.{sum_by}
 use Rattle.std.specs.declared.alloc.Global.{Global}
 use Rattle.std.specs.declared.sync.Arc.{Arc}
 use Rattle.fx_image.specs.Stored.{Stored}
-use Rattle.fx_directory.specs.Seats.{Made}
 use Rattle.fx_scene.specs.Sites.{scene_nodes}
 use Rattle.fx_region.specs.declared.ends.Need.{Need}
-use Rattle.fx_tile.specs.Counts.{AskedOnce, one_if_some}
+use Rattle.fx_tile.specs.Counts.{AskedOnce, Follows, Lands, one_if_some}
+use Rattle.fx_tile.specs.Kept.{made_of, seat_in}
 use Rattle.fx_tile.specs.Setups.{EachTile, IsFound, IsTileOf, MayBeTileOf, renders_needed}
-use Rattle.fx_tile.proofs.FlightLemmas.{fetched_after, follows_more, joined, met_both, met_same, right_of, tile_of, within_later}
+use Rattle.fx_tile.proofs.FlightLemmas.{fetched_after, follows_more, joined, met_both, met_lands, met_same, right_of, tile_of}
 use Rattle.fx_tile.proofs.GatherLemmas.{gathers_early, gathers_now}
+use Rattle.fx_tile.proofs.KeptLemmas.{gains_loses, keeps_loses, keeps_more, seat_still, stands_kept}
 use Rattle.fx_tile.proofs.PieceLemmas.{tiles_long, tiles_more}
 use Rattle.fx_tile.proofs.tile.+fetching.Goals as goal
 use Rattle.fx_tile.proofs.tile.+fetching.Goals.{gathered-in-Some, gathered-in-None+in_ok-tile-in-None}
@@ -23,41 +24,82 @@ pub fetch-returns-in-Some-2-clause-fetched : goal.fetch-returns-in-Some-2-clause
 fetch-returns-in-Some-2-clause-fetched g t c =
     let fits : SFits w64 c.args.frame = c.ranges.frame in
     let r = renders_needed g.E.ImageEffect.meaning c.args.setup.now c.args.node c.args.frame c.args.region in
-    let now = c.loop.seat.directory.made in
-    let new = c.fetch_unless_busy.new.seat.directory.made in
+    let now = (made_of c.loop.seat) in
+    let new = (made_of c.fetch_unless_busy.new.seat) in
     let asked = simp to_z-of_z at c.in_ok-image.ensures.asked in
-    fetched_after r c.args.seat.now.directory.made now new c.loop.invariant.unasked
+    fetched_after r (made_of c.args.seat.now) now new c.loop.invariant.unasked
     (subst (λ (found : Option (Arc Stored Global)). AskedOnce found r now new) c.in-Some-2.is asked)
 
 pub fetch-fetch_unless_busy-requires : goal.fetch-fetch_unless_busy-requires
 fetch-fetch_unless_busy-requires g t c κs within =
-    let keeps = c.loop.invariant.seat in
-    let row = keeps.row ∙ c.requires.seat.row in
-    let counted = within_later c.args.sum.now c.loop.sum c.args.seat.now.directory.made c.loop.seat.directory.made c.requires.within c.loop.invariant.follows in
+    let seat = seat_still c.args.setup.now c.args.seat.now c.loop.seat c.loop.invariant.seat.rows c.requires.seat in
     search rules
 
 pub made-landed-requires-clause-right : goal.made-landed-requires-clause-right
 made-landed-requires-clause-right g t c =
     let fits : SFits w64 c.args.frame = c.ranges.frame in
     let tile = simp to_z-of_z at c.in-Ok.ensures.tile in
-    right_of g.E.ImageEffect.meaning g.E.Catalogue.number_of c.args.setup.now c.requires.setup c.args.node c.args.frame c.args.region (arc_value c.args.flight.key)
+    right_of g.E.ImageEffect.meaning g.E.Catalogue.number_of c.args.setup.now c.requires.setup c.args.whole c.args.node c.args.frame c.args.region (arc_value c.args.flight.key)
     (arc_value c.in-Ok.image) c.requires.renderable.reached c.requires.key tile
 
-pub fetch_unless_busy-returns-in-Here-clause-tile : goal.fetch_unless_busy-returns-in-Here-clause-tile
-fetch_unless_busy-returns-in-Here-clause-tile g t c =
-    let here = rw c.in-Here.is at c.in_ok-image.ensures.here in
-    tile_of g.E.ImageEffect.meaning g.E.Catalogue.number_of c.args.setup.now c.requires.setup c.args.node c.args.frame c.args.region (arc_value c.args.key)
-    (arc_value c.in-Here.image) c.requires.renderable.reached c.requires.key here
+pub fetch_unless_busy-returns-in_ok-add_hit-in-Here-clause-tile : goal.fetch_unless_busy-returns-in_ok-add_hit-in-Here-clause-tile
+fetch_unless_busy-returns-in_ok-add_hit-in-Here-clause-tile g t c =
+    let here = rw c.in-Here.is at c.in_ok-image.ensures.answer in
+    tile_of g.E.ImageEffect.meaning g.E.Catalogue.number_of c.args.setup.now c.requires.setup c.is_whole-whole.result c.args.node c.args.frame c.args.region
+    (arc_value c.args.key) (arc_value c.in-Here.image) c.requires.renderable.reached c.requires.key here.0
+
+pub made-landed-requires-clause-own : goal.made-landed-requires-clause-own
+made-landed-requires-clause-own g t c =
+    stands_kept c.args.whole c.args.flight c.image_of.new.ticket c.args.seat.now c.image_of.new.seat c.image_of.ensures.number c.image_of.ensures.seat c.requires.own
+
+pub made-drop_flight-requires-clause-own : goal.made-drop_flight-requires-clause-own
+made-drop_flight-requires-clause-own g t c =
+    stands_kept c.args.whole c.args.flight c.image_of.new.ticket c.args.seat.now c.image_of.new.seat c.image_of.ensures.number c.image_of.ensures.seat c.requires.own
+
+pub made-returns-in-Ok-clause-loses : goal.made-returns-in-Ok-clause-loses
+made-returns-in-Ok-clause-loses g t c =
+    keeps_loses c.args.whole c.args.flight c.image_of.new.ticket c.args.seat.now c.image_of.new.seat c.landed.new.seat c.image_of.ensures.number c.image_of.ensures.seat
+    c.landed.ensures.loses
+
+pub made-returns-in-Ok-clause-fetched : goal.made-returns-in-Ok-clause-fetched
+made-returns-in-Ok-clause-fetched g t c =
+    let fits : SFits w64 c.args.frame = c.ranges.frame in
+    let r = renders_needed g.E.ImageEffect.meaning c.args.setup.now c.args.node c.args.frame c.args.region in
+    let start = made_of c.args.seat.now in
+    let mid = made_of c.image_of.new.seat in
+    let end = made_of c.landed.new.seat in
+    let met = simp to_z-of_z at c.in-Ok.ensures.met in
+    on_ok_weaker c.landed.result (λ (lands : Lands mid end). met_lands r start mid end met lands) c.landed.ensures.landed
+
+pub made-returns-in-Ok-clause-follows : goal.made-returns-in-Ok-clause-follows
+made-returns-in-Ok-clause-follows g t c =
+    let start = made_of c.args.seat.now in
+    let mid = made_of c.image_of.new.seat in
+    let end = made_of c.landed.new.seat in
+    let first = c.in-Ok.ensures.follows in
+    on_ok_weaker c.landed.result
+    (λ (then : Follows c.image_of.new.sum c.landed.new.sum mid end).
+    follows_more c.args.sum.now c.image_of.new.sum c.landed.new.sum start mid end first then) c.landed.ensures.follows
+
+pub made-returns-in-Err-clause-loses : goal.made-returns-in-Err-clause-loses
+made-returns-in-Err-clause-loses g t c =
+    keeps_loses c.args.whole c.args.flight c.image_of.new.ticket c.args.seat.now c.image_of.new.seat c.drop_flight.new.seat c.image_of.ensures.number
+    c.image_of.ensures.seat c.drop_flight.ensures.loses
+
+pub fetch_unless_busy-returns-in_ok-image-in-Fly-clause-seat : goal.fetch_unless_busy-returns-in_ok-image-in-Fly-clause-seat
+fetch_unless_busy-returns-in_ok-image-in-Fly-clause-seat g t c =
+    let answer = rw c.in-Fly.is at c.in_ok-image.ensures.answer in
+    gains_loses c.is_whole-whole.result c.in-Fly.flight c.args.seat.now c.ask.new.seat c.made.new.seat answer.1 c.made.ensures.loses
 
 pub fetch_unless_busy-made-requires : goal.fetch_unless_busy-made-requires
 fetch_unless_busy-made-requires g t c κs within =
-    let aloft = rw c.in-Fly.is at c.in_ok-image.ensures.aloft in
-    let fresh = rw c.in-Fly.is at c.in_ok-image.ensures.fresh in
-    let made = rw c.in-Fly.is at c.in_ok-image.ensures.made in
-    let key = fresh.0 ∙ c.requires.key in
-    let own = joined c.ask.new.seat.aloft c.args.seat.now.directory.aloft (c.in-Fly.flight.ticket.number, arc_value c.in-Fly.flight.key) aloft in
-    let landed = ap (λ (m : Made). m.landed) made in
-    let hits = ap (λ (m : Made). m.hits) made in
+    let answer = rw c.in-Fly.is at c.in_ok-image.ensures.answer in
+    let key = answer.0 ∙ c.requires.key in
+    let gains = answer.1 in
+    let whole = c.is_whole-whole.result in
+    let own =
+    joined (seat_in whole c.ask.new.seat).aloft (seat_in whole c.args.seat.now).aloft (c.in-Fly.flight.ticket.number, arc_value c.in-Fly.flight.key) gains.joined in
+    let seat = seat_still c.args.setup.now c.args.seat.now c.ask.new.seat gains.rows c.requires.seat in
     search rules
 
 pub gathered-loop-i-init : goal.gathered-loop-i-init
@@ -69,7 +111,7 @@ gathered-loop-i-init g t c =
       seat = c.gathered_unless_busy.ensures.seat;
       follows = c.in_ok-early.ensures.follows;
       gathers = record {
-        met = met_same some (0 + some) c.args.seat.now.directory.made c.gathered_unless_busy.new.seat.directory.made (omega arith) c.in_ok-early.ensures.met;
+        met = met_same some (0 + some) (made_of c.args.seat.now) (made_of c.gathered_unless_busy.new.seat) (omega arith) c.in_ok-early.ensures.met;
         long = tiles_long (MayBeTileOf nodes) c.args.needs.now early c.in_ok-early.ensures.tiles;
         early_are = c.in_ok-early.ensures.tiles;
         tiles_are = subst (λ (z : List (Option (Arc Stored Global))). EachTile (IsTileOf nodes) [] z) (sym c.new-tiles.ensures.items) tt;
@@ -86,8 +128,8 @@ gathered-loop-i-preserved g t c =
     let next = set early i c.take.new.self in
     let tiles = c.loop-i.tiles.items in
     let more = c.push.new.self.items in
-    let start = c.args.seat.now.directory.made in
-    let mid = c.loop-i.seat.directory.made in
+    let start = (made_of c.args.seat.now) in
+    let mid = (made_of c.loop-i.seat) in
     let old = c.index_mut.result.now in
     let after : next ≡ set early i None = ap (λ (o : Option (Arc Stored Global)). set early i o) c.take.ensures.after in
     elim c.match-take.branch [
@@ -107,7 +149,7 @@ gathered-loop-i-preserved g t c =
           let sum = w.sum-is in
           let keeps = w.tile_for.ensures.seat in
           let before = c.loop-i.invariant.seat in
-          let end = w.tile_for.new.seat.directory.made in
+          let end = (made_of w.tile_for.new.seat) in
           let need = w.index-needs-i.result in
           let tile = w.in_ok-tile-in-None.tile in
           let is : old ≡ None = sym c.take.ensures.value ∙ w.in-None.is in
@@ -116,7 +158,7 @@ gathered-loop-i-preserved g t c =
           let found = subst (λ (n : Need). IsFound m setup n.end mid end) (sym w.index-needs-i.is) w.in_ok-tile-in-None.ensures.found in
           let of = subst (λ (n : Need). IsTileOf nodes n.end tile) (sym w.index-needs-i.is) w.in_ok-tile-in-None.ensures.tile in
           record {
-            seat = rw seat (record { row = keeps.row ∙ before.row; parts = keeps.parts ∙ before.parts; aloft = keeps.aloft ∙ before.aloft; gates = keeps.gates ∙ before.gates });
+            seat = rw seat (keeps_more before keeps);
             follows = rw (seat, sum)
                 (follows_more c.args.sum.now c.loop-i.sum w.tile_for.new.sum start mid end c.loop-i.invariant.follows w.in_ok-tile-in-None.ensures.follows);
             gathers = rw seat
@@ -131,11 +173,11 @@ gathered_unless_busy-loop-need-preserved g t c =
     let old = c.loop-need.invariant.seat in
     let tiles = c.loop-need.tiles.items in
     let tile = c.in_ok-tile.tile in
-    let start = c.args.seat.now.directory.made in
-    let mid = c.loop-need.seat.directory.made in
-    let end = c.tile_unless_busy.new.seat.directory.made in
+    let start = (made_of c.args.seat.now) in
+    let mid = (made_of c.loop-need.seat) in
+    let end = (made_of c.tile_unless_busy.new.seat) in
     record {
-      seat = record { row = keeps.row ∙ old.row; parts = keeps.parts ∙ old.parts; aloft = keeps.aloft ∙ old.aloft; gates = keeps.gates ∙ old.gates };
+      seat = keeps_more old keeps;
       met = met_same (sum_by one_if_some tiles + one_if_some tile) (sum_by one_if_some c.push.new.self.items) start end
           (sym (ap (sum_by one_if_some) c.in_ok-push.ensures.items ∙ sum_by_push one_if_some tiles tile))
           (met_both (sum_by one_if_some tiles) (one_if_some tile) start mid end c.loop-need.invariant.met c.in_ok-tile.ensures.met);

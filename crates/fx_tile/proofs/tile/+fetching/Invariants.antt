@@ -2,7 +2,8 @@ use Rattle.std.proofs.Common.{◌*◌, ◌+◌, take}
 use Rattle.std.specs.List.{sum_by}
 use Rattle.fx_scene.specs.Sites.{scene_nodes}
 use Rattle.fx_tile.specs.Counts.{Follows, IsUnasked, Met, one_if_some}
-use Rattle.fx_tile.specs.Setups.{KeepsSeat, MayBeTilesOf}
+use Rattle.fx_tile.specs.Kept.{KeepsSeat, made_of}
+use Rattle.fx_tile.specs.Setups.{MayBeTilesOf}
 use Rattle.fx_tile.proofs.GatherLemmas.{Gathers}
 use Rattle.fx_tile.proofs.tile.+fetching.Given as goal
 
@@ -34,23 +35,23 @@ abbrev pub invariant-fetch-loop : goal.invariant-fetch-loop
 invariant-fetch-loop g l =
     record {
       seat : KeepsSeat l.fn.seat l.seat;
-      unasked : IsUnasked l.fn.seat.directory.made l.seat.directory.made;
-      follows : Follows l.fn.sum l.sum l.fn.seat.directory.made l.seat.directory.made;
+      unasked : IsUnasked (made_of l.fn.seat) (made_of l.seat);
+      follows : Follows l.fn.sum l.sum (made_of l.fn.seat) (made_of l.seat);
     }
 
 abbrev pub invariant-gathered-loop-i : goal.invariant-gathered-loop-i
 invariant-gathered-loop-i g l =
     record {
       seat : KeepsSeat l.fn.seat l.seat;
-      follows : Follows l.fn.sum l.sum l.fn.seat.directory.made l.seat.directory.made;
-      gathers : Gathers g.E.ImageEffect.meaning l.setup l.needs l.i l.early.items l.tiles.items l.fn.seat.directory.made l.seat.directory.made;
+      follows : Follows l.fn.sum l.sum (made_of l.fn.seat) (made_of l.seat);
+      gathers : Gathers g.E.ImageEffect.meaning l.setup l.needs l.i l.early.items l.tiles.items (made_of l.fn.seat) (made_of l.seat);
     }
 
 abbrev pub invariant-gathered_unless_busy-loop-need : goal.invariant-gathered_unless_busy-loop-need
 invariant-gathered_unless_busy-loop-need g l =
     record {
       seat : KeepsSeat l.fn.seat l.seat;
-      met : Met (sum_by one_if_some l.tiles.items) l.fn.seat.directory.made l.seat.directory.made;
-      follows : Follows l.fn.sum l.sum l.fn.seat.directory.made l.seat.directory.made;
+      met : Met (sum_by one_if_some l.tiles.items) (made_of l.fn.seat) (made_of l.seat);
+      follows : Follows l.fn.sum l.sum (made_of l.fn.seat) (made_of l.seat);
       tiles : MayBeTilesOf (scene_nodes g.E.ImageEffect.meaning l.setup.scene.now) (take l.need-index l.needs) l.tiles.items;
     }

@@ -1,4 +1,4 @@
-use Rattle.std.proofs.Common.{◌≡◌, ◌∙◌, ap, subst, sym, w64, rules, ℤ}
+use Rattle.std.proofs.Common.{◌∙◌, ap, w64, rules}
 use Rattle.std.proofs.lemmas.Int.{to_z-of_z}
 use mir.Val.{SFits}
 use Rattle.fx_pixel.specs.declared.Depth.{Depth}

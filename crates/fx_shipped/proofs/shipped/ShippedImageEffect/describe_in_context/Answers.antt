@@ -11,3 +11,6 @@ returns-in-Merge-clause-clips c = rw c.in-Merge.is c.describe_in_context-in-Merg
 
 pub returns-in-Keymix-clause-clips : goal.returns-in-Keymix-clause-clips
 returns-in-Keymix-clause-clips c = rw c.in-Keymix.is c.describe_in_context-in-Keymix.ensures.clips
+
+pub returns-in-Autogain-clause-clips : goal.returns-in-Autogain-clause-clips
+returns-in-Autogain-clause-clips c = rw c.in-Autogain.is c.describe_in_context-in-Autogain.ensures.clips

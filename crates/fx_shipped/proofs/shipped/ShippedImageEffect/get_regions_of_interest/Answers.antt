@@ -77,3 +77,6 @@ returns-in-Merge c = rw c.in-Merge.is c.get_regions_of_interest-in-Merge.ensures
 
 pub returns-in-Keymix : goal.returns-in-Keymix
 returns-in-Keymix c = rw c.in-Keymix.is c.get_regions_of_interest-in-Keymix.ensures
+
+pub returns-in-Autogain : goal.returns-in-Autogain
+returns-in-Autogain c = rw c.in-Autogain.is c.get_regions_of_interest-in-Autogain.ensures

@@ -1,4 +1,4 @@
-use Rattle.std.proofs.Common.{◌≡◌, ◌*◌, ◌+◌, ◌-◌, ℕ, List, sym, subst, arith}
+use Rattle.std.proofs.Common.{◌*◌, ◌+◌, ◌-◌, List, sym, subst, arith}
 use Rattle.std.proofs.lemmas.Result.{on_ok_weaker}
 use Rattle.fx_base.specs.Bounds.{Bounds}
 use Rattle.fx_tile.specs.Moments.{Cover, job_picture}

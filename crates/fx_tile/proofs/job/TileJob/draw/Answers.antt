@@ -1,8 +1,6 @@
-use Rattle.std.proofs.Common.{◌≡◌, ◌∙◌, ap, sym, subst, rules, get_or, IfOk, w64}
-use Rattle.std.proofs.lemmas.Int.{to_z-of_z}
+use Rattle.std.proofs.Common.{◌∙◌, ap, sym, subst}
 use Rattle.std.proofs.lemmas.List.{get_or_default}
-use mir.Val.{SFits}
-use Rattle.fx_base.specs.Bounds.{Bounds, none}
+use Rattle.fx_base.specs.Bounds.{none}
 use Rattle.fx_tile.specs.Tiles.{IsRegion}
 use Rattle.fx_tile.proofs.job.TileJob.draw.Goals as goal
 
@@ -17,11 +15,15 @@ returns-clause-free g c =
     let keeps = c.found_tile-found.ensures.seat in
     let free = c.requires.free in
     record {
-      row = keeps.row ∙ free.row;
-      parts_are = keeps.parts ∙ free.parts_are;
+      row = keeps.rows.row ∙ free.row;
+      parts_are = keeps.rows.parts ∙ free.parts_are;
       aloft = keeps.aloft ∙ free.aloft;
       finds_none = c.finds_none.ensures;
-      gates = ap (λ z. z.row) keeps.gates ∙ free.gates;
-      gate_parts = ap (λ z. z.parts) keeps.gates ∙ free.gate_parts;
-      no_turn = ap (λ z. z.turn) keeps.gates ∙ free.no_turn;
+      whole_row = keeps.rows.whole_row ∙ free.whole_row;
+      whole_parts = keeps.rows.whole_parts ∙ free.whole_parts;
+      whole_aloft = keeps.whole_aloft ∙ free.whole_aloft;
+      whole_finds_none = c.finds_none-2.ensures;
+      gates = ap (λ z. z.row) keeps.rows.gates ∙ free.gates;
+      gate_parts = ap (λ z. z.parts) keeps.rows.gates ∙ free.gate_parts;
+      no_turn = ap (λ z. z.turn) keeps.rows.gates ∙ free.no_turn;
     }

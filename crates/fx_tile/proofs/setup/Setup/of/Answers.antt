@@ -1,4 +1,4 @@
-use Rattle.std.proofs.Common.{◌+◌, sym, subst, arith}
+use Rattle.std.proofs.Common.{sym, subst, arith}
 use Rattle.std.proofs.lemmas.List.{length-map}
 use Rattle.fx_graph.specs.Shown.{shown}
 use Rattle.fx_scene.specs.Nodes.{AreNodes}
@@ -27,5 +27,6 @@ returns-clause-setup g c =
       holds = c.requires.regions.holds;
       keeps = record { is = c.scene_is.ensures; made = c.scene_tiles.ensures.made; right = c.scene_tiles.ensures.right };
       name = c.requires.name;
+      whole_name = c.requires.whole_name;
       gates = c.requires.gates;
     }

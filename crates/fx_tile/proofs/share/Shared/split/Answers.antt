@@ -1,7 +1,6 @@
-use Rattle.std.proofs.Common.{◌≡◌, ◌≤◌, ◌<◌, ◌+◌, ◌++◌, ◌∷◌, [], ◌∙◌, ℕ, List, sym, ap, subst, arith}
+use Rattle.std.proofs.Common.{◌≡◌, ◌<◌, ◌∙◌, sym, ap, subst, arith}
 use Rattle.fx_directory.specs.Seats.{Made}
 use Rattle.fx_pool.specs.Weights.{plus, weigh}
-use Rattle.fx_tile.specs.declared.share.TileSeat.{TileSeat}
 use Rattle.fx_tile.specs.Moments.{seat_weight}
 use Rattle.fx_tile.specs.Seats.{AreAll}
 use Rattle.fx_tile.proofs.SeatLemmas.{split_off, weigh_push}

@@ -1,0 +1,3 @@
+//! What the modules share: the place of the clip Source.
+
+pub(crate) const SOURCE: u32 = 0;
