@@ -1,9 +1,9 @@
 #!/usr/bin/env python3
 """Refuses the program memory, and looks at what it leaves.
 
-    memory.py [NAME..]      first, diamond, ahead, scale, hd and edges, or those that are named
+    memory.py [NAME..]      first, diamond, whole, ahead, scale, hd and edges, or those that are named
 
-Of the first five each allocation is refused once, by one worker and then by four, whose order is another at each run;
+Of the first six each allocation is refused once, by one worker and then by four, whose order is another at each run;
 all allocations from each one on are refused; and each thread is refused once. Of the last two the program is given less
 memory than it needs, in twenty steps from what it needs to start, by the system's limit of its address space. A run is
 right where its status is 0, and the report and all files are those of host.py, or 6, and the files that are there are the
@@ -74,13 +74,17 @@ GRAPHS = {
         ),
         (16, 16), 8,
     ),
+    "whole": (
+        graph([source("s", 1), node("a", "autogain", {"Source": "s"}), node("b", "boxblur", {"Source": "a"}, rx=1, ry=1)], 12, 9, 1),
+        (12, 9), 8,
+    ),
     "ahead": (graph([source("s", 4), node("n", "invert", {"Source": "s"})], 4, 2, 4), (4, 2), 64),
     "scale": (graph([source("s", 1), node("b", "boxblur", {"Source": "s"}, rx=3, ry=1)], 13, 9, 1), (13, 9), 4),
     "hd": (graph(twelve_nodes(), 96, 54, 1), (96, 54), 32),
     "edges": (graph([source("p", 2), node("b", "boxblur", {"Source": "p"}, rx=1, ry=1)], 160, 160, 2), (160, 160), 64),
 }
 # Those whose allocations are refused one after another, and those that need much more than the program needs to start.
-COUNTED, LIMITED = ("first", "diamond", "ahead", "scale", "hd"), ("hd", "edges")
+COUNTED, LIMITED = ("first", "diamond", "whole", "ahead", "scale", "hd"), ("hd", "edges")
 # What is ordered besides.
 OPTIONS = {"ahead": ["--ahead", "2"], "scale": ["--scale", "2"]}
 

@@ -87,6 +87,11 @@ def posterised(a, _b, _most):
     return cv2.LUT(a, levels.astype(numpy.uint8)) if a.dtype == numpy.uint8 else None
 
 
+def raised(a, _b, most):
+    factor = most / a[:, :, :3].max()
+    return cv2.multiply(a, (factor, factor, factor, 1))
+
+
 def opaque(a, _b, most):
     return numpy.full_like(a, most)
 
@@ -130,6 +135,7 @@ WORKS = [
     ("max", "merge", TWO, {"operation": "max"}, lambda a, b, m: cv2.max(a, b)),
     ("minus", "merge", TWO, {"operation": "minus"}, lambda a, b, m: cv2.subtract(a, b)),
     ("keymix", "keymix", TWO | {"Mask": "a"}, {}, keyed),
+    ("autogain", "autogain", SOURCE, {}, raised),
     ("solid", "solid", {}, {"r": "1", "g": "1", "b": "1"}, opaque),
     ("checker", "checker", {}, {"size": 7}, None),
     ("ramp", "ramp", {}, {}, None),
