@@ -103,7 +103,7 @@ pub record Laws (m : Meaning) : Type 0 where
   pub pixel : (context : Context) (v : Values) (depth : Depth) (c : Components) (value : TapPixels) (x y : ℤ)
       → IsGiven m.shape context v depth c value
       → IsOfDepth depth (mixed m v depth c value x y) × (components_of (mixed m v depth c value x y) ≡ c)
-  -- where it renders no parts of an image, its region of definition lies within the project's extent
+  -- where it supports no tiles, its region of definition lies within the project's extent
   pub whole_within_project : (context : Context) (v : Values) (regions : List Bounds)
       → m.shape.tiles ≡ false → IsLawfulIn m.shape context v → AreRegions v regions
       → IsWithin (m.rod context v regions) v.project

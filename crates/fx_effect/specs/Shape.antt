@@ -28,7 +28,7 @@ pub record Shape : Type 0 where
   pub contexts : List Context
   pub depths : List Depth
   pub components : List Components
-  -- whether it reads frames other than the current one, and whether it renders parts of an image
+  -- whether it reads frames other than the current one, and whether it supports tiles
   pub temporal : Bool
   pub tiles : Bool
   pub safety : Safety

@@ -16,8 +16,7 @@ use fx_props::{PropEntry, PropKind, PropSet, PropValue, blank, set_of, write_ent
 use std::alloc::Global;
 
 /// What an effect says of itself, for `describe`: its label, the contexts and depths that it supports,
-/// whether it reads frames other than the current one, whether it renders parts of an image, and its
-/// thread safety.
+/// whether it reads frames other than the current one, whether it supports tiles, and its thread safety.
 #[derive(Clone, Copy)]
 pub struct Description<'a> {
     pub label: &'a str,

@@ -221,7 +221,7 @@ pub trait Catalogue: ImageEffect + Sized {
     fn safety(&self) -> Safety
         ensures { result ≡ (Self.meaning self.now).shape.safety };
 
-    /// Whether it renders parts of an image, as `describe` writes it.
+    /// Whether it supports tiles, as `describe` writes it.
     fn supports_tiles(&self) -> bool
         ensures { result ≡ (Self.meaning self.now).shape.tiles };
 

@@ -103,8 +103,8 @@ use_in e s project before path name c clips params =
     (Ok (use_of e s project before name c (map (connection place clips) (s.clips c)) params))
 
 -- the use of an effect, behind these nodes
-abbrev pub effect_of : {E : Type 0} → (E → Meaning) → Form → List (Shown E) → List ℕ → List ℕ → Option E → Option RawContext
-    → List RawClip → List RawParam → Result (Shown E) Fault
+abbrev pub effect_of : {E : Type 0} → (E → Meaning) → Form → List (Shown E) → List ℕ → List ℕ → Option E
+    → Option RawContext → List RawClip → List RawParam → Result (Shown E) Fault
 effect_of meaning project before path name None context clips params =
     Err (refusal UnknownEffect (node_path path (codes "effect")))
 effect_of meaning project before path name (Some e) context clips params =
@@ -113,8 +113,8 @@ effect_of meaning project before path name (Some e) context clips params =
     refused_or (unsupported path s.contexts c) (use_in e s project before path name c clips params)
 
 -- what a node does, behind these nodes
-abbrev pub work_of : {E : Type 0} → (List ℕ → Option E) → (E → Meaning) → Form → List (Shown E) → List ℕ → List ℕ → RawWork
-    → Result (Shown E) Fault
+abbrev pub work_of : {E : Type 0} → (List ℕ → Option E) → (E → Meaning) → Form → List (Shown E) → List ℕ → List ℕ
+    → RawWork → Result (Shown E) Fault
 work_of find meaning project before path name (raw.Source pattern first last hold depth components) =
     let does = Source pattern first last hold in
     refused_or (wrong_source path pattern first last)

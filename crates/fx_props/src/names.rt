@@ -13,7 +13,7 @@ pub const CONTEXTS: &str = "OfxImageEffectPropSupportedContexts";
 pub const DEPTHS: &str = "OfxImageEffectPropSupportedPixelDepths";
 /// Whether an effect reads frames other than the current one.
 pub const TEMPORAL: &str = "OfxImageEffectPropTemporalClipAccess";
-/// Whether an effect renders parts of an image.
+/// Whether an effect supports tiles.
 pub const TILES: &str = "OfxImageEffectPropSupportsTiles";
 /// How many renders of an effect may run at one time.
 pub const SAFETY: &str = "OfxImageEffectPluginRenderThreadSafety";

@@ -44,7 +44,7 @@ abbrev pub IsChoice : Nodes → Choice → Type 0
 IsChoice nodes choose =
     (n : ℕ) (t : ℤ) (cut : Bounds) → IsWithin cut (area nodes n t) → IsWithin cut (choose n t cut)
 
--- of an effect that renders no parts of an image the whole area, and else the cut alone (OpenFX 1.4,
+-- of an effect that supports no tiles the whole area, and else the cut alone (OpenFX 1.4,
 -- kOfxImageEffectPropSupportsTiles)
 abbrev pub whole_or_cut : Node → Bounds → Bounds → Bounds
 whole_or_cut (Source s) whole cut = cut
@@ -99,7 +99,7 @@ unfoldable pub end_by : Choice → Nodes → Ends
 end_by choose nodes =
     at_place no_end (λ before n t r. node_end choose before n (nodes n) t (meet r (area nodes n t)))
 
--- where the whole area is rendered of effects that render no parts of an image, and the cut alone of the others
+-- where the whole area is rendered of effects that support no tiles, and the cut alone of the others
 abbrev pub end_of : Nodes → Ends
 end_of nodes = end_by (chosen nodes) nodes
 

@@ -35,7 +35,7 @@ enum Stand {
 /// Where a region of a node at a frame is found. It is cut to the node's region of definition, and it is nowhere where
 /// nothing is left. At a source it is in the frame that the source shows. Where the effect is an identity over the cut
 /// region (OpenFX 1.4, kOfxImageEffectActionIsIdentity), it is found at the named clip and frame; else it is to be
-/// rendered: the cut region, or the whole region of definition where the effect renders no parts of an image. Regions
+/// rendered: the cut region, or the whole region of definition where the effect supports no tiles. Regions
 /// are those of the scene, and the node is reached at the frame. `Memory` comes where memory is wanting.
 pub fn follow<E: Catalogue>(
     alloc: Global,
@@ -218,7 +218,7 @@ fn effect_stand<E: Catalogue>(
     }
 }
 
-// What is rendered for a cut of an effect's region of definition: all of that where it renders no parts of an image.
+// What is rendered for a cut of an effect's region of definition: all of that where it supports no tiles.
 fn whole_or_cut<E: Catalogue>(effect: &E, whole: Rect, cut: Rect) -> Rect
     ensures { result ≡ (if (E.meaning effect.now).shape.tiles then cut else whole) }
 {

@@ -7,7 +7,7 @@ ghost use Rattle.fx_region.specs.Ends.{IsChoice, chosen};
 ghost use Rattle.fx_region.specs.Suffice.{EndsSuffice, NeedsSuffice};
 
 /// Where a region of a node ends, its value is shown there, whatever region that holds the cut is rendered: so where it
-/// is the whole region of definition of effects that render no parts of an image, and the cut of the others. It
+/// is the whole region of definition of effects that support no tiles, and the cut of the others. It
 /// computes nothing.
 pub fn ends_suffice()
     ensures shown { (nodes : Nodes) → AreNodes nodes → EndsSuffice nodes }

@@ -42,4 +42,5 @@ pub record IsMigrated (bytes text : List ℕ) : Type 0 where
 -- a graph that the bytes say is said by the text, in format 2
 abbrev pub IsSameGraph : List ℕ → List ℕ → Type 0
 IsSameGraph bytes text =
-    (most side : ℕ) (g : Graph) → read_graph bytes most side ≡ Ok g → read_graph text most side ≡ Ok (record g { format = 2 })
+    (most side : ℕ) (g : Graph) → read_graph bytes most side ≡ Ok g →
+    read_graph text most side ≡ Ok (record g { format = 2 })

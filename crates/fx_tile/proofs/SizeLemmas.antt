@@ -1,5 +1,5 @@
--- Regions are no larger than a project may be: what lies within a small one, and what is rendered of effects that render
--- no parts of an image.
+-- Regions are no larger than a project may be: what lies within a small one, and what is rendered of effects that support
+-- no tiles.
 use Rattle.std.proofs.Common.{◌≡◌, ℕ, ◌≤◌, ℤ, Bool, true, false, cond, refl, arith, sym, ap, ◌∙◌, subst, inl, inr, ◌⊎◌}
 use Rattle.std.proofs.lemmas.Int.{ints}
 use Rattle.fx_base.specs.Bounds.{Bounds, IsRect, none}
@@ -44,7 +44,7 @@ project_small p is =
     (omega (arith, ints, g1, left, wide.1), omega (arith, ints, g2, bottom, high.1))
 
 module _ (nodes : Nodes) (ok : AreNodes nodes) (k : ℕ) (o : EffectNode) (i : IsEffectNode k o) (there : nodes k ≡ Effect o) where
-  -- the area of an effect that renders no parts of an image
+  -- the area of an effect that supports no tiles
   whole_small : (t : ℤ) → k ≤ 1024 → o.meaning.shape.tiles ≡ false → IsSmall (area nodes k t)
   whole_small t few whole =
       let regions = clip_areas (area nodes) o t in
@@ -66,7 +66,7 @@ module _ (nodes : Nodes) (ok : AreNodes nodes) (k : ℕ) (o : EffectNode) (i : I
       subst (λ (node : Node). IsWithin (whole_or_cut node (area nodes k t) r) r ⊎ IsSmall (whole_or_cut node (area nodes k t) r)) (sym there)
       (sized t r few o.meaning.shape.tiles refl)
 
--- of an effect that renders no parts of an image the whole area is rendered
+-- of an effect that supports no tiles the whole area is rendered
 pub chosen_whole : (nodes : Nodes) (k : ℕ) (o : EffectNode) → nodes k ≡ Effect o → (t : ℤ) (r : Bounds) → o.meaning.shape.tiles ≡ false
     → chosen nodes k t r ≡ area nodes k t
 chosen_whole nodes k o there t r none =

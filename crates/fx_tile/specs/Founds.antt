@@ -20,7 +20,7 @@ pub record IsOfFrame (nodes : Nodes) (r : Bounds) (m : ℕ) (f : ℤ) (q : Bound
   pub within : IsWithin q image.rect
 
 -- a region of an effect at a frame, which lies in the region that was asked for or is no larger than a project may be;
--- where the effect renders no parts of an image it is its whole area
+-- where the effect supports no tiles it is its whole area
 pub record IsOfEffect (nodes : Nodes) (r : Bounds) (m : ℕ) (f : ℤ) (q : Bounds) : Type 0 where
   pub window : IsWindow q
   pub size : IsWithin q r ⊎ IsSmall q

@@ -1,5 +1,5 @@
--- The two directories in which images are kept, as a seat sees them: whole images of effects that render no parts of an
--- image (OpenFX 1.4, kOfxImageEffectPropSupportsTiles) in the one, and all others, the tiles, in the other.
+-- The two directories in which images are kept, as a seat sees them: whole images of effects that support no tiles (OpenFX
+-- 1.4, kOfxImageEffectPropSupportsTiles) in the one, and all others, the tiles, in the other.
 use Rattle.std.specs.Prelude.{◌≡◌, ◌++◌, [], ◌∷◌, Bool, false, not, if◌then◌else◌}
 use Rattle.std.specs.Arc.{arc_value}
 use Rattle.fx_core.specs.declared.flight.Answer.{Answer}

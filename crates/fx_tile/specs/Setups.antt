@@ -87,7 +87,7 @@ IsKeyOf scene node frame region key =
 -- ---- what has to be there
 
 -- a region of an effect's node within its area, at a frame at which it is reached; the whole area where the effect
--- renders no parts of an image (OpenFX 1.4, kOfxImageEffectPropSupportsTiles)
+-- supports no tiles (OpenFX 1.4, kOfxImageEffectPropSupportsTiles)
 pub record IsRenderable {E : Type 0} {c e : _} (meaning : E → Meaning) (setup : Setup E c e) (node : ℕ) (frame : ℤ)
     (region : Bounds) : Type 0 where
   pub effect : EffectNode

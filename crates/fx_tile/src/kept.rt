@@ -1,4 +1,4 @@
-//! Where images are kept: those of effects that render no parts of an image in a directory of their own, whole, and
+//! Where images are kept: those of effects that support no tiles in a directory of their own, whole, and
 //! all others, the tiles, in another.
 ghost use Rattle.std.specs.Prelude.{◌≡◌, ◌<◌, IfErr, IfOk, IsTrue, OnErr, OnOk, length};
 ghost use Rattle.std.specs.Arc.{arc_value};
@@ -21,7 +21,7 @@ use std::alloc::Global;
 use std::rt::Clock;
 use std::sync::{Arc, Wait};
 
-/// Whether images of a node are kept whole: it is an effect that renders no parts of an image.
+/// Whether images of a node are kept whole: it is an effect that supports no tiles.
 pub(crate) fn is_whole<E: Catalogue>(setup: &Setup<'_, E>, node: u32) -> bool
     requires setup { IsSetup E.meaning E.number_of setup.now }
     requires node { node < length setup.now.graph.now.nodes.items }

@@ -48,9 +48,9 @@ pub struct Rendered<E: Catalogue> {
 /// are the rows of the grid cut so: each band in one draw, with the rows of its tiles. There are 1 to 64 seats, each
 /// with one part of each directory and of the gates, no flight and no gate; they come back so, as many, at `Memory` too,
 /// once all workers have ended. The scene holds what the frame wants, the life is that of its graph, the name of both
-/// directories is that of the scene, and there are gates for 64 plug-ins and each node. Each worker calls `pace.before_draw` with its
-/// number before each draw.
-/// `Memory` comes where memory is wanting, or where a count would pass the greatest number that it can be.
+/// directories is that of the scene, and there are gates for 64 plug-ins and each node. Each worker calls
+/// `pace.before_draw` with its number before each draw. `Memory` comes where memory is wanting, or where a count would
+/// pass the greatest number that it can be.
 pub fn render_moment<R: Threads + Wait + Clock + Sync, E: Catalogue + Send + Sync + Drop, P: Pace>(
     rt: &R,
     alloc: Global,

@@ -23,7 +23,7 @@ use fx_scene::{Key, Scene};
 use std::alloc::Global;
 
 /// What all who render tiles of a scene share: the directory of tiles that were rendered, and that of whole images, of
-/// effects that render no parts of an image (OpenFX 1.4, kOfxImageEffectPropSupportsTiles); the gates of plug-ins and
+/// effects that support no tiles (OpenFX 1.4, kOfxImageEffectPropSupportsTiles); the gates of plug-ins and
 /// instances, and the grid of its tiles.
 #[derive(Drop)]
 pub struct Shared<E: Catalogue> {

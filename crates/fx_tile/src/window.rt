@@ -38,10 +38,11 @@ use std::sync::{Arc, Wait};
 /// project's extent and the part, which has the picture's depth and components; the regions are those of the scene at
 /// that frame, and it holds what the frame wants; the life is that of its graph, and the name of both directories is that
 /// of the scene; there are gates for 64 plug-ins and each node. The seat is one of both directories and of the gates, and
-/// has no flight and no gate, before and after. What is rendered of an effect that renders no parts of an image is its
-/// whole region of definition, and is kept among whole images (OpenFX 1.4, kOfxImageEffectPropSupportsTiles). `Memory` comes where memory is wanting: then the pixels of the tile may be
-/// anything, and each flight of the call was dropped. Where another renders what is needed it is waited for. A render
-/// holds the gate of its node, once what it reads is there, and releases it before it lands.
+/// has no flight and no gate, before and after. What is rendered of an effect that supports no tiles is its whole region
+/// of definition, and is kept among whole images (OpenFX 1.4, kOfxImageEffectPropSupportsTiles). `Memory` comes where
+/// memory is wanting: then the pixels of the tile may be anything, and each flight of the call was dropped. Where another
+/// renders what is needed it is waited for. A render holds the gate of its node, once what it reads is there, and
+/// releases it before it lands.
 pub fn window_tile<R: Wait + Clock, E: Catalogue + Drop>(
     rt: &R,
     alloc: Global,
