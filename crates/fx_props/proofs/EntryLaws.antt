@@ -1,17 +1,17 @@
 -- Entries that are put into sets.
-use Rattle.std.proofs.Common.{◌≡◌, ◌≢◌, ◌≤◌, ◌<◌, ℕ, zero, suc, ℤ, pos, neg_ℤ, ◌≤ℤ◌, FitsSigned, w64, rules, append_assoc, ◌+◌, Bool, true, false, not, ltb, ◌&&◌, ◌||◌, List, [], ◌∷◌, ◌++◌, map, take, length, get_or, All, AllPairs, Some, None, Result, Ok, Err, IfOk, refl, sym, ap, subst, ◌∙◌, arith}
+use Rattle.std.proofs.Common.{◌≡◌, ◌≢◌, ◌≤◌, ◌<◌, ℕ, zero, suc, ℤ, pos, neg_ℤ, ◌≤ℤ◌, FitsSigned, w64, rules, append_assoc, ◌+◌, Bool, true, false, not, ltb, ◌&&◌, ◌||◌, List, [], ◌∷◌, ◌++◌, map, take, length, get_or, All, AllPairs, Some, None, Result, Ok, Err, IfOk, OnErr, ⊎_elim, refl, sym, ap, subst, ◌∙◌, arith}
 use Rattle.std.specs.Borrow.{Bor}
 use Rattle.std.specs.FinMap.{from_entries}
 use Rattle.std.specs.List.{list_any}
 use Rattle.std.specs.Option.{option_map, option_and_then}
 use Rattle.std.specs.Str.{bytes_eq}
 use Rattle.std.proofs.lemmas.Int.{ints}
-use Rattle.std.proofs.lemmas.Bool.{cond-true, cond-false, false_from_ne_true, false≢true}
+use Rattle.std.proofs.lemmas.Bool.{cond-true, cond-false, false_from_ne_true, false≢true, cases_lt, cases_eq}
 use Rattle.std.proofs.lemmas.Bool.Decides.{nat_tests}
 use Rattle.std.proofs.Math.ListN.{get_or-append}
 use Rattle.std.proofs.Math.Seq.{get_or-append_seam}
 use Rattle.std.proofs.lemmas.List.{get_or_default, length-take, length-append, length-map, get_or-map, take_more, take_all, map_more, get_or-take, append_cancel_left}
-use Rattle.std.proofs.lemmas.List.Elements.{All-from_recursion, All-nil, All-cons, All-push, All-weaker, All-from_get_or}
+use Rattle.std.proofs.lemmas.List.Elements.{All-from_recursion, All-nil, All-cons, All-push, All-weaker, All-take, All-from_get_or}
 use Rattle.std.proofs.lemmas.List.Kept.{AllPairs-cons}
 use Rattle.std.proofs.lemmas.Slice.Eq.{bytes_eq-Decides}
 use Rattle.fx_base.specs.Bounds.{Bounds, none}
@@ -24,7 +24,7 @@ use Rattle.fx_props.specs.Value.{kind_of, same_kind}
 use Rattle.fx_props.specs.Property.{Property, property_made, with_values, placed, of_kind, takes_at}
 use Rattle.fx_props.specs.Set.{Set, property, property_of, values_of, made, AreApart, refusal, Puts}
 use Rattle.fx_props.specs.Entries.{Entry, IsEntry, NamesDiffer, def_of, blank, blank_entry, whole, range_values, region_entry, region_of, region_values, clip_entries, clip_entries_from, interest, texts_of}
-use Rattle.fx_props.specs.Entries.{IsBlank, AreBlank, AwaitEntries, HasValues, Wrote, IsModerate}
+use Rattle.fx_props.specs.Entries.{IsBlank, AreBlank, AwaitEntries, HasValues, Wrote, HasFront, WroteFronts, IsModerate}
 use Rattle.fx_props.proofs.SetLemmas.{Named, among, among_made, named_made, property_among}
 
 -- ---- a property of a kind
@@ -49,9 +49,6 @@ pub record Begun (name : List ℕ) (k : PropKind) (values : List PropValue) (old
   pub there : property new name ≡ Some (with_values (blank k) values)
   pub rest : (n : List ℕ) → n ≢ name → property new n ≡ property old n
 
-pub begun : (set : Set) (k : PropKind) (name : List ℕ) → IsBlank set k name → Begun name k [] set set
-begun set k name is = record { there = is; rest = λ n other. refl }
-
 takes_next : (k : PropKind) (values : List PropValue) (index : ℕ) → index ≡ length values → index < 4294967295 → takes_at (with_values (blank k) values) index ≡ true
 takes_next k values index is few = grind (arith, nat_tests)
 
@@ -70,10 +67,6 @@ begun_more name k values old mid new index v was is same puts =
       there = replaces.there ∙ ap (option_map (λ q. with_values q (placed values index v))) was.there ∙ ap (λ vs. Some (with_values (blank k) vs)) (placed_next values index v is);
       rest = λ n other. replaces.rest n other ∙ was.rest n other;
     }
-
--- the next value finds room
-pub has_room : (name : List ℕ) (k : PropKind) (values : List PropValue) (old mid : Set) (index : ℕ) (v : PropValue) → Begun name k values old mid → index ≡ length values → index < 4294967295 → kind_of v ≡ k → refusal mid name index v ≡ None
-has_room name k values old mid index v was = not_refused mid name k values index v was.there
 
 pub wrote_one : (e : Entry) (old new : Set) → Begun e.name e.kind e.values old new → Wrote (e ∷ []) old new
 wrote_one e old new done = record {
@@ -133,6 +126,63 @@ wrote_more entries i e old mid new apart inside is was now =
           now.rest n (All-cons (λ a. n ≢ a.name) e [] (last_of (λ a. n ≢ a.name) (take i entries) e others) (All-nil _))
           ∙ was.rest n (front_of (λ a. n ≢ a.name) (take i entries) e others);
     })
+
+-- ---- writing that stopped at want of memory
+
+pub fronts_one : (e : Entry) (i : ℕ) (old new : Set) → Begun e.name e.kind (take i e.values) old new → WroteFronts (e ∷ []) old new
+fronts_one e i old new done = record {
+  fronts = All-cons (HasFront new) e [] (record { count = i; there = done.there }) (All-nil _);
+  rest = λ n others. done.rest n (others 0 e (omega arith));
+}
+
+other_name : (entries : List Entry) (k i : ℕ) (d : Entry) → NamesDiffer entries → k < length entries → i < length entries → (k ≡ i → ⊥) → (get_or entries k d).name ≢ (get_or entries i d).name
+other_name entries k i d apart low inside other same =
+    ⊎_elim (λ below. apart k i d below inside same) (λ above. apart i k d (omega (arith, other)) low (sym same)) (cases_lt k i)
+
+has_whole : (set : Set) (e : Entry) → property set e.name ≡ Some (with_values (blank e.kind) e.values) → HasFront set e
+has_whole set e there = record { count = length e.values; there = rw (take_all (length e.values) e.values (omega arith)) there }
+
+-- the entries in front of a place are written, and those behind it are blank
+pub fronts_before : (entries : List Entry) (i : ℕ) (old new : Set) → NamesDiffer entries → AwaitEntries old entries → Wrote (take i entries) old new → WroteFronts entries old new
+fronts_before entries i old new apart await wrote = record {
+  fronts = λ k d low. ⊎_elim
+      (λ before. has_whole new (get_or entries k d)
+      (subst (λ a. property new a.name ≡ Some (with_values (blank a.kind) a.values)) (get_or-take i entries k d before) (wrote.there k d (rw length-take (omega arith)))))
+      (λ behind. record {
+        count = 0;
+        there = wrote.rest (get_or entries k d).name
+            (All-from_get_or (λ a. (get_or entries k d).name ≢ a.name) (take i entries) d
+            (λ j lt. let low_j : j < i = omega (arith, simp length-take at lt) in
+            rw (get_or-take i entries j d low_j) (other_name entries k j d apart low (omega arith) (λ same. absurd (omega arith)))))
+            ∙ await k d low;
+      })
+      (cases_lt k i);
+  rest = λ n others. wrote.rest n (All-take (λ a. n ≢ a.name) i entries others);
+}
+
+-- nothing is written
+pub fronts_none : (entries : List Entry) (set : Set) → NamesDiffer entries → AwaitEntries set entries → WroteFronts entries set set
+fronts_none entries set apart await = fronts_before entries 0 set set apart await (wrote_none set)
+
+-- those in front of a place are written, and a front of the one at it
+pub fronts_at : (entries : List Entry) (i : ℕ) (e : Entry) (old mid new : Set) → NamesDiffer entries → AwaitEntries old entries → i < length entries → e ≡ get_or entries i e → Wrote (take i entries) old mid → WroteFronts (e ∷ []) mid new → WroteFronts entries old new
+fronts_at entries i e old mid new apart await inside is wrote now =
+    let was = fronts_before entries i old mid apart await wrote in
+    let here : (d : Entry) → e ≡ get_or entries i d = λ d. is ∙ get_or_default entries i e d inside in
+    record {
+      fronts = λ k d low. ⊎_elim
+          (λ same. subst (HasFront new) (here d ∙ ap (λ j. get_or entries j d) (sym same)) (now.fronts 0 e (omega arith)))
+          (λ other. record {
+            count = (was.fronts k d low).count;
+            there = now.rest (get_or entries k d).name
+                (All-cons (λ a. (get_or entries k d).name ≢ a.name) e [] (subst (λ a. (get_or entries k d).name ≢ a.name) (sym (here d)) (other_name entries k i d apart low inside other)) (All-nil _))
+                ∙ (was.fronts k d low).there;
+          })
+          (cases_eq k i);
+      rest = λ n others.
+          now.rest n (All-cons (λ a. n ≢ a.name) e [] (subst (λ a. n ≢ a.name) (sym is) (others i e inside)) (All-nil _))
+          ∙ was.rest n others;
+    }
 
 -- ---- a set of entries
 
@@ -342,6 +392,10 @@ entry_is e kd name named values given is n v = is ∙ ap (λ m. record { name = 
 pub if_ok : {A E : Type 0} (r : Result A E) (P Q : A → Type 0) → ((a : A) → P a → Q a) → IfOk r P → IfOk r Q
 if_ok (Ok a) P Q h p = h a p
 if_ok (Err e) P Q h p = tt
+
+pub on_err : {A E P : Type 0} (r : Result A E) → P → OnErr r P
+on_err (Ok a) p = tt
+on_err (Err e) p = p
 
 pub four_of : (kd : PropKind) (a b c d : PropValue) → kind_of a ≡ kd → kind_of b ≡ kd → kind_of c ≡ kd → kind_of d ≡ kd → All (λ v. kind_of v ≡ kd) (a ∷ b ∷ c ∷ d ∷ [])
 four_of kd a b c d pa pb pc pd = All-from_recursion (λ v. kind_of v ≡ kd) (a ∷ b ∷ c ∷ d ∷ []) (pa, (pb, (pc, (pd, tt))))

@@ -1,5 +1,5 @@
 -- Properties with their values, as they come into a set and stand in it (OpenFX 1.4, "Image Effect Actions").
-use Rattle.std.specs.Prelude.{◌≡◌, ◌≢◌, ◌≤◌, ℕ, suc, ℤ, pos, ◌*ℤ◌, Bool, List, [], ◌∷◌, ◌++◌, map, length, slice_index_or, All, AllPairs, Some, if◌then◌else◌}
+use Rattle.std.specs.Prelude.{◌≡◌, ◌≢◌, ◌≤◌, ℕ, suc, ℤ, pos, ◌*ℤ◌, Bool, List, [], ◌∷◌, ◌++◌, map, take, length, slice_index_or, All, AllPairs, Some, if◌then◌else◌}
 use Rattle.std.specs.Borrow.{Bor}
 use Rattle.fx_base.specs.Bounds.{Bounds, IsRect, none}
 use Rattle.fx_base.specs.Rect.{IsStep}
@@ -131,6 +131,16 @@ HasValues set e = values_of set e.kind e.name ≡ Some e.values
 -- the blank properties of these names were given these values, and the rest of the set stays
 pub record Wrote (entries : List Entry) (old new : Set) : Type 0 where
   pub there : All (λ e. property new e.name ≡ Some (with_values (blank e.kind) e.values)) entries
+  pub rest : (n : List ℕ) → All (λ e. n ≢ e.name) entries → property new n ≡ property old n
+
+-- the property of the entry's name was given a front of its values: the first few, or none, or all
+pub record HasFront (set : Set) (e : Entry) : Type 0 where
+  pub count : ℕ
+  pub there : property set e.name ≡ Some (with_values (blank e.kind) (take count e.values))
+
+-- the blank properties of these names were given fronts of these values, and the rest of the set stays
+pub record WroteFronts (entries : List Entry) (old new : Set) : Type 0 where
+  pub fronts : All (HasFront new) entries
   pub rest : (n : List ℕ) → All (λ e. n ≢ e.name) entries → property new n ≡ property old n
 
 -- the set has a region of this name

@@ -1,11 +1,11 @@
 //! Values that are given to blank properties of a set (OpenFX 1.4, "Image Effect Actions").
-ghost use Rattle.std.specs.Prelude.{◌≡◌, ◌≢◌, ◌++◌, [], ◌∷◌, All, AllPairs, IfOk, OnOk, None, length};
+ghost use Rattle.std.specs.Prelude.{◌≡◌, ◌≢◌, ◌++◌, [], ◌∷◌, All, AllPairs, IfOk, OnOk, OnErr, None, length};
 ghost use Rattle.fx_base.specs.Rect.{IsUpTo};
 ghost use Rattle.fx_props.specs.declared.value.PropKind.TheVariants as kind;
 ghost use Rattle.fx_props.specs.Property.{IsAnswer};
 ghost use Rattle.fx_props.specs.Set.{refusal, Puts};
 ghost use Rattle.fx_props.specs.Value.{kind_of};
-ghost use Rattle.fx_props.specs.Entries.{IsBlank, AreBlank, AwaitEntries, Wrote, NamesDiffer, IsModerate, AreModerate};
+ghost use Rattle.fx_props.specs.Entries.{IsBlank, AreBlank, AwaitEntries, Wrote, WroteFronts, NamesDiffer, IsModerate, AreModerate};
 ghost use Rattle.fx_props.specs.Entries.{whole, range_values, texts_of, spans_of, region_of, region_entry, interest, frame_ranges};
 
 use crate::entry::composed;
@@ -14,12 +14,13 @@ use crate::{PropEntry, PropFault, PropKind, PropSet, PropValue};
 use fx_base::{Fix, Memory, Rect};
 use std::alloc::Global;
 
-/// Gives the blank properties of a set the values of these entries. At want of memory they hold
-/// anything.
+/// Gives the blank properties of a set the values of these entries. At want of memory each of them
+/// holds a front of its values.
 pub fn write_entries(alloc: Global, set: &mut PropSet, entries: &[PropEntry]) -> Result<(), Memory>
     requires names { NamesDiffer entries.now }
     requires blank { AwaitEntries set.old entries.now }
-    ensures { OnOk result (Wrote entries.now set.old set.new) }
+    ensures written { OnOk result (Wrote entries.now set.old set.new) }
+    ensures left { OnErr result (WroteFronts entries.now set.old set.new) }
 {
     for entry in entries {
         write_entry(alloc, set, entry)?;
@@ -30,7 +31,8 @@ pub fn write_entries(alloc: Global, set: &mut PropSet, entries: &[PropEntry]) ->
 // Gives a blank property its values.
 fn write_entry(alloc: Global, set: &mut PropSet, entry: &PropEntry) -> Result<(), Memory>
     requires { IsBlank set.old entry.now.kind entry.now.name }
-    ensures { OnOk result (Wrote (entry.now ∷ []) set.old set.new) }
+    ensures written { OnOk result (Wrote (entry.now ∷ []) set.old set.new) }
+    ensures left { OnErr result (WroteFronts (entry.now ∷ []) set.old set.new) }
 {
     let name = entry.name.text();
     let mut index = 0;
@@ -50,7 +52,8 @@ fn append(
     value: &PropValue,
 ) -> Result<(), Memory>
     requires { refusal set.old name.now index value.now ≡ None }
-    ensures { OnOk result (Puts set.old set.new name.now index value.now) }
+    ensures ok { OnOk result (Puts set.old set.new name.now index value.now) }
+    ensures err { OnErr result (set.new ≡ set.old) }
 {
     match put(alloc, set, name, index, value) {
         Ok(()) => Ok(()),
@@ -69,6 +72,7 @@ fn put(
 ) -> Result<(), PropFault>
     ensures answer { IsAnswer (refusal set.old name.now index value.now) result }
     ensures ok { OnOk result (Puts set.old set.new name.now index value.now) }
+    ensures err { OnErr result (set.new ≡ set.old) }
 {
     match value {
         PropValue::Int(n) => set.set_int(alloc, name, index, *n),
@@ -78,7 +82,7 @@ fn put(
 }
 
 /// Writes a region: x1, y1, x2 and y2 as fixed-point numbers, which are four zeros where it is empty.
-/// At want of memory the property holds anything.
+/// At want of memory the property holds a front of them.
 pub fn write_region(
     alloc: Global,
     out_args: &mut PropSet,
@@ -87,12 +91,15 @@ pub fn write_region(
 ) -> Result<(), Memory>
     requires blank { IsBlank out_args.old kind.Fix name.now }
     requires near { IsUpTo 2147483648 region }
-    ensures { OnOk result (Wrote (region_entry name.now region ∷ []) out_args.old out_args.new) }
+    ensures written { OnOk result (Wrote (region_entry name.now region ∷ []) out_args.old out_args.new) }
+    ensures left { OnErr result (WroteFronts (region_entry name.now region ∷ []) out_args.old out_args.new) }
 {
-    put_whole(alloc, out_args, name, 0, region.x1)?;
-    put_whole(alloc, out_args, name, 1, region.y1)?;
-    put_whole(alloc, out_args, name, 2, region.x2)?;
-    put_whole(alloc, out_args, name, 3, region.y2)?;
+    let bounds = [region.x1, region.y1, region.x2, region.y2];
+    let mut index = 0;
+    for bound in &bounds {
+        put_whole(alloc, out_args, name, index, *bound)?;
+        index += 1;
+    }
     Ok(())
 }
 
@@ -100,13 +107,15 @@ pub fn write_region(
 fn put_whole(alloc: Global, set: &mut PropSet, name: &str, index: u32, n: i64) -> Result<(), Memory>
     requires moderate { IsModerate n }
     requires room { refusal set.old name.now index (whole n) ≡ None }
-    ensures { OnOk result (Puts set.old set.new name.now index (whole n)) }
+    ensures ok { OnOk result (Puts set.old set.new name.now index (whole n)) }
+    ensures err { OnErr result (set.new ≡ set.old) }
 {
     let value = whole(n);
     append(alloc, set, name, index, &value)
 }
 
-/// Writes each clip's region of interest under its composed name.
+/// Writes each clip's region of interest under its composed name. At want of memory each property
+/// holds a front of its values.
 pub fn write_interest(
     alloc: Global,
     out_args: &mut PropSet,
@@ -117,7 +126,10 @@ pub fn write_interest(
     requires names { AllPairs (λ a b. a ≢ b) (texts_of clips.now) }
     requires blank { AreBlank out_args.old CLIP_REGION.now kind.Fix (texts_of clips.now) }
     requires near { All (IsUpTo 2147483648) regions.now }
-    ensures { OnOk result (Wrote (interest (texts_of clips.now) (region_of regions.now)) out_args.old out_args.new) }
+    ensures written { let entries = interest (texts_of clips.now) (region_of regions.now) in
+        OnOk result (Wrote entries out_args.old out_args.new) }
+    ensures left { let entries = interest (texts_of clips.now) (region_of regions.now) in
+        OnErr result (WroteFronts entries out_args.old out_args.new) }
 {
     for (k, clip) in clips.iter().enumerate() {
         let name = composed(alloc, CLIP_REGION, clip)?;
@@ -126,7 +138,8 @@ pub fn write_interest(
     Ok(())
 }
 
-/// Writes each clip's frames under its composed name: pairs of a first and a last frame.
+/// Writes each clip's frames under its composed name: pairs of a first and a last frame. At want of
+/// memory each property holds a front of its values.
 pub fn write_frames(
     alloc: Global,
     out_args: &mut PropSet,
@@ -137,7 +150,10 @@ pub fn write_frames(
     requires names { AllPairs (λ a b. a ≢ b) (texts_of clips.now) }
     requires blank { AreBlank out_args.old CLIP_FRAMES.now kind.Fix (texts_of clips.now) }
     requires near { All (λ s. All AreModerate s.now) spans.now }
-    ensures { OnOk result (Wrote (frame_ranges (texts_of clips.now) (spans_of spans.now)) out_args.old out_args.new) }
+    ensures written { let entries = frame_ranges (texts_of clips.now) (spans_of spans.now) in
+        OnOk result (Wrote entries out_args.old out_args.new) }
+    ensures left { let entries = frame_ranges (texts_of clips.now) (spans_of spans.now) in
+        OnErr result (WroteFronts entries out_args.old out_args.new) }
 {
     write_entries(alloc, out_args, &frame_entries(alloc, clips, spans)?)
 }

@@ -3,5 +3,5 @@ use Rattle.std.proofs.lemmas.Int.{to_z-of_z}
 use Rattle.fx_props.specs.Entries.{whole}
 use Rattle.fx_props.proofs.write.put_whole.Goals as goal
 
-pub returns : goal.returns
-returns c = rw (c.whole-value.ensures.value ∙ ap whole (to_z-of_z w64 c.args.n c.ranges.n)) at c.append.ensures
+pub returns-clause-ok : goal.returns-clause-ok
+returns-clause-ok c = rw (c.whole-value.ensures.value ∙ ap whole (to_z-of_z w64 c.args.n c.ranges.n)) at c.append.ensures.ok

@@ -21,4 +21,4 @@ returns c = λ context lawful.
     let v = c.args.values.now in
     let regions = c.args.regions.now in
     let is = grown_by c.grow-region.result c.region_of.result (region_of regions 0) c.rx.result c.ry.result (rx v) (ry v) c.grow-region.ensures.bounds c.region_of.ensures c.rx.ensures.value c.ry.ensures.value c.rx.ensures.few c.ry.ensures.few in
-    wrote_region c.grow-region.result _ c.args.out_args.now c.write_region.new.out_args is c.in_ok-write_region.ensures
+    wrote_region c.grow-region.result _ c.args.out_args.now c.write_region.new.out_args is c.in_ok-write_region.ensures.written

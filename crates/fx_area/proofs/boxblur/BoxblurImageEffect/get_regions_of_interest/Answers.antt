@@ -16,4 +16,4 @@ pub returns : goal.returns
 returns c = λ context region lawful window there.
     let v = c.args.values.now in
     let is = grown_by c.grow-region.result c.asked_region.result region c.rx.result c.ry.result (rx v) (ry v) c.grow-region.ensures.bounds (c.asked_region.ensures.value region window.bounds there) c.rx.ensures.value c.ry.ensures.value c.rx.ensures.few c.ry.ensures.few in
-    wrote_interest c.grow-region.result _ c.args.out_args.now c.write_interest.new.out_args is c.in_ok-write_interest.ensures
+    wrote_interest c.grow-region.result _ c.args.out_args.now c.write_interest.new.out_args is c.in_ok-write_interest.ensures.written

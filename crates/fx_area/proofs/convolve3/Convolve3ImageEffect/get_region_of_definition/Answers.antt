@@ -28,4 +28,4 @@ returns c = λ context lawful.
     grown_by c.grow-region.result c.region_of.result (region_of regions 0) 1 1 1 1 c.grow-region.ensures.bounds
     c.region_of.ensures refl refl few few in
     wrote_region c.grow-region.result _ c.args.out_args.now c.write_region.new.out_args is
-    c.in_ok-write_region.ensures
+    c.in_ok-write_region.ensures.written

@@ -20,4 +20,4 @@ returns c = λ context region lawful window there.
     grown_by c.grow-region.result c.asked_region.result region 1 1 1 1 c.grow-region.ensures.bounds
     (c.asked_region.ensures.value region window.bounds there) refl refl few few in
     wrote_interest c.grow-region.result _ c.args.out_args.now c.write_interest.new.out_args is
-    c.in_ok-write_interest.ensures
+    c.in_ok-write_interest.ensures.written

@@ -36,4 +36,4 @@ returns c = λ context lawful.
     grown_by c.grow-region.result c.region_of.result (region_of regions 0) n n (radius v) (radius v)
     c.grow-region.ensures.bounds c.region_of.ensures c.radius-radius.ensures.value c.radius-radius.ensures.value few few in
     wrote_region c.grow-region.result _ c.args.out_args.now c.write_region.new.out_args is
-    c.in_ok-write_region.ensures
+    c.in_ok-write_region.ensures.written

@@ -16,4 +16,4 @@ write_interest-requires-clause-near c =
 pub returns : goal.returns
 returns c = λ context region lawful window there.
     let is = c.meet-region.ensures.bounds ∙ ap (λ r. meet r c.crop_rect.result) (c.asked_region.ensures.value region window.bounds there) ∙ ap (meet region) c.crop_rect.ensures in
-    subst (λ (r : Bounds). Wrote (interest (codes "Source" ∷ []) (region_of (r ∷ []))) c.args.out_args.now c.write_interest.new.out_args) is c.in_ok-write_interest.ensures
+    subst (λ (r : Bounds). Wrote (interest (codes "Source" ∷ []) (region_of (r ∷ []))) c.args.out_args.now c.write_interest.new.out_args) is c.in_ok-write_interest.ensures.written

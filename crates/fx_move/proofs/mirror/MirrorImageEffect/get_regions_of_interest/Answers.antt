@@ -16,4 +16,4 @@ pub returns : goal.returns
 returns c = λ context region lawful window there.
     let v = c.args.values.now in
     let is = c.mirrored-region.ensures ∙ ap (mirrored v) (c.asked_region.ensures.value region window.bounds there) in
-    subst (λ (r : Bounds). Wrote (interest (codes "Source" ∷ []) (region_of (r ∷ []))) c.args.out_args.now c.write_interest.new.out_args) is c.in_ok-write_interest.ensures
+    subst (λ (r : Bounds). Wrote (interest (codes "Source" ∷ []) (region_of (r ∷ []))) c.args.out_args.now c.write_interest.new.out_args) is c.in_ok-write_interest.ensures.written

@@ -18,4 +18,4 @@ returns c = λ context region lawful window there.
     let v = c.args.values.now in
     let r = c.asked_region.result in
     let is = c.moved_from-region.ensures ∙ ap (λ a. moved_from a c.upward.result r) c.across.ensures.value ∙ ap (λ b. moved_from (across v) b r) c.upward.ensures.value ∙ ap (moved_from (across v) (upward v)) (c.asked_region.ensures.value region window.bounds there) in
-    subst (λ (r : Bounds). Wrote (interest (codes "Source" ∷ []) (region_of (r ∷ []))) c.args.out_args.now c.write_interest.new.out_args) is c.in_ok-write_interest.ensures
+    subst (λ (r : Bounds). Wrote (interest (codes "Source" ∷ []) (region_of (r ∷ []))) c.args.out_args.now c.write_interest.new.out_args) is c.in_ok-write_interest.ensures.written

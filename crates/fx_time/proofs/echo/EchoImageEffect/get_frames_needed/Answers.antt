@@ -28,4 +28,4 @@ returns c context lawful =
     let at : to_z w64 (of_z w64 v.frame) ≡ v.frame = to_z-of_z w64 v.frame frame in
     let items = spans_are c.as_slice.result.now (to_z w64 (of_z w64 v.frame)) v.frame c.gap.result (gap v) c.count.result (count v)
     (c.as_slice.ensures.value ∙ c.in_ok-spans.ensures) at c.gap.ensures.value c.count.ensures.value in
-    subst (λ (spans : List (ℤ × ℤ)). Wrote (frame_ranges (codes "Source" ∷ []) (λ clip. spans)) c.args.out_args.now c.write_frames.new.out_args) items c.in_ok-write_frames.ensures
+    subst (λ (spans : List (ℤ × ℤ)). Wrote (frame_ranges (codes "Source" ∷ []) (λ clip. spans)) c.args.out_args.now c.write_frames.new.out_args) items c.in_ok-write_frames.ensures.written

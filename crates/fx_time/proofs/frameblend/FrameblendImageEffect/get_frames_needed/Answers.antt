@@ -33,4 +33,4 @@ returns c = λ context lawful.
     let old = c.args.out_args.now in
     let new = c.write_frames.new.out_args in
     subst (λ (first : ℤ). Wrote (frame_ranges (codes "Source" ∷ []) (λ clip. (first, t +ℤ pos (radius v)) ∷ [])) old new) before
-    (subst (λ (last : ℤ). Wrote (frame_ranges (codes "Source" ∷ []) (λ clip. (to_z w64 (of_z w64 (to_z w64 (of_z w64 t) -ℤ to_z w64 r)), last) ∷ [])) old new) behind c.in_ok-write_frames.ensures)
+    (subst (λ (last : ℤ). Wrote (frame_ranges (codes "Source" ∷ []) (λ clip. (to_z w64 (of_z w64 (to_z w64 (of_z w64 t) -ℤ to_z w64 r)), last) ∷ [])) old new) behind c.in_ok-write_frames.ensures.written)

@@ -8,5 +8,5 @@ pub returns : goal.returns
 returns c context lawful =
     let then : FitsSigned w64 c.earlier-then.result = search rules in
     let now : FitsSigned w64 c.args.values.now.frame = search rules in
-    let wrote = simp to_z-of_z at c.in_ok-write_frames.ensures in
+    let wrote = simp to_z-of_z at c.in_ok-write_frames.ensures.written in
     subst (λ (t : ℤ). Wrote (frame_ranges (codes "Source" ∷ []) (λ clip. alone t ∷ alone c.args.values.now.frame ∷ [])) c.args.out_args.now c.write_frames.new.out_args) c.earlier-then.ensures wrote

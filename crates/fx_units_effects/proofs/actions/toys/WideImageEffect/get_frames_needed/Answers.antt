@@ -13,4 +13,4 @@ returns c = λ context lawful.
     let old = c.args.out_args.now in
     let new = c.write_frames.new.out_args in
     subst (λ (first : ℤ). Wrote (frame_ranges (codes "A" ∷ codes "B" ∷ []) (λ clip. (first, t +ℤ pos 1) ∷ [])) old new) before
-    (subst (λ (last : ℤ). Wrote (frame_ranges (codes "A" ∷ codes "B" ∷ []) (λ clip. (to_z w64 (of_z w64 (to_z w64 (of_z w64 t) -ℤ pos 1)), last) ∷ [])) old new) behind c.in_ok-write_frames.ensures)
+    (subst (λ (last : ℤ). Wrote (frame_ranges (codes "A" ∷ codes "B" ∷ []) (λ clip. (to_z w64 (of_z w64 (to_z w64 (of_z w64 t) -ℤ pos 1)), last) ∷ [])) old new) behind c.in_ok-write_frames.ensures.written)

@@ -25,4 +25,4 @@ pub returns : goal.returns
 returns c = λ context lawful.
     let regions = c.args.regions.now in
     let is : c.hull-hull.result ≡ hull (region_of regions 0) (region_of regions 1) = c.hull-hull.ensures.bounds ∙ ap (λ r. hull r c.region_of-2.result) c.region_of.ensures ∙ ap (hull (region_of regions 0)) c.region_of-2.ensures in
-    subst (λ (r : Bounds). Wrote (region_entry REGION.now r ∷ []) c.args.out_args.now c.write_region.new.out_args) (c.grow.ensures.bounds ∙ ap (λ r. grown r (pos 1) (pos 1)) is) c.in_ok-write_region.ensures
+    subst (λ (r : Bounds). Wrote (region_entry REGION.now r ∷ []) c.args.out_args.now c.write_region.new.out_args) (c.grow.ensures.bounds ∙ ap (λ r. grown r (pos 1) (pos 1)) is) c.in_ok-write_region.ensures.written

@@ -19,4 +19,4 @@ write_interest-requires-clause-near c =
 pub returns : goal.returns
 returns c = λ context region lawful window there.
     let is = c.grow-needed.ensures.bounds ∙ ap (λ r. grown r (pos 2) (pos 2)) (c.asked_region.ensures.value region window.bounds there) in
-    subst (λ (r : Bounds). Wrote (interest (codes "A" ∷ codes "B" ∷ []) (region_of (r ∷ r ∷ []))) c.args.out_args.now c.write_interest.new.out_args) is c.in_ok-write_interest.ensures
+    subst (λ (r : Bounds). Wrote (interest (codes "A" ∷ codes "B" ∷ []) (region_of (r ∷ r ∷ []))) c.args.out_args.now c.write_interest.new.out_args) is c.in_ok-write_interest.ensures.written
