@@ -45,7 +45,7 @@ loop-raw-preserved g c =
     let more = rest_is (nodes_of find meaning project nodes) raws i raw within c.raw-item.is in
     let here = step_ok find meaning project nodes raw (drop (i + 1) raws) node made in
     let place_is : c.len.result ≡ length (names_of nodes) = let long : length (names_of nodes) ≡ length c.loop-raw.nodes.items = length-map nodes (λ n. n.name) ∙ length-map c.loop-raw.nodes.items shown in omega (arith, long) in
-    let added : (n : List ℕ) → get_by_text c.add.new.places n ≡ cond (bytes_eq node.name n) (Some (length (names_of nodes))) (get_by_text c.loop-raw.places n) = λ n. rw (c.text.ensures, place_is) at c.in_ok-add.ensures n in
+    let added : (n : List ℕ) → get_by_text c.add.new.places n ≡ cond (bytes_eq node.name n) (Some (length (names_of nodes))) (get_by_text c.loop-raw.places n) = λ n. rw (c.text.ensures, place_is) at c.in_ok-add.ensures.added n in
     let pushed : map shown c.push.new.self.items ≡ nodes ++ node ∷ [] = ap (map shown) c.in_ok-push.ensures.items ∙ map-append shown c.loop-raw.nodes.items (c.in_ok-node.node ∷ []) in
     record {
       whole = c.loop-raw.invariant.whole ∙ more ∙ here ∙ ap (λ ns. nodes_of find meaning project ns (drop (i + 1) raws)) (sym pushed);

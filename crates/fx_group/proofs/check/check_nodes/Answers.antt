@@ -33,5 +33,5 @@ loop-node-preserved c =
     let name = c.text.ensures ∙ ap (λ n. n.name) c.node.view_is in
     record {
       whole = c.loop-node.invariant.whole ∙ more ∙ past ∙ ap (λ ns. nodes_fault groups ns (drop (i + 1) nodes)) next;
-      index = subst (IsKnown c.add.new.places) next (known_more c.loop-node.known c.add.new.places names node.name c.loop-node.invariant.index (rw name at c.in_ok-add.ensures));
+      index = subst (IsKnown c.add.new.places) next (known_more c.loop-node.known c.add.new.places names node.name c.loop-node.invariant.index (rw name at c.in_ok-add.ensures.added));
     }
