@@ -1,7 +1,7 @@
 //! What an effect writes of itself (OpenFX 1.4, "kOfxActionDescribe",
 //! "kOfxImageEffectActionDescribeInContext").
-ghost use Rattle.std.specs.Prelude.{◌≡◌, ℕ, List, All, IfOk, OnOk, map};
-ghost use Rattle.fx_props.specs.Entries.{AwaitEntries, HasValues, Wrote, texts_entry};
+ghost use Rattle.std.specs.Prelude.{◌≡◌, ℕ, List, All, IfOk, OnErr, OnOk, map};
+ghost use Rattle.fx_props.specs.Entries.{AwaitEntries, HasValues, Wrote, WroteFronts, texts_entry};
 ghost use Rattle.fx_effect.specs.Shape.{Shape};
 ghost use Rattle.fx_effect.specs.Described.{context_text, depth_text, components_text, safety_text};
 ghost use Rattle.fx_effect.specs.Described.{description, description_entries, clip_description};
@@ -28,10 +28,12 @@ pub struct Description<'a> {
 }
 
 impl Description<'_> {
-    /// Writes it into the set that `describe` was handed. At want of memory the set holds anything.
+    /// Writes it into the set that `describe` was handed. At want of memory each property holds the first few of its
+    /// values, or none.
     pub fn write(&self, alloc: Global, descriptor: &mut PropSet) -> Result<(), Memory>
         requires { AwaitEntries descriptor.old (description_entries self.now) }
-        ensures { OnOk result (Wrote (description_entries self.now) descriptor.old descriptor.new) }
+        ensures written { OnOk result (Wrote (description_entries self.now) descriptor.old descriptor.new) }
+        ensures left { OnErr result (WroteFronts (description_entries self.now) descriptor.old descriptor.new) }
     {
         write_entries(alloc, descriptor, &self.entries(alloc)?)
     }
