@@ -2,6 +2,7 @@
 ghost use Rattle.std.specs.Prelude.{◌≡◌, ◌≢◌, ◌<◌, ◌+◌, ◌^◌, None, true, OnOk, OnErr};
 ghost use Rattle.fx_base.specs.Bounds.{none};
 ghost use Rattle.fx_base.specs.Rect.{IsFrame};
+ghost use Rattle.fx_image.specs.Stored.{SameFrame};
 ghost use Rattle.fx_effect.specs.Meaning.{rendered};
 ghost use Rattle.fx_life.specs.Posts.{IsGateOf, MayPlay, Plays};
 ghost use Rattle.fx_life.specs.Filled.{IsFilled};
@@ -19,7 +20,7 @@ use std::sync::Wait;
 impl<E: Catalogue + Drop> Life<E> {
     /// Renders the whole of an image by the instance of a node that uses an effect. The gate that `gate_of` tells is
     /// waited for, held meanwhile and released then, at `Memory` too. The seat holds no gate before and after, and
-    /// there are gates for all plug-ins and for the node.
+    /// there are gates for all plug-ins and for the node. Where memory is wanting the pixels of the image are any.
     pub fn render_image<R: Wait + Clock>(
         &self,
         rt: &R,
@@ -43,6 +44,7 @@ impl<E: Catalogue + Drop> Life<E> {
         ensures filled { (effect : E) → Plays E.number_of self.now node effect →
             let pixels = rendered (E.meaning effect) values.now inputs.now image.old.depth image.old.components in
             OnOk result (IsFilled image.old image.new pixels) }
+        ensures same_frame { SameFrame image.old image.new }
         ensures stamped { OnOk result (ticket.new ≡ record ticket.old { stamped = true }) }
         ensures unstamped { OnErr result (ticket.new ≡ ticket.old) }
         ensures seat { seat.new ≡ seat.old }
@@ -76,6 +78,7 @@ impl<E: Catalogue + Drop> Life<E> {
         ensures filled { (effect : E) → Plays E.number_of self.now node effect →
             let pixels = rendered (E.meaning effect) values.now inputs.now image.old.depth image.old.components in
             OnOk result (IsFilled image.old image.new pixels) }
+        ensures same_frame { SameFrame image.old image.new }
         ensures stamped { OnOk result (ticket.new ≡ record ticket.old { stamped = true }) }
         ensures unstamped { OnErr result (ticket.new ≡ ticket.old) }
         ensures same_hold { hold.new.gate ≡ hold.old.gate }

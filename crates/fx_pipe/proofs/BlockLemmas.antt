@@ -1,15 +1,16 @@
 -- What the parts of a round leave.
-use Rattle.std.proofs.Common.{◌≡◌, ◌⊎◌, inl, inr, ℕ, ◌+◌, Bool, true, false, List, [], ◌∷◌, ◌++◌, Some, length, if◌then◌else◌, refl, sym, ap, ◌∙◌, subst, arith, append_assoc, append-nil}
+use Rattle.std.proofs.Common.{◌≡◌, ◌⊎◌, inl, inr, ℕ, ◌+◌, Bool, true, false, List, [], ◌∷◌, ◌++◌, Some, Vec, length, if◌then◌else◌, refl, sym, ap, ◌∙◌, subst, arith, append_assoc, append-nil}
 use Rattle.std.proofs.lemmas.List.{length-append}
 use Rattle.std.specs.Str.{bytes_eq}
 use Rattle.std.proofs.lemmas.Bool.{false≢true}
 use Rattle.std.proofs.lemmas.Slice.Eq.{bytes_eq-Decides}
+use Rattle.std.specs.declared.alloc.Global.{Global}
 use Rattle.fx_outside.specs.Outside.{Files, HasRisen, SameFiles, SameBut, Sets}
 use Rattle.fx_seq.specs.Filling.{IsQuiet}
 use Rattle.fx_seq.specs.declared.source.SourceFrame.{SourceFrame}
 use Rattle.fx_pipe.specs.declared.made.Made.{Made}
 use Rattle.fx_pipe.specs.Moments.{AreMade, all_of, with_all, with_file}
-use Rattle.fx_pipe.specs.Blocks.{Makes, SeesSome, PutBut, PutSome}
+use Rattle.fx_pipe.specs.Blocks.{Makes, SeesSome, PutBut, PutSome, Spares}
 use Rattle.fx_pipe.proofs.MomentLemmas.{all-one, made_more, put_more}
 
 -- ---- making
@@ -115,6 +116,12 @@ module _ (tells : Type 0) (block : List Made) (old : Files) where
         files = λ told other apart. but told other apart ∙ h.files told other;
       }
 
+  -- the files behind it are left
+  pub left_stops : (d : Made) (left : List Made) (now new : Files) → HasPut tells block (d ∷ left) old now → (tells → SameBut d.name now new)
+      → (put : PutBut tells block old new d.name) × (put.rest ≡ left)
+  unfolding put_stops
+  left_stops d left now new h but = (put_stops d left now new h but, refl)
+
   pub put_ends : (left : List Made) (now new : Files) → HasPut tells block left old now → (tells → SameFiles now new) → PutSome tells block old new
   put_ends left now new h same =
       record {
@@ -122,6 +129,33 @@ module _ (tells : Type 0) (block : List Made) (old : Files) where
         rest = left;
         split = h.split;
         files = λ told name. same told name ∙ h.files told name;
+      }
+
+  pub left_ends : (d : Made) (left : List Made) (now new : Files) → HasPut tells block (d ∷ left) old now → (tells → SameFiles now new)
+      → (put : PutSome tells block old new) × (one : Made) × (put.rest ≡ one ∷ left)
+  unfolding put_ends
+  left_ends d left now new h same = (put_ends (d ∷ left) now new h same, d, refl)
+
+-- ---- what is spare
+
+module _ (block : List Made) (old : List (Vec ℕ Global)) where
+  pub spares_none : Spares block block old old
+  spares_none = record { more = []; behind = sym (append-nil old); few = omega arith }
+
+  -- a file is taken, and its bytes are not kept
+  pub spares_same : (d : Made) (left : List Made) (now : List (Vec ℕ Global)) → Spares block (d ∷ left) old now → Spares block left old now
+  spares_same d left now h = record { more = h.more; behind = h.behind; few = omega (arith, h.few) }
+
+  -- or they are
+  pub spares_either : (d : Made) (left : List Made) (now new : List (Vec ℕ Global)) (bytes : Vec ℕ Global) → Spares block (d ∷ left) old now
+      → (new ≡ now) ⊎ (new ≡ now ++ bytes ∷ []) → Spares block left old new
+  spares_either d left now new bytes h (inl e) = subst (λ (bs : List (Vec ℕ Global)). Spares block left old bs) (sym e) (spares_same d left now h)
+  spares_either d left now new bytes h (inr e) =
+      let count : length (h.more ++ bytes ∷ []) ≡ length h.more + 1 = length-append h.more (bytes ∷ []) in
+      record {
+        more = h.more ++ bytes ∷ [];
+        behind = e ∙ ap (λ bs. bs ++ bytes ∷ []) h.behind ∙ append_assoc old h.more (bytes ∷ []);
+        few = omega (arith, count, h.few);
       }
 
 pub rose_more : (a b c : ℕ) (x y : List ℕ) → IsQuiet a b x y → HasRisen b c → HasRisen a c

@@ -1,5 +1,5 @@
 -- What the parts of a round leave.
-use Rattle.std.specs.Prelude.{◌≡◌, ℕ, ◌+◌, Bool, true, List, ◌∷◌, ◌++◌, length, map, Vec, Result, OnOk, IfErr}
+use Rattle.std.specs.Prelude.{◌≡◌, ℕ, ◌+◌, ◌≤◌, Bool, true, List, [], ◌∷◌, ◌++◌, length, map, Vec, Result, Ok, Err, OnOk, IfErr}
 use Rattle.std.specs.declared.alloc.Global.{Global}
 use Rattle.fx_outside.specs.Outside.{Files, HasRisen, SameFiles, SameBut}
 use Rattle.fx_seq.specs.Filling.{IsQuiet}
@@ -44,6 +44,19 @@ pub record PutSome (tells : Type 0) (block : List Made) (old new : Files) : Type
 abbrev pub PutLeaves : Type 0 → List Made → (old new : Files) → PutStop → Type 0
 PutLeaves tells block old new (Failed name) = PutBut tells block old new name
 PutLeaves tells block old new Memory = PutSome tells block old new
+
+-- what is left of a block: nothing where all of it was put, and else the files behind the one that was not
+abbrev pub IsLeft : Type 0 → (block left : List Made) → (old new : Files) → Result (Unit {0}) PutStop → Type 0
+IsLeft tells block left old new (Ok done) = left ≡ []
+IsLeft tells block left old new (Err (Failed name)) = (put : PutBut tells block old new name) × (put.rest ≡ left)
+IsLeft tells block left old new (Err Memory) =
+    (put : PutSome tells block old new) × (one : Made) × (put.rest ≡ one ∷ left)
+
+-- behind the bytes that were spare stand more, at most one for each file that was taken from a block
+pub record Spares (block left : List Made) (old new : List (Vec ℕ Global)) : Type 0 where
+  pub more : List (Vec ℕ Global)
+  pub behind : new ≡ old ++ more
+  pub few : length more + length left ≤ length block
 
 -- The files of a block were put, or the puts stopped
 pub record Puts (tells : Type 0) (block : List Made) (old new : Files) (before now : ℕ) (was last : List ℕ)

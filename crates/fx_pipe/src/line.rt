@@ -56,9 +56,10 @@ impl Line {
         matches!(self.fault, Some(SeqFault::Memory))
     }
 
-    /// How the moments end once nothing is left.
+    /// How the moments end once nothing is left. The fault is taken from the line.
     pub fn end(&mut self) -> PipeEnd
-        ensures { result ≡ end_of self.old.fault }
+        ensures end { result ≡ end_of self.old.fault }
+        ensures line { self.new ≡ record self.old { fault = None } }
     {
         match mem::replace(&mut self.fault, None) {
             None => PipeEnd::Done,

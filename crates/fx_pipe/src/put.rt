@@ -1,5 +1,6 @@
 //! The part that puts files.
-ghost use Rattle.fx_pipe.specs.Blocks.{Puts};
+ghost use Rattle.std.specs.Prelude.{◌≡◌, ◌∷◌, ◌++◌, ◌⊎◌, []};
+ghost use Rattle.fx_pipe.specs.Blocks.{IsLeft, Puts, Spares};
 
 use crate::Made;
 use fx_base::Name;
@@ -16,16 +17,18 @@ pub enum PutStop {
     Memory,
 }
 
-/// Puts the files of a block, one after the other. The bytes of those that were put are left in `spare`, whose memory
-/// may serve for the next files.
+/// Puts the files of a block, one after the other. Where one is not put, those behind it are left. The bytes of those
+/// that were put are left in `spare`, whose memory may serve for the next files.
 pub fn put_block<D: Depot>(
     alloc: Global,
     depot: &mut D,
     made: &mut VecDeque<Made>,
     spare: &mut VecDeque<Vec<u8>>,
 ) -> Result<(), PutStop>
-    ensures { Puts D.tells made.old.items (D.file depot.old) (D.file depot.new) (D.faults depot.old)
+    ensures puts { Puts D.tells made.old.items (D.file depot.old) (D.file depot.new) (D.faults depot.old)
         (D.faults depot.new) (D.last depot.old) (D.last depot.new) result }
+    ensures left { IsLeft D.tells made.old.items made.new.items (D.file depot.old) (D.file depot.new) result }
+    ensures spare { Spares made.old.items made.new.items spare.old.items spare.new.items }
 {
     while let Some(one) = made.pop_front() {
         let Made { name, bytes } = one;
@@ -39,6 +42,8 @@ pub fn put_block<D: Depot>(
 }
 
 // Keeps these bytes, where there is memory to do so.
-fn keep(spare: &mut VecDeque<Vec<u8>>, bytes: Vec<u8>) {
+fn keep(spare: &mut VecDeque<Vec<u8>>, bytes: Vec<u8>)
+    ensures { let old = spare.old.items in (spare.new.items ≡ old) ⊎ (spare.new.items ≡ old ++ bytes ∷ []) }
+{
     let _ = spare.push_back(bytes);
 }

@@ -5,6 +5,7 @@ use fx_outside::{
     MemorySink, Pace, PutFault, Sink, StdSink, SureDepot, SureLibrary, SureSink,
 };
 use std::alloc::{AllocError, Global};
+use std::fs;
 use std::test::Fail;
 
 fn named(alloc: Global, text: &str) -> Result<Name, AllocError> {
@@ -150,6 +151,21 @@ fn real_files_are_written_and_read(rt: HostRuntime) -> Result<(), Fail> {
         depot.put(alloc, "/dev/full", b"x").err(),
         Some(PutFault::Failed),
     );
+    Ok(())
+}
+
+#[test]
+fn a_stream_takes_all_bytes_or_fails(rt: HostRuntime) -> Result<(), Fail> {
+    let alloc = rt.alloc();
+    let name = "fx_outside_stream.bin";
+    let mut stream = StdSink::new(fs::create(&rt, name)?);
+    stream.write(alloc, b"")?;
+    stream.write(alloc, b"two ")?;
+    stream.write(alloc, b"writes\n")?;
+    let read = FileLibrary::new(&rt, alloc).fetch(alloc, name)?;
+    same(&rt, read.as_slice(), b"two writes\n".as_slice());
+    let full = StdSink::new(fs::create(&rt, "/dev/full")?).write(alloc, b"x");
+    same(&rt, full.err(), Some(PutFault::Failed));
     StdSink::new(rt.stdout()).write(alloc, b"")?;
     Ok(())
 }

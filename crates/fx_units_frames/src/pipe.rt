@@ -190,12 +190,20 @@ fn failed(put: &Result<(), PutStop>) -> Option<&str> {
     }
 }
 
-// The puts that fail, and the name that is told; the files a and b, and how many bytes are left of each that was put.
-const PUTS: &[(&[u64], Option<&str>, Option<&[u8]>, Option<&[u8]>, &[usize])] = &[
-    (&[], None, Some(b"third"), Some(b"2"), &[5, 1, 5]),
-    (&[3], Some("a"), Some(b"first"), Some(b"2"), &[5, 1]),
-    (&[2, 3], Some("b"), Some(b"first"), None, &[5]),
-    (&[1], Some("a"), None, None, &[]),
+// The puts that fail, and the name that is told; the files a and b, how many bytes are spare of each that was put, and
+// how many files are left.
+const PUTS: &[(
+    &[u64],
+    Option<&str>,
+    Option<&[u8]>,
+    Option<&[u8]>,
+    &[usize],
+    usize,
+)] = &[
+    (&[], None, Some(b"third"), Some(b"2"), &[5, 1, 5], 0),
+    (&[3], Some("a"), Some(b"first"), Some(b"2"), &[5, 1], 0),
+    (&[2, 3], Some("b"), Some(b"first"), None, &[5], 1),
+    (&[1], Some("a"), None, None, &[], 2),
 ];
 
 fn lengths(alloc: Global, spare: &VecDeque<Vec<u8>>) -> Result<Vec<usize>, AllocError> {
@@ -209,7 +217,7 @@ fn lengths(alloc: Global, spare: &VecDeque<Vec<u8>>) -> Result<Vec<usize>, Alloc
 #[test]
 fn files_are_put_up_to_one_that_fails(rt: HostRuntime) -> Result<(), Fail> {
     let alloc = rt.alloc();
-    for (failing, name, a, b, left) in PUTS {
+    for (failing, name, a, b, bytes, left) in PUTS {
         let mut depot = MemoryDepot::new(alloc, failing.to_vec(alloc)?);
         let mut block = VecDeque::new(alloc);
         block.push_back(made(alloc, "a", b"first")?)?;
@@ -217,9 +225,9 @@ fn files_are_put_up_to_one_that_fails(rt: HostRuntime) -> Result<(), Fail> {
         block.push_back(made(alloc, "a", b"third")?)?;
         let mut spare = VecDeque::new(alloc);
         let put = put_block(alloc, &mut depot, &mut block, &mut spare);
-        same_at(&rt, failing, failed(&put), *name);
+        same_at(&rt, failing, (failed(&put), block.len()), (*name, *left));
         same_at(&rt, failing, (depot.get("a"), depot.get("b")), (*a, *b));
-        same_at(&rt, failing, lengths(alloc, &spare)?.as_slice(), *left);
+        same_at(&rt, failing, lengths(alloc, &spare)?.as_slice(), *bytes);
     }
     Ok(())
 }
@@ -290,7 +298,12 @@ fn a_line_of_three_moments_ends(rt: HostRuntime) -> Result<(), Fail> {
         same_at(&rt, &row, (line.is_over(3), line.wants_memory()), states);
         let end = line.end();
         let text = format!(in alloc; "{end:?}")?;
-        same_at(&rt, &row, text.as_str(), expected);
+        same_at(
+            &rt,
+            &row,
+            (text.as_str(), line.fault.is_none()),
+            (expected, true),
+        );
     }
     Ok(())
 }

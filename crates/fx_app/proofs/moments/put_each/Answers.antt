@@ -17,7 +17,7 @@ returns-then-is_over-clause-ends g c = λ p many may.
     let see = state_of l.file l.faults l.last d.file d.faults d.last seen_by next_of in
     let over : IsOver c.args.moments c.loop.line = search rules in
     let w = c.loop.invariant.way p many may in
-    rw c.end.ensures (ends_over l.tells d.tells (IsMomentFile p.reel)
+    rw c.end.ensures.end (ends_over l.tells d.tells (IsMomentFile p.reel)
     (record { uses = c.args.uses; moments = c.args.moments; limit = MOST_BYTES; most_side = MOST_SIDE; ahead = c.args.ahead })
     (see c.args.library.now c.args.depot.now c.args.making.now) (see c.loop.library c.loop.depot c.loop.making) c.loop.line w.flows over c.loop.line.fault refl)
 

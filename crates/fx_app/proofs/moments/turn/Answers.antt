@@ -91,7 +91,7 @@ returns-in-Err-Failed-clause-moves g c =
           let all : c.make_block-made.result ≡ true = search rules in
           let depot = c.put_block.new.depot in
           let puts : Puts d.tells new.made.items (d.file c.args.depot.now) (d.file depot) (d.faults c.args.depot.now) (d.faults depot) (d.last c.args.depot.now) (d.last depot) (Err (stop.Failed c.in-Err-Failed.name)) =
-          rw (c.replace-files.ensures.value, c.in-Err-Failed.is, c.in-Err-Failed.field-0-is) at c.put_block.ensures in
+          rw (c.replace-files.ensures.value, c.in-Err-Failed.is, c.in-Err-Failed.field-0-is) at c.put_block.ensures.puts in
           put_failed l.tells d.tells right c.args.schedule.now start old line.reader read.reader line.fault read.fault block old.next
           (l.file read.library) (l.faults read.library) (l.last read.library) h c.read_on.ensures.reads c.read_on.ensures.same none
           new.made.items (seen_by new.self) new.self.next c.make_block-made.result makes all (d.file depot) (d.faults depot) (d.last depot) c.in-Err-Failed.name puts;
@@ -120,7 +120,7 @@ returns-in-Err-Failed-clause-quiet g c = λ p start w.
     let all : c.make_block-made.result ≡ true = search rules in
     let depot = c.put_block.new.depot in
     let puts : Puts d.tells new.made.items (d.file c.args.depot.now) (d.file depot) (d.faults c.args.depot.now) (d.faults depot) (d.last c.args.depot.now) (d.last depot) (Err (stop.Failed c.in-Err-Failed.name)) =
-    rw (c.replace-files.ensures.value, c.in-Err-Failed.is, c.in-Err-Failed.field-0-is) at c.put_block.ensures in
+    rw (c.replace-files.ensures.value, c.in-Err-Failed.is, c.in-Err-Failed.field-0-is) at c.put_block.ensures.puts in
     let single = c.requires.single in
     let few_ahead : c.args.schedule.now.ahead ≤ 1 = omega (arith, single) in
     put_quiet l.tells d.tells right c.args.schedule.now start old line.reader read.reader line.fault read.fault block old.next
@@ -154,7 +154,7 @@ returns-clause-moves g c =
           let all : c.make_block-made.result ≡ true = search rules in
           let depot = c.put_block.new.depot in
           let puts : Puts d.tells new.made.items (d.file c.args.depot.now) (d.file depot) (d.faults c.args.depot.now) (d.faults depot) (d.last c.args.depot.now) (d.last depot) (Err stop.Memory) =
-          rw (c.replace-files.ensures.value, c.in-Err-Memory.is, c.in-Err-Memory.field-0-is) at c.put_block.ensures in
+          rw (c.replace-files.ensures.value, c.in-Err-Memory.is, c.in-Err-Memory.field-0-is) at c.put_block.ensures.puts in
           put_memory l.tells d.tells right c.args.schedule.now start old line.reader read.reader line.fault read.fault block old.next
           (l.file read.library) (l.faults read.library) (l.last read.library) h c.read_on.ensures.reads c.read_on.ensures.same none
           new.made.items (seen_by new.self) new.self.next c.make_block-made.result makes all (d.file depot) (d.faults depot) (d.last depot) puts;
@@ -186,7 +186,7 @@ returns-in-Ok-clause-moves g c =
           let all : c.make_block-made.result ≡ true = search rules in
           let depot = c.put_block.new.depot in
           let puts : Puts d.tells new.made.items (d.file c.args.depot.now) (d.file depot) (d.faults c.args.depot.now) (d.faults depot) (d.last c.args.depot.now) (d.last depot) (Ok tt) =
-          rw (c.replace-files.ensures.value, c.in-Ok.is) at c.put_block.ensures in
+          rw (c.replace-files.ensures.value, c.in-Ok.is) at c.put_block.ensures.puts in
           let flows = put_all l.tells d.tells right c.args.schedule.now start old line.reader read.reader line.fault read.fault block old.next
           (l.file read.library) (l.faults read.library) (l.last read.library) h c.read_on.ensures.reads c.read_on.ensures.same none
           new.made.items (seen_by new.self) new.self.next c.make_block-made.result makes all (d.file depot) (d.faults depot) (d.last depot) puts in

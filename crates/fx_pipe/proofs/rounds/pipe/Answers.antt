@@ -24,7 +24,7 @@ returns-then-is_over-clause-ends g c =
     let s = g.S.Stage in
     let see = state_of l.file l.faults l.last d.file d.faults d.last s.seen s.next in
     let over : IsOver c.args.moments c.loop.line = search rules in
-    rw c.end.ensures (ends_over l.tells d.tells (s.right (s.base c.args.stage.now)) (record { uses = c.args.uses; moments = c.args.moments; limit = c.args.limit; most_side = c.args.most_side; ahead = c.args.ahead })
+    rw c.end.ensures.end (ends_over l.tells d.tells (s.right (s.base c.args.stage.now)) (record { uses = c.args.uses; moments = c.args.moments; limit = c.args.limit; most_side = c.args.most_side; ahead = c.args.ahead })
     (see c.args.library.now c.args.depot.now c.args.stage.now) (see c.loop.library c.loop.depot c.loop.stage) c.loop.line c.loop.invariant.flows over c.loop.line.fault refl)
 
 pub round-end-requires-clause-due : goal.round-end-requires-clause-due
