@@ -17,7 +17,7 @@ import tempfile
 sys.path.insert(0, os.path.dirname(os.path.abspath(__file__)))
 import host
 
-PROGRAM = os.path.join(os.path.dirname(os.path.abspath(__file__)), "../crates/ofxr/out/ofxr")
+PROGRAM = os.environ.get("OFXR", os.path.join(os.path.dirname(os.path.abspath(__file__)), "../crates/ofxr/out/ofxr"))
 # the range of each parameter, narrower than the program's where a pixel would have too many taps to be worked out alone
 RANGES = {
     "size": (1, 9), "seed": (0, 999999), "levels": (2, 256), "rx": (0, 4), "ry": (0, 3), "radius": (0, 3), "divisor": (1, 12),

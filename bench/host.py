@@ -296,7 +296,7 @@ class Node:
         self.depth, self.components = said.get("depth", project["depth"]), said.get("components", project["components"])
         if self.is_source:
             return
-        self.effect, self.levels = said["effect"], {}
+        self.effect, self.levels, self.values = said["effect"], {}, {}
         places = {node.name: place for place, node in enumerate(nodes)}
         self.clips = [(clip, places.get(said.get("clips", {}).get(clip))) for clip in clips_of(self.effect)]
         there = [(clip, nodes[place]) for clip, place in self.clips if place is not None]
@@ -311,8 +311,10 @@ class Node:
             self.components = "RGBA"
 
     def params(self, t):
-        given = self.said.get("params", {})
-        return {name: value_at(kind, given.get(name, default), t) for kind, name, default in PARAMS[self.effect]}
+        if t not in self.values:
+            given = self.said.get("params", {})
+            self.values[t] = {name: value_at(kind, given.get(name, default), t) for kind, name, default in PARAMS[self.effect]}
+        return self.values[t]
 
     def frame(self, t):
         """Which frame a source shows at t, if any."""
