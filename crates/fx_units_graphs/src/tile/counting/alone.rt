@@ -1,0 +1,130 @@
+//! One tile of a frame by itself: what is written of an image, and what is counted.
+ghost use Rattle.std.specs.Prelude.{◌≡◌, ◌∷◌, [], map};
+ghost use Rattle.fx_units_graphs.specs.TileCounting.{counted_number};
+
+use crate::same::{same, same_at};
+use crate::tile::counting::effect::Counted;
+use crate::tile::counting::{FRAME, Plugins, TILE, TIME, store};
+use fx_base::{Grid, Memory, Rect};
+use fx_core::Totals;
+use fx_graph::{Graph, accept};
+use fx_image::Image;
+use fx_life::Life;
+use fx_pixel::{Components, Depth, Format, Pixel};
+use fx_region::Regions;
+use fx_scene::Scene;
+use fx_text::{GraphFault, read_graph};
+use fx_tile::{Shared, TileCount, window_tile};
+use std::alloc::Global;
+use std::process::Abort;
+use std::rt::Clock;
+use std::sync::Wait;
+use std::test::Fail;
+
+// A source under a node of the fully safe effect, which is the output.
+const GRAPH: &str = r#"{
+    "ofxr": 1,
+    "project": {"width": 8, "height": 8, "depth": "byte", "components": "RGBA"},
+    "output": {"node": "a", "file": "o#.pam", "format": "RGB_ALPHA"},
+    "range": {"first": 3, "last": 3},
+    "nodes": [
+        {"name": "s", "source": "s.pam", "first": 3, "last": 3},
+        {"name": "a", "effect": "fully", "clips": {"Source": "s"}}
+    ]
+}"#;
+
+// The samples of the source at the places of the tile from (2, 4) to (4, 6), and nowhere else.
+const WRITTEN: &[(i64, i64, [u16; 4])] = &[
+    (2, 4, [2, 4, 34, 253]),
+    (3, 4, [3, 4, 35, 252]),
+    (2, 5, [2, 5, 42, 253]),
+    (3, 5, [3, 5, 43, 252]),
+];
+
+// The tile is rendered once.
+const ONCE: TileCount = TileCount {
+    void_tiles: 0,
+    passed: 0,
+    asked: 1,
+    landed: 1,
+    hits: 0,
+};
+
+fn graph<'a>(alloc: Global) -> Result<Graph<Counted<'a>>, GraphFault> {
+    let raw = read_graph(alloc, GRAPH.as_bytes(), 16, 8192)?;
+    accept(alloc, raw)
+}
+
+// An image as large as the picture in which one of its tiles was written, what became of the tile, and the counts of
+// the directories.
+fn tile_alone<'a, R: Wait + Clock>(
+    rt: &R,
+    alloc: Global,
+    graph: Graph<Counted<'a>>,
+    effects: Vec<Counted<'a>>,
+) -> Result<(Image, TileCount, Totals), Memory>
+    requires { map (λ e. counted_number e.safety) effects.items ≡ 0 ∷ 1 ∷ 2 ∷ [] }
+{
+    let store = store(alloc, &graph)?;
+    let (scene, permit) = Scene::new(graph, store, 7);
+    let tile = Rect::of(2, 4, 4, 6);
+    let (depth, format) = (scene.graph().depth, scene.graph().format);
+    if !tile.within(scene.graph().project) || depth != Depth::Byte || format != Format::RgbAlpha {
+        return Err(Memory);
+    }
+    let regions = Regions::of(alloc, &scene, TIME)?;
+    let grid = Grid { side: TILE };
+    let (shared, mut seat) = Shared::new(alloc, &scene, permit, 9, 0, grid)?;
+    let whole = Rect::of(0, 0, 8, 8);
+    let mut image = Image::new(alloc, whole, Depth::Byte, Components::Rgba, 32)?;
+    let mut part = image.part(whole);
+    let life = Life::start(alloc, scene.graph(), effects, FRAME, FRAME)?;
+    let count = window_tile(
+        rt, alloc, &scene, &regions, &life, &shared, &mut seat, TIME, tile, &mut part,
+    );
+    life.finish();
+    seat.directory.finds_none();
+    seat.wholes.finds_none();
+    let totals = shared.close(alloc, seat)?;
+    Ok((image, count?, totals))
+}
+
+// The pixel of a place: that of the source in the tile, and else the one that was there before.
+fn wanted_at(x: i64, y: i64) -> Pixel {
+    for (column, row, [r, g, b, a]) in WRITTEN {
+        if *column == x && *row == y {
+            return Pixel::Rgba {
+                r: *r,
+                g: *g,
+                b: *b,
+                a: *a,
+            };
+        }
+    }
+    Pixel::zero(Components::Rgba)
+}
+
+fn is_written_alone<R: Wait + Clock + Abort>(
+    rt: &R,
+    alloc: Global,
+    plugins: &Plugins,
+) -> Result<(), Fail> {
+    let graph = graph(alloc).ok().ok_or(Memory)?;
+    let (image, count, totals) = tile_alone(rt, alloc, graph, plugins.effects(alloc)?)?;
+    for y in 0..8 {
+        for x in 0..8 {
+            same_at(rt, &(x, y), image.at(x, y), wanted_at(x, y));
+        }
+    }
+    same(rt, count, ONCE);
+    same(rt, (totals.landed, totals.hits), (1, 0));
+    same(rt, plugins.calls(), 1);
+    Ok(())
+}
+
+#[test]
+fn a_tile_is_shown_alone(rt: HostRuntime) -> Result<(), Fail> {
+    let alloc = rt.alloc();
+    let plugins = Plugins::new(alloc, 0, 0)?;
+    is_written_alone(&rt, alloc, &plugins)
+}
