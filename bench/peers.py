@@ -550,7 +550,7 @@ def measured(rows):
                 if run == 0:
                     apart[key] = kept(row) if key[1:] == ("ofxr", 1) else difference(row)
                 least[key] = min(took, least.get(key, took))
-            except (OSError, subprocess.CalledProcessError) as error:
+            except (OSError, ValueError, subprocess.CalledProcessError) as error:
                 said = getattr(error, "stderr", None) or b""
                 print(f"{row.work} by {row.who}: skipped: {error} {said.decode(errors='replace').strip()}")
                 rows.remove(row)
