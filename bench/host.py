@@ -137,10 +137,16 @@ class Frame:
     """The image of a PAM file, its bottom left pixel at (0, 0)."""
 
     def __init__(self, data):
-        header, raster = data.split(b"ENDHDR\n", 1)
-        lines = [line.strip() for line in header.decode("latin-1").split("\n")[1:]]
-        words = dict(line.split(None, 1) for line in lines if line and line[0] != "#" and " " in line)
-        self.width, self.height, depth, self.maxval = (int(words[it]) for it in ("WIDTH", "HEIGHT", "DEPTH", "MAXVAL"))
+        words, (_, raster) = {}, data.split(b"\n", 1)
+        while True:
+            line, raster = raster.split(b"\n", 1)
+            line = line.strip(b" \t\r")
+            if line == b"ENDHDR":
+                break
+            if line and not line.startswith((b"#", b"TUPLTYPE")):
+                word, number = line.split(None, 1)
+                words[word] = int(number)
+        self.width, self.height, depth, self.maxval = (words[it] for it in (b"WIDTH", b"HEIGHT", b"DEPTH", b"MAXVAL"))
         self.depth = "byte" if self.maxval < 256 else "short"
         size, most = (1, 255) if self.maxval < 256 else (2, 65535)
         read = [int.from_bytes(raster[i * size : i * size + size], "big") for i in range(self.width * self.height * depth)]
