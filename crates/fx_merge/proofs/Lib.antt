@@ -1,1 +1,2 @@
+mod LaneLaws
 mod LineLaws

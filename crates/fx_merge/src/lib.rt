@@ -3,6 +3,7 @@
 #![tactic(auto)]
 
 mod keymix;
+mod lanes;
 mod merge;
 mod operation;
 

@@ -1,13 +1,15 @@
 //! The operations of merge. Each is a type of its own, so that the loop over the pixels is made for it and
 //! doesn't ask at each sample which one it is.
-ghost use Rattle.std.specs.Prelude.{◌≡◌, ◌≤◌};
+ghost use Rattle.std.specs.Prelude.{◌≡◌, ◌≤◌, ◌<◌, ℕ, slice_index};
 ghost use Rattle.fx_pixel.specs.Pixel.{greatest};
 ghost use Rattle.fx_merge.specs.Merge.{operated};
 ghost use Rattle.fx_merge.specs.declared.operation.Operation.{Operation as Operations};
 ghost use Rattle.fx_merge.specs.declared.operation.Operation.TheVariants as operation;
 
+use crate::lanes;
 use fx_kernel::product;
 use fx_pixel::Depth;
+use std::simd::prelude::*;
 
 /// What merge makes of a sample of A and one of B.
 #[derive(Clone, Copy, Debug, PartialEq, Eq)]
@@ -37,6 +39,11 @@ pub trait SampleRule {
         requires b { b ≤ greatest depth }
         ensures value { result ≡ operated operation (greatest depth) alpha a b }
         ensures bound { result ≤ greatest depth };
+
+    /// The same of 32 samples of 8 bits at once.
+    fn lanes(&self, alpha: u8x32, a: u8x32, b: u8x32) -> u8x32
+        ensures { (i : ℕ) → i < 32 → slice_index result i
+            ≡ operated operation 255 (slice_index alpha i) (slice_index a i) (slice_index b i) };
 }
 
 #[derive(Clone, Copy)]
@@ -51,6 +58,11 @@ impl SampleRule for Over {
         let through = product(depth, b, (greatest - u32::from(alpha)) as u16);
         (u32::from(a) + u32::from(through)).min(greatest) as u16
     }
+
+    #[inline(always)]
+    fn lanes(&self, alpha: u8x32, a: u8x32, b: u8x32) -> u8x32 {
+        a.saturating_add(lanes::product(b, !alpha))
+    }
 }
 
 #[derive(Clone, Copy)]
@@ -63,6 +75,11 @@ impl SampleRule for Plus {
     fn sample(&self, depth: Depth, _alpha: u16, a: u16, b: u16) -> u16 {
         (u32::from(a) + u32::from(b)).min(depth.greatest()) as u16
     }
+
+    #[inline(always)]
+    fn lanes(&self, _alpha: u8x32, a: u8x32, b: u8x32) -> u8x32 {
+        a.saturating_add(b)
+    }
 }
 
 #[derive(Clone, Copy)]
@@ -74,6 +91,11 @@ impl SampleRule for Multiply {
     #[inline(always)]
     fn sample(&self, depth: Depth, _alpha: u16, a: u16, b: u16) -> u16 {
         product(depth, a, b)
+    }
+
+    #[inline(always)]
+    fn lanes(&self, _alpha: u8x32, a: u8x32, b: u8x32) -> u8x32 {
+        lanes::product(a, b)
     }
 }
 
@@ -88,6 +110,12 @@ impl SampleRule for Screen {
         let both = product(depth, a, b);
         (u32::from(a) + u32::from(b) - u32::from(both)) as u16
     }
+
+    #[inline(always)]
+    fn lanes(&self, _alpha: u8x32, a: u8x32, b: u8x32) -> u8x32 {
+        // No lane of this wraps: the product is no more than a, and the whole no more than 255.
+        b + (a - lanes::product(a, b))
+    }
 }
 
 #[derive(Clone, Copy)]
@@ -99,6 +127,11 @@ impl SampleRule for Min {
     #[inline(always)]
     fn sample(&self, _depth: Depth, _alpha: u16, a: u16, b: u16) -> u16 {
         a.min(b)
+    }
+
+    #[inline(always)]
+    fn lanes(&self, _alpha: u8x32, a: u8x32, b: u8x32) -> u8x32 {
+        a.simd_min(b)
     }
 }
 
@@ -112,6 +145,11 @@ impl SampleRule for Max {
     fn sample(&self, _depth: Depth, _alpha: u16, a: u16, b: u16) -> u16 {
         a.max(b)
     }
+
+    #[inline(always)]
+    fn lanes(&self, _alpha: u8x32, a: u8x32, b: u8x32) -> u8x32 {
+        a.simd_max(b)
+    }
 }
 
 #[derive(Clone, Copy)]
@@ -122,6 +160,11 @@ impl SampleRule for Minus {
 
     #[inline(always)]
     fn sample(&self, _depth: Depth, _alpha: u16, a: u16, b: u16) -> u16 {
+        a.saturating_sub(b)
+    }
+
+    #[inline(always)]
+    fn lanes(&self, _alpha: u8x32, a: u8x32, b: u8x32) -> u8x32 {
         a.saturating_sub(b)
     }
 }
