@@ -1,2 +1,3 @@
+mod LaneLaws
 mod FactorLaws
 mod WindowLaws
