@@ -2,6 +2,8 @@
 ghost use Rattle.std.specs.Prelude.{◌≡◌, ◌*◌, length, IfOk, OnOk, vec_len};
 ghost use Rattle.fx_base.specs.Rect.{columns};
 ghost use Rattle.fx_pixel.specs.declared.Depth.{Depth};
+ghost use Rattle.fx_pixel.specs.declared.Depth.TheVariants.{Byte};
+ghost use Rattle.fx_pixel.specs.declared.Components.TheVariants.{Rgba};
 ghost use Rattle.fx_pixel.specs.declared.Pixel.{Pixel};
 ghost use Rattle.fx_pixel.specs.Pixel.{IsOfDepth, components_of};
 ghost use Rattle.fx_image.specs.Part.{IsPart, SamePart, IsWritten};
@@ -9,12 +11,14 @@ ghost use Rattle.fx_image.specs.Stored.{pixel_size};
 ghost use Rattle.fx_effect.specs.Rows.{MakesPairs};
 ghost use Rattle.fx_effect.specs.Pairs.{ShowsPair, pair_pixel};
 
+use crate::points::EIGHT;
 use crate::{Inputs, RowKernel, fill_with};
 use fx_base::{Memory, Rect};
 use fx_image::Part;
 use fx_image::samples::{pixel, pixel_size, set_pixel};
 use fx_pixel::{Components, Depth, Pixel};
 use std::alloc::Global;
+use std::simd::prelude::*;
 
 /// A clip at a frame.
 #[derive(Clone, Copy)]
@@ -39,6 +43,21 @@ pub trait PairKernel {
         ensures value { result ≡ of self.now depth p q }
         ensures depth { IsOfDepth depth result }
         ensures components { components_of result ≡ components_of p };
+
+    /// What it makes of eight pixels and eight others at once: each vector has r, g, b and a one after another.
+    fn pair_eight(&self, first: u8x32, second: u8x32) -> u8x32
+        requires { is_ready self.now }
+        ensures { MakesPairs Byte Rgba (of self.now Byte) first second result }
+    {
+        let mut bytes = first.to_array();
+        let other = second.to_array();
+        for i in 0..8 {
+            let p = pixel(Depth::Byte, Components::Rgba, &bytes, i);
+            let q = pixel(Depth::Byte, Components::Rgba, &other, i);
+            set_pixel(Depth::Byte, &mut bytes, i, self.pair(Depth::Byte, p, q));
+        }
+        u8x32::from_array(bytes)
+    }
 }
 
 // Makes each pixel of a row anew, with the pixel at its place in another.
@@ -54,9 +73,7 @@ fn pair_row<K: PairKernel>(
     ensures { MakesPairs depth components (K.of kernel.now depth) row.old other.now row.new }
 {
     match (depth, components) {
-        (Depth::Byte, Components::Rgba) => {
-            pair_each(kernel, Depth::Byte, Components::Rgba, other, row)
-        }
+        (Depth::Byte, Components::Rgba) => pair_eights(kernel, other, row),
         (Depth::Byte, Components::Alpha) => {
             pair_each(kernel, Depth::Byte, Components::Alpha, other, row)
         }
@@ -86,6 +103,30 @@ fn pair_each<K: PairKernel>(
         let q = pixel(depth, components, other, i);
         set_pixel(depth, row, i, kernel.pair(depth, p, q));
     }
+}
+
+// The same for bytes of r, g, b and a: eight pixels at once, and those that are left one by one.
+fn pair_eights<K: PairKernel>(kernel: &K, other: &[u8], row: &mut [u8])
+    requires ready { K.is_ready kernel.now }
+    requires long { length other.now ≡ length row.old }
+    ensures { MakesPairs Byte Rgba (K.of kernel.now Byte) row.old other.now row.new }
+{
+    let whole = row.len() / EIGHT;
+    for block in 0..whole {
+        let at = EIGHT * block;
+        let first = u8x32::from_slice(&row[at..]);
+        let second = u8x32::from_slice(&other[at..]);
+        let made = kernel.pair_eight(first, second);
+        made.copy_to_slice(&mut row[at..]);
+    }
+    let rest = EIGHT * whole;
+    pair_each(
+        kernel,
+        Depth::Byte,
+        Components::Rgba,
+        &other[rest..],
+        &mut row[rest..],
+    );
 }
 
 // The rows of a render.

@@ -1,6 +1,8 @@
 //! The loop over the pixels of a window that each are made of the pixel at their own place.
 ghost use Rattle.std.specs.Prelude.{◌≡◌, length};
 ghost use Rattle.fx_pixel.specs.declared.Depth.{Depth};
+ghost use Rattle.fx_pixel.specs.declared.Depth.TheVariants.{Byte};
+ghost use Rattle.fx_pixel.specs.declared.Components.TheVariants.{Rgba};
 ghost use Rattle.fx_pixel.specs.declared.Pixel.{Pixel};
 ghost use Rattle.fx_pixel.specs.Pixel.{IsOfDepth, components_of};
 ghost use Rattle.fx_image.specs.Part.{IsPart, IsWritten};
@@ -13,6 +15,7 @@ use fx_base::Rect;
 use fx_image::Part;
 use fx_image::samples::{pixel, pixel_size, set_pixel};
 use fx_pixel::{Components, Depth, Pixel};
+use std::simd::prelude::*;
 
 /// What makes a pixel of the pixel at its own place.
 pub trait PointKernel {
@@ -28,7 +31,23 @@ pub trait PointKernel {
         ensures value { result ≡ of self.now depth p }
         ensures depth { IsOfDepth depth result }
         ensures components { components_of result ≡ components_of p };
+
+    /// What it makes of eight pixels at once, of which the vector has r, g, b and a one after another.
+    fn eight(&self, pixels: u8x32) -> u8x32
+        requires { is_ready self.now }
+        ensures { MakesRow Byte Rgba (of self.now Byte) pixels result }
+    {
+        let mut bytes = pixels.to_array();
+        for i in 0..8 {
+            let p = pixel(Depth::Byte, Components::Rgba, &bytes, i);
+            set_pixel(Depth::Byte, &mut bytes, i, self.point(Depth::Byte, p));
+        }
+        u8x32::from_array(bytes)
+    }
 }
+
+// How many bytes eight pixels have.
+pub(crate) const EIGHT: usize = 32;
 
 // Makes each pixel of a row anew.
 fn each_pixel<K: PointKernel>(kernel: &K, depth: Depth, components: Components, row: &mut [u8])
@@ -68,9 +87,7 @@ fn each_from<K: PointKernel>(
     ensures { MakesRow depth components (K.of kernel.now depth) source.now row.new }
 {
     match (depth, components) {
-        (Depth::Byte, Components::Rgba) => {
-            each_of(kernel, Depth::Byte, Components::Rgba, source, row)
-        }
+        (Depth::Byte, Components::Rgba) => by_eights(kernel, source, row),
         (Depth::Byte, Components::Alpha) => {
             each_of(kernel, Depth::Byte, Components::Alpha, source, row)
         }
@@ -99,6 +116,28 @@ fn each_of<K: PointKernel>(
         let p = pixel(depth, components, source, i);
         set_pixel(depth, row, i, kernel.point(depth, p));
     }
+}
+
+// The same for bytes of r, g, b and a: eight pixels at once, and those that are left one by one.
+fn by_eights<K: PointKernel>(kernel: &K, source: &[u8], row: &mut [u8])
+    requires ready { K.is_ready kernel.now }
+    requires long { length row.old ≡ length source.now }
+    ensures { MakesRow Byte Rgba (K.of kernel.now Byte) source.now row.new }
+{
+    let whole = source.len() / EIGHT;
+    for block in 0..whole {
+        let at = EIGHT * block;
+        let made = kernel.eight(u8x32::from_slice(&source[at..]));
+        made.copy_to_slice(&mut row[at..]);
+    }
+    let rest = EIGHT * whole;
+    each_of(
+        kernel,
+        Depth::Byte,
+        Components::Rgba,
+        &source[rest..],
+        &mut row[rest..],
+    );
 }
 
 // The rows of a render.
