@@ -2,13 +2,10 @@
 ghost use Rattle.std.specs.Prelude.{◌≡◌, OnOk};
 ghost use Rattle.fx_image.specs.Part.{IsPart, SamePart, IsWritten};
 ghost use Rattle.fx_pixel.specs.Pixel.{greatest};
-ghost use Rattle.fx_pixel.specs.declared.Depth.TheVariants as depths;
-ghost use Rattle.fx_pixel.specs.declared.Components.TheVariants as components;
 ghost use Rattle.fx_effect.specs.Given.{row_pixel};
 ghost use Rattle.fx_effect.specs.Shape.{IsLawful};
 ghost use Rattle.fx_effect.specs.Numbers.{number};
 ghost use Rattle.fx_effect.specs.Pairs.{ShowsPair, pair_pixel};
-ghost use Rattle.fx_effect.specs.Rows.{MakesPairs};
 ghost use Rattle.fx_merge.specs.Merge.{merge, merge_shape, merged, operation_at};
 ghost use Rattle.fx_merge.specs.MergeLaws.{merge_laws};
 
@@ -198,16 +195,6 @@ struct Merging<R> {
     rule: R,
 }
 
-impl<R: SampleRule> Merging<R> {
-    // The same of eight pixels of 8 bits a sample with r, g, b and a.
-    #[inline(always)]
-    fn pair_eight(&self, first: u8x32, second: u8x32) -> u8x32
-        ensures { MakesPairs depths.Byte components.Rgba (merged R.operation 255) first second result }
-    {
-        self.rule.lanes(lanes::alphas(first), first, second)
-    }
-}
-
 impl<R: SampleRule> PairKernel for Merging<R> {
     ghost is_ready = { λ _. Unit {0} };
 
@@ -235,5 +222,10 @@ impl<R: SampleRule> PairKernel for Merging<R> {
             },
             _ => unreachable!(),
         }
+    }
+
+    #[inline(always)]
+    fn pair_eight(&self, first: u8x32, second: u8x32) -> u8x32 {
+        self.rule.lanes(lanes::alphas(first), first, second)
     }
 }

@@ -1,5 +1,5 @@
 use Rattle.fx_merge.proofs.LaneLaws.{eight_pixels}
-use Rattle.fx_merge.proofs.merge.Merging.pair_eight.Goals as goal
+use Rattle.fx_merge.proofs.merge.MergingPairKernel.pair_eight.Goals as goal
 
 pub returns : goal.returns
 returns g c =
