@@ -4,6 +4,7 @@ pub mod Gain
 pub mod GainLaws
 pub mod Invert
 pub mod InvertLaws
+pub mod Lanes
 pub mod Levels
 pub mod Posterise
 pub mod PosteriseLaws

@@ -1,10 +1,12 @@
 //! The effect gain.
-ghost use Rattle.std.specs.Prelude.{◌≡◌, ◌≤◌, ◌≤ℤ◌, pos};
+ghost use Rattle.std.specs.Prelude.{◌≡◌, ◌≤◌, ◌<◌, ◌*◌, ◌≤ℤ◌, min, pos, ℕ, slice_index};
 ghost use Rattle.fx_pixel.specs.Pixel.{greatest};
+ghost use Rattle.fx_kernel.specs.Blends.{in_units};
 ghost use Rattle.fx_point.specs.Gain.{gain, gained, gained_pixel};
 ghost use Rattle.fx_point.specs.GainLaws.{gain_laws};
 
 use crate::filter::describe;
+use crate::lanes::recoloured;
 use fx_base::{Fix, Memory, Rect};
 use fx_core::Ticket;
 use fx_effect::{
@@ -17,6 +19,7 @@ use fx_params::ParamDef;
 use fx_pixel::{Components, Depth, Pixel};
 use fx_props::PropSet;
 use std::alloc::Global;
+use std::simd::prelude::*;
 
 /// Multiplies r, g and b of an RGBA pixel, and keeps its a; multiplies a of an Alpha pixel: a filter. It
 /// has one clip, Source, and the parameter gain, a number from 0 to 16.
@@ -140,6 +143,10 @@ impl PointKernel for Gaining {
             },
         }
     }
+
+    fn eight(&self, pixels: u8x32) -> u8x32 {
+        recoloured(pixels, times(pixels, self.level as u32))
+    }
 }
 
 #[inline(always)]
@@ -150,4 +157,14 @@ fn gained(depth: Depth, level: i64, c: u16) -> u16
 {
     let made = in_units(u64::from(c) * level as u64);
     made.min(u64::from(depth.greatest())) as u16
+}
+
+// Each byte by the gain, and no greater than the greatest.
+#[inline(always)]
+fn times(lanes: u8x32, level: u32) -> u8x32
+    requires { level ≤ 1048576 }
+    ensures { (j : ℕ) → j < 32 → slice_index result j ≡ min 255 (in_units (slice_index lanes j * level)) }
+{
+    let made = (lanes.cast::<u32>() * u32x32::splat(level) + u32x32::splat(32768)) >> 16;
+    made.simd_min(u32x32::splat(255)).cast::<u8>()
 }

@@ -4,6 +4,7 @@ ghost use Rattle.fx_point.specs.Invert.{invert, inverted};
 ghost use Rattle.fx_point.specs.InvertLaws.{invert_laws};
 
 use crate::filter::describe;
+use crate::lanes::{alphas, recoloured};
 use fx_base::{Memory, Rect};
 use fx_core::Ticket;
 use fx_effect::{
@@ -15,6 +16,7 @@ use fx_params::ParamDef;
 use fx_pixel::{Components, Depth, Pixel};
 use fx_props::PropSet;
 use std::alloc::Global;
+use std::simd::prelude::*;
 
 /// Takes each of r, g and b from a, down to 0, and keeps a: a filter for RGBA. It has one clip, Source,
 /// and no parameters.
@@ -116,5 +118,9 @@ impl PointKernel for Inverting {
             },
             Pixel::Alpha { a } => Pixel::Alpha { a },
         }
+    }
+
+    fn eight(&self, pixels: u8x32) -> u8x32 {
+        recoloured(pixels, alphas(pixels).saturating_sub(pixels))
     }
 }

@@ -4,6 +4,7 @@
 mod filter;
 mod gain;
 mod invert;
+mod lanes;
 mod posterise;
 mod premult;
 mod saturation;

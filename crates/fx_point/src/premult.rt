@@ -5,6 +5,7 @@ ghost use Rattle.fx_point.specs.Premult.{premult, premultiplied};
 ghost use Rattle.fx_point.specs.PremultLaws.{premult_laws};
 
 use crate::filter::describe;
+use crate::lanes::{alphas, divided, products, recoloured};
 use fx_base::{Memory, Rect};
 use fx_core::Ticket;
 use fx_effect::{
@@ -17,6 +18,7 @@ use fx_params::ParamDef;
 use fx_pixel::{Components, Depth, Pixel};
 use fx_props::PropSet;
 use std::alloc::Global;
+use std::simd::prelude::*;
 
 /// Multiplies each of r, g and b by a, and keeps a: a filter for RGBA. It has one clip, Source, and no
 /// parameters.
@@ -118,5 +120,10 @@ impl PointKernel for Multiplying {
             },
             Pixel::Alpha { a } => Pixel::Alpha { a },
         }
+    }
+
+    fn eight(&self, pixels: u8x32) -> u8x32 {
+        let made = divided(products(pixels, alphas(pixels)));
+        recoloured(pixels, made)
     }
 }
