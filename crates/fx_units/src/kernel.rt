@@ -83,6 +83,19 @@ fn rows_are_blended(rt: HostRuntime) {
     same(&rt, shorts.as_slice(), [0, 192, 191, 255].as_slice());
 }
 
+// As many bytes as are blended at once, and more.
+#[test]
+fn long_rows_are_blended(rt: HostRuntime) {
+    let mut bytes = [100; 35];
+    bytes[31] = 255;
+    bytes[34] = 7;
+    blend_row(Depth::Byte, 16384, &[201; 35], &mut bytes, 35);
+    let mut blended = [125; 35];
+    blended[31] = 242;
+    blended[34] = 56;
+    same(&rt, bytes.as_slice(), blended.as_slice());
+}
+
 #[test]
 fn rows_are_summed(rt: HostRuntime) {
     let row = [1, 2, 0, 255];
