@@ -1,3 +1,4 @@
 mod LaneLaws
 mod FactorLaws
+mod FourLaws
 mod WindowLaws

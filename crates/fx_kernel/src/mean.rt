@@ -1,10 +1,11 @@
 //! Means of many sums of one count.
-ghost use Rattle.std.specs.Prelude.{◌≡◌, ◌≤◌, ◌<◌, ◌*◌};
+ghost use Rattle.std.specs.Prelude.{◌≡◌, ◌≤◌, ◌<◌, ◌+◌, ◌*◌, ◌/◌, ℕ, length, slice_index};
 ghost use Rattle.fx_pixel.specs.Pixel.{greatest};
 ghost use Rattle.fx_kernel.specs.Samples.{rounded};
 
 use fx_pixel::Depth;
 use std::marker::Model;
+use std::simd::prelude::*;
 
 /// Divides by one count, to the nearest and halves up. It multiplies in the place of that, since the
 /// count is known only when it runs.
@@ -29,6 +30,9 @@ impl Model for Mean {
 
 // The quotients are those of 2^64.
 const SHIFT: u32 = 64;
+
+// Those of means of bytes are of 2^42: so their products have room in 64 bits, as those of lanes must.
+const BYTE_SHIFT: u64 = 42;
 
 impl Mean {
     /// For sums of so many samples, from 1 to 65,536.
@@ -60,5 +64,25 @@ impl Mean {
     {
         let product = u128::from(2 * sum + self.count) * u128::from(self.factor);
         (product >> SHIFT) as u64
+    }
+
+    // What `bytes` multiplies by.
+    #[inline(always)]
+    pub(crate) fn byte_factor(self) -> u64
+        ensures { result ≡ 4398046511104 / (2 * self) + 1 }
+    {
+        (1 << BYTE_SHIFT) / (2 * self.count) + 1
+    }
+
+    // The means of as many bytes, by each of four sums.
+    #[inline(always)]
+    pub(crate) fn bytes(self, factor: u64, sums: u64x4) -> u8x4
+        requires factor { factor ≡ 4398046511104 / (2 * self) + 1 }
+        requires sums { (k : ℕ) → k < 4 → slice_index sums k ≤ self * 255 }
+        ensures len { length result ≡ 4 }
+        ensures value { (k : ℕ) → k < 4 → slice_index result k ≡ rounded (slice_index sums k) self }
+    {
+        let halves = (sums + sums + u64x4::splat(self.count)).cast::<u32>();
+        ((halves.cast::<u64>() * u64x4::splat(factor)) >> BYTE_SHIFT).cast::<u8>()
     }
 }
