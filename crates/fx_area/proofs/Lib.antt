@@ -2,6 +2,7 @@ mod AnswerLaws
 mod BlockLaws
 mod BoxLaws
 mod LineLaws
+mod ShortLaws
 mod GatherLaws
 mod SquareLaws
 mod ConvolveLaws

@@ -12,14 +12,13 @@ use Rattle.fx_base.proofs.RectLaws.{gap_is}
 use Rattle.fx_base.proofs.RectLemmas.{grown-proper}
 use Rattle.fx_pixel.specs.declared.Depth.{Depth}
 use Rattle.fx_pixel.specs.declared.Components.{Components}
-use Rattle.fx_pixel.specs.declared.Components.TheVariants as components
 use Rattle.fx_pixel.specs.declared.Pixel.{Pixel}
 use Rattle.fx_pixel.specs.Pixel.{count, greatest, IsOfDepth}
 use Rattle.fx_image.specs.Part.{IsWritten}
 use Rattle.fx_image.specs.Stored.{sample_in, pixel_in}
 use Rattle.fx_image.specs.declared.part.Part.{Part}
 use Rattle.fx_image.proofs.ImageLaws.{place_from}
-use Rattle.fx_kernel.specs.Samples.{nth, each}
+use Rattle.fx_kernel.specs.Samples.{nth}
 use Rattle.fx_kernel.specs.SampleLaws.{nth_bound}
 use Rattle.fx_kernel.specs.RowLaws.{sample_at, pixel_of_samples}
 use Rattle.fx_kernel.specs.Around.{square}
@@ -32,7 +31,7 @@ use Rattle.fx_area.specs.Extreme.{picked, extreme_of, Leads}
 use Rattle.fx_area.specs.ExtremeLaws.{one_extreme, leads_each, leads_picked}
 use Rattle.fx_area.specs.Erode.{radius}
 use Rattle.fx_area.specs.ErodeLaws.{in_square}
-use Rattle.fx_area.specs.Gathered.{IsExtreme, AreGathered, ArePicked, IsProperArea, ShowsArea, area_pixel, extreme_pixel}
+use Rattle.fx_area.specs.Gathered.{AreGathered, ArePicked, IsProperArea, ShowsArea, area_pixel, extreme_pixel}
 
 at_place : {X : Type 0} (P : X → Type 0) (xs : List X) (x : X) → All P xs → Contains xs x → P x
 at_place P xs x all (k, low, is) = subst P is (all k x low)

@@ -1,5 +1,5 @@
 -- What every effect keeps, of boxblur.
-use Rattle.std.specs.Prelude.{◌≡◌, ◌≤◌, ◌<◌, ℕ, ◌+◌, ◌*◌, ◌==◌, ◌&&◌, ℤ, pos, Bool, true, List, [], ◌∷◌, length, map, All, if◌then◌else◌, refl}
+use Rattle.std.specs.Prelude.{◌≡◌, ◌≤◌, ◌<◌, ℕ, ◌==◌, ◌&&◌, ℤ, pos, true, List, [], ◌∷◌, map, refl}
 use Rattle.std.specs.List.{Contains}
 use Rattle.std.proofs.Common.{arith, sym, subst, ◌∙◌}
 use Rattle.std.proofs.lemmas.Bool.Decides.{nat_tests}
@@ -16,14 +16,14 @@ use Rattle.fx_kernel.specs.AroundLaws.{All-square, length-square, length-mapped,
 use Rattle.fx_props.specs.Entries.{region_of}
 use Rattle.fx_effect.specs.Tap.{Tap, tap}
 use Rattle.fx_effect.specs.Shape.{IsLawfulIn}
-use Rattle.fx_effect.specs.NumberLaws.{Between, number_between}
+use Rattle.fx_effect.specs.NumberLaws.{number_between}
 use Rattle.fx_effect.specs.Numbers.{number}
 use Rattle.fx_effect.specs.Meaning.{mixed}
 use Rattle.fx_effect.specs.DefaultLaws.{default_spans_near}
 use Rattle.fx_effect.specs.Laws.{Laws, TapPixels, IsGiven, IsSameAs, IsZeroOutside}
 use Rattle.fx_effect.specs.ShapeTests.{shape_is}
 use Rattle.fx_effect.specs.declared.action.Context.{Context}
-use Rattle.fx_effect.specs.declared.action.Identity.TheVariants.{Same, No}
+use Rattle.fx_effect.specs.declared.action.Identity.TheVariants.{Same}
 use Rattle.fx_effect.specs.declared.values.Values.{Values}
 use Rattle.fx_effect.specs.SourceLaws.{source_flag, source_connected, same_source}
 use Rattle.fx_area.specs.GrownLaws.{in_grown, grown_is_rect, grown_near, region_up_to, square_covered, natural_few}

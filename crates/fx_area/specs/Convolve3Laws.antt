@@ -1,9 +1,8 @@
 -- What every effect keeps, of convolve3.
-use Rattle.std.specs.Prelude.{◌≡◌, ◌≤◌, ◌<◌, ℕ, ◌+◌, ◌*◌, ◌/◌, min, ℤ, pos, negsuc, ◌≤ℤ◌, ◌<ℤ◌, ◌+ℤ◌, ◌-ℤ◌, ◌*ℤ◌, unsigned_abs, Bool, true, false, ◌&&◌, List, [], ◌∷◌, length, map, All, if◌then◌else◌, refl}
+use Rattle.std.specs.Prelude.{◌≡◌, ◌≤◌, ◌<◌, ℕ, ◌+◌, ◌*◌, ◌/◌, min, ℤ, pos, negsuc, ◌≤ℤ◌, ◌+ℤ◌, ◌-ℤ◌, unsigned_abs, true, List, [], ◌∷◌, length, map, All, refl}
 use Rattle.std.specs.List.{Contains, list_all}
-use Rattle.std.specs.Int.{int_div_euclid}
 use Rattle.std.specs.Ordering.{int_eq}
-use Rattle.std.proofs.Common.{zero, suc, ap, sym, subst, arith, ◌∙◌}
+use Rattle.std.proofs.Common.{ap, sym, subst, arith, ◌∙◌}
 use Rattle.std.proofs.Math.Nat.{div-eq_of_lt}
 use Rattle.std.proofs.lemmas.Bool.{and_parts}
 use Rattle.std.proofs.lemmas.Bool.Decides.{Decides-int_eq}
@@ -11,30 +10,30 @@ use Rattle.std.proofs.lemmas.Int.{ints}
 use Rattle.std.proofs.lemmas.Nat.{div-mul-add}
 use Rattle.std.proofs.lemmas.List.Elements.{All-nil, All-cons, All-head, All-tail, All-map}
 use Rattle.fx_base.specs.Bounds.{Bounds}
-use Rattle.fx_base.specs.Rect.{Holds, grown}
+use Rattle.fx_base.specs.Rect.{grown}
 use Rattle.fx_base.proofs.RunLaws.{All-run, All-flat_map}
 use Rattle.fx_pixel.specs.declared.Depth.{Depth}
 use Rattle.fx_pixel.specs.declared.Components.{Components}
 use Rattle.fx_pixel.specs.declared.Pixel.{Pixel}
 use Rattle.fx_pixel.specs.Pixel.{greatest, zero as clear, IsOfDepth, components_of}
-use Rattle.fx_kernel.specs.Samples.{nth, each, clamped}
+use Rattle.fx_kernel.specs.Samples.{nth, clamped}
 use Rattle.fx_kernel.specs.SampleLaws.{clamped_few, nth_bound, nth_clear, each_same, each_of, each_clear, each_is_pixel}
 use Rattle.fx_kernel.specs.Around.{around}
 use Rattle.fx_props.specs.Entries.{region_of}
 use Rattle.fx_effect.specs.Tap.{Tap, tap}
 use Rattle.fx_effect.specs.Shape.{IsLawfulIn}
 use Rattle.fx_effect.specs.Numbers.{number}
-use Rattle.fx_effect.specs.NumberLaws.{Between, number_between}
+use Rattle.fx_effect.specs.NumberLaws.{number_between}
 use Rattle.fx_effect.specs.Meaning.{mixed}
 use Rattle.fx_effect.specs.Default.{default_spans}
 use Rattle.fx_effect.specs.DefaultLaws.{default_spans_near, covered_here}
-use Rattle.fx_effect.specs.Laws.{Laws, TapPixels, IsCovered, IsGiven, IsSameAs, IsZeroOutside}
+use Rattle.fx_effect.specs.Laws.{Laws, TapPixels, IsCovered, IsGiven, IsSameAs}
 use Rattle.fx_effect.specs.ShapeTests.{shape_is}
 use Rattle.fx_effect.specs.declared.action.Context.{Context}
-use Rattle.fx_effect.specs.declared.action.Identity.TheVariants.{Same, No}
+use Rattle.fx_effect.specs.declared.action.Identity.TheVariants.{Same}
 use Rattle.fx_effect.specs.declared.values.Values.{Values}
 use Rattle.fx_effect.specs.SourceLaws.{source_flag, source_connected, same_source}
-use Rattle.fx_area.specs.GrownLaws.{in_grown, grown_is_rect, grown_near, region_up_to, natural_few}
+use Rattle.fx_area.specs.GrownLaws.{in_grown, grown_is_rect, grown_near, region_up_to}
 use Rattle.fx_area.specs.Convolve3.{divisor_param, convolve_params, factors, divisor, nine, sum_of_products, rounded_z, convolved, keeps_source, convolve_shape, convolve3}
 
 -- ---- the divisor

@@ -1,5 +1,5 @@
 -- What every effect keeps, of dilate.
-use Rattle.std.specs.Prelude.{◌≡◌, ◌≤◌, ◌<◌, ℕ, ◌+◌, ℤ, pos, List, [], ◌∷◌, length, map, All, codes, refl}
+use Rattle.std.specs.Prelude.{◌≡◌, ◌≤◌, ℕ, ℤ, pos, List, map, codes, refl}
 use Rattle.std.proofs.Common.{arith}
 use Rattle.std.proofs.lemmas.List.Elements.{All-map}
 use Rattle.fx_base.specs.Bounds.{Bounds}
@@ -22,7 +22,7 @@ use Rattle.fx_effect.specs.SourceLaws.{source_flag, source_connected}
 use Rattle.fx_area.specs.GrownLaws.{in_grown, grown_is_rect, grown_near, region_up_to, square_covered}
 use Rattle.fx_area.specs.ExtremeLaws.{greatest_clear}
 use Rattle.fx_area.specs.Erode.{radius, square_taps, radius_shape}
-use Rattle.fx_area.specs.ErodeLaws.{radius_few, extreme_pixel, IsStill, extreme_same}
+use Rattle.fx_area.specs.ErodeLaws.{radius_few, extreme_pixel, extreme_same}
 use Rattle.fx_area.specs.Dilate.{dilate}
 
 dilate_clear : (context : Context) (v : Values) (regions : List Bounds) (depth : Depth) (c : Components)

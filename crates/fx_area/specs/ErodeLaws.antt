@@ -1,7 +1,7 @@
 -- What every effect keeps, of erode, and what dilate shares with it.
-use Rattle.std.specs.Prelude.{◌≡◌, ◌≤◌, ◌<◌, ℕ, ◌+◌, ◌*◌, ◌==◌, ℤ, pos, ◌≤ℤ◌, ◌+ℤ◌, ◌-ℤ◌, Bool, true, List, [], ◌∷◌, length, map, All, codes, if◌then◌else◌, refl}
+use Rattle.std.specs.Prelude.{◌≡◌, ◌≤◌, ℕ, ◌+◌, ◌*◌, ◌==◌, ℤ, pos, ◌≤ℤ◌, ◌+ℤ◌, ◌-ℤ◌, true, List, [], ◌∷◌, map, codes, if◌then◌else◌, refl}
 use Rattle.std.specs.List.{Contains}
-use Rattle.std.proofs.Common.{arith, sym, subst, ◌∙◌}
+use Rattle.std.proofs.Common.{arith, sym, subst}
 use Rattle.std.proofs.lemmas.Int.{ints}
 use Rattle.std.proofs.lemmas.Bool.Decides.{nat_tests}
 use Rattle.std.proofs.lemmas.List.Elements.{All-map}
@@ -15,8 +15,8 @@ use Rattle.fx_kernel.specs.Around.{around, column, square}
 use Rattle.fx_kernel.specs.AroundLaws.{All-square, square_one}
 use Rattle.fx_props.specs.Entries.{region_of}
 use Rattle.fx_effect.specs.Tap.{Tap, tap}
-use Rattle.fx_effect.specs.Shape.{Shape, IsLawfulIn}
-use Rattle.fx_effect.specs.NumberLaws.{Between, number_between}
+use Rattle.fx_effect.specs.Shape.{IsLawfulIn}
+use Rattle.fx_effect.specs.NumberLaws.{number_between}
 use Rattle.fx_effect.specs.Numbers.{number}
 use Rattle.fx_effect.specs.Meaning.{mixed}
 use Rattle.fx_effect.specs.DefaultLaws.{default_spans_near, region_near, region_is_rect}
@@ -25,7 +25,6 @@ use Rattle.fx_effect.specs.ShapeTests.{shape_is}
 use Rattle.fx_effect.specs.declared.action.Context.{Context}
 use Rattle.fx_effect.specs.declared.action.Identity.TheVariants.{Same, No}
 use Rattle.fx_effect.specs.declared.values.Values.{Values}
-use Rattle.fx_params.specs.declared.def.ParamDef.{ParamDef}
 use Rattle.fx_params.specs.Def.{int_def}
 use Rattle.fx_area.specs.declared.extreme.Extreme.{Extreme}
 use Rattle.fx_area.specs.declared.extreme.Extreme.TheVariants.{Least}

@@ -1,13 +1,13 @@
 -- What holds of the least and of the greatest of samples.
-use Rattle.std.specs.Prelude.{◌≡◌, ◌≤◌, ◌<◌, ◌↔◌, ℕ, min, max, List, [], ◌∷◌, map, length, All, refl}
+use Rattle.std.specs.Prelude.{◌≡◌, ◌≤◌, ◌<◌, ℕ, List, [], ◌∷◌, map, length, All, refl}
 use Rattle.std.specs.List.{Contains}
-use Rattle.std.proofs.Common.{zero, suc, ap, sym, arith, ◌∙◌}
+use Rattle.std.proofs.Common.{zero, suc, ap, arith, ◌∙◌}
 use Rattle.std.proofs.lemmas.List.Elements.{All-nil, All-cons, All-head, All-tail, All-map, All-weaker}
 use Rattle.fx_pixel.specs.declared.Depth.{Depth}
 use Rattle.fx_pixel.specs.declared.Components.{Components}
 use Rattle.fx_pixel.specs.declared.Pixel.{Pixel}
 use Rattle.fx_pixel.specs.Pixel.{greatest, zero as clear, IsOfDepth, components_of}
-use Rattle.fx_kernel.specs.Samples.{nth, each}
+use Rattle.fx_kernel.specs.Samples.{nth}
 use Rattle.fx_kernel.specs.SampleLaws.{nth_bound, nth_clear, each_same, each_of, each_clear, each_is_pixel}
 use Rattle.fx_area.specs.declared.extreme.Extreme.{Extreme}
 use Rattle.fx_area.specs.declared.extreme.Extreme.TheVariants.{Least, Greatest}

@@ -1,15 +1,15 @@
 -- Rectangles that are grown by radii, and the places round a place.
-use Rattle.std.specs.Prelude.{◌≡◌, ◌≤◌, ◌<◌, ℕ, ◌+◌, ℤ, pos, ◌≤ℤ◌, ◌+ℤ◌, ◌-ℤ◌, List, [], ◌∷◌, length, All, unsigned_abs, negsuc}
-use Rattle.std.proofs.Common.{arith, subst}
+use Rattle.std.specs.Prelude.{◌≤◌, ◌<◌, ℕ, ◌+◌, ℤ, pos, ◌≤ℤ◌, ◌+ℤ◌, ◌-ℤ◌, List, [], ◌∷◌, length, All, unsigned_abs, negsuc}
+use Rattle.std.proofs.Common.{arith}
 use Rattle.std.proofs.lemmas.Int.{ints}
 use Rattle.fx_base.specs.Bounds.{Bounds, IsRect}
-use Rattle.fx_base.specs.Rect.{Holds, IsUpTo, Reaches, grown}
+use Rattle.fx_base.specs.Rect.{Holds, IsUpTo, grown}
 use Rattle.fx_base.proofs.RectLemmas.{Holds-grown}
-use Rattle.fx_base.proofs.RectLaws.{IsRect-grown, IsUpTo-grown, IsUpTo-more, IsUpTo-none}
+use Rattle.fx_base.proofs.RectLaws.{IsRect-grown, IsUpTo-grown, IsUpTo-none}
 use Rattle.fx_props.specs.Entries.{region_of}
 use Rattle.fx_kernel.specs.Around.{square}
 use Rattle.fx_kernel.specs.AroundLaws.{All-square}
-use Rattle.fx_effect.specs.Tap.{Tap, tap}
+use Rattle.fx_effect.specs.Tap.{tap}
 use Rattle.fx_effect.specs.Default.{default_spans}
 use Rattle.fx_effect.specs.DefaultLaws.{covered_here}
 use Rattle.fx_effect.specs.Laws.{IsCovered}

@@ -1,10 +1,11 @@
 //! The least or the greatest sample of a square. The samples of the whole area are picked in place, first
 //! along columns and then along rows: windows of 1, 2, 4 and more samples are each made of two that are
 //! half as long, so that the work grows with the logarithm of the radius.
-ghost use Rattle.std.specs.Prelude.{◌≡◌, ◌≢◌, ◌≤◌, ◌<◌, ◌+◌, ◌*◌, ℕ, pos, ◌+ℤ◌, length, IfOk, OnOk, vec_len};
+ghost use Rattle.std.specs.Prelude.{◌≡◌, ◌≢◌, ◌≤◌, ◌<◌, ◌+◌, ◌*◌, ℕ, pos, ◌+ℤ◌, length, slice_index, IfOk, OnOk, vec_len};
 ghost use Rattle.fx_base.specs.Bounds.{none};
 ghost use Rattle.fx_base.specs.Rect.{columns, rows, IsStep, IsUpTo};
 ghost use Rattle.fx_pixel.specs.Pixel.{size};
+ghost use Rattle.fx_pixel.specs.declared.Depth.TheVariants.{Short};
 ghost use Rattle.fx_image.specs.Stored.{pixel_size, sample_in, pixel_in};
 ghost use Rattle.fx_image.specs.Part.{IsPart, SamePart, IsWritten};
 ghost use Rattle.fx_effect.specs.Given.{ShowsClip};
@@ -13,6 +14,7 @@ ghost use Rattle.fx_area.specs.Erode.{radius as radius_of};
 ghost use Rattle.fx_area.specs.Gathered.{AreGathered, ArePicked, IsProperArea, ShowsArea, IsCopied, area_pixel, extreme_pixel};
 
 use crate::lines::{Line, lend_line};
+use crate::shorts::{LANES, bytes_of, samples_of};
 use fx_base::{Memory, Rect, offset};
 use fx_effect::{Inputs, RowKernel, Values, fill_with};
 use fx_image::Part;
@@ -20,6 +22,7 @@ use fx_image::samples::{copy_pixels, pixel_size, sample, set_sample};
 use fx_kernel::blank_bytes;
 use fx_pixel::{Components, Depth};
 use std::alloc::Global;
+use std::simd::prelude::*;
 
 // As many samples are picked at once, apart from those that they are picked of.
 const BLOCK: usize = 256;
@@ -40,6 +43,17 @@ impl Extreme {
         match self {
             Extreme::Least => a.min(b),
             Extreme::Greatest => a.max(b),
+        }
+    }
+
+    // What is picked at each of 16 places.
+    #[inline(always)]
+    fn pick_lanes(self, a: u16x16, b: u16x16) -> u16x16
+        ensures { (i : ℕ) → i < 16 → slice_index result i ≡ pick self (slice_index a i) (slice_index b i) }
+    {
+        match self {
+            Extreme::Least => a.simd_min(b),
+            Extreme::Greatest => a.simd_max(b),
         }
     }
 }
@@ -204,8 +218,7 @@ fn gather(
     }
 }
 
-// Picks of each sample and the one `shift` behind it. Shorts cost more to take apart in lanes than is won, so they are
-// picked one by one.
+// Picks of each sample and the one `shift` behind it.
 fn spread(extreme: Extreme, depth: Depth, bytes: &mut [u8], count: usize, shift: usize)
     requires long { length bytes.old ≡ count * size depth }
     ensures { (s : ℕ) → s + shift < count → sample_in depth bytes.new s
@@ -215,34 +228,50 @@ fn spread(extreme: Extreme, depth: Depth, bytes: &mut [u8], count: usize, shift:
         (Extreme::Least, Depth::Byte) => {
             spread_blocks(Extreme::Least, Depth::Byte, bytes, count, shift)
         }
-        (Extreme::Least, Depth::Short) => {
-            spread_each(Extreme::Least, Depth::Short, bytes, count, shift)
-        }
+        (Extreme::Least, Depth::Short) => { spread_shorts(Extreme::Least, bytes, count, shift) }
         (Extreme::Greatest, Depth::Byte) => {
             spread_blocks(Extreme::Greatest, Depth::Byte, bytes, count, shift)
         }
         (Extreme::Greatest, Depth::Short) => {
-            spread_each(Extreme::Greatest, Depth::Short, bytes, count, shift)
+            spread_shorts(Extreme::Greatest, bytes, count, shift)
         }
     }
 }
 
-// The depth is a constant in each arm, so that the loop decides nothing of it.
+// The same for samples of 16 bits: 16 at once, and those that are left one by one.
 #[inline(always)]
-fn spread_each(extreme: Extreme, depth: Depth, bytes: &mut [u8], count: usize, shift: usize)
-    requires long { length bytes.old ≡ count * size depth }
-    ensures { (s : ℕ) → s + shift < count → sample_in depth bytes.new s
-        ≡ pick extreme (sample_in depth bytes.old s) (sample_in depth bytes.old (s + shift)) }
+fn spread_shorts(extreme: Extreme, bytes: &mut [u8], count: usize, shift: usize)
+    requires long { length bytes.old ≡ count * 2 }
+    ensures { (s : ℕ) → s + shift < count → sample_in Short bytes.new s
+        ≡ pick extreme (sample_in Short bytes.old s) (sample_in Short bytes.old (s + shift)) }
 {
-    for s in 0..count.saturating_sub(shift) {
-        let a = sample(depth, bytes, s);
-        let b = sample(depth, bytes, s + shift);
-        set_sample(depth, bytes, s, extreme.pick(a, b));
+    let whole = count.saturating_sub(shift) / LANES;
+    for block in 0..whole {
+        let at = 2 * LANES * block;
+        let here = samples_of(u8x32::from_slice(&bytes[at..]));
+        let there = samples_of(u8x32::from_slice(&bytes[at + 2 * shift..]));
+        bytes_of(extreme.pick_lanes(here, there)).copy_to_slice(&mut bytes[at..]);
+    }
+    spread_each(extreme, bytes, LANES * whole, count, shift);
+}
+
+// The same for the samples of 16 bits from the one with number `first` on.
+#[inline(always)]
+fn spread_each(extreme: Extreme, bytes: &mut [u8], first: usize, count: usize, shift: usize)
+    requires long { length bytes.old ≡ count * 2 }
+    ensures done { (s : ℕ) → first ≤ s → s + shift < count → sample_in Short bytes.new s
+        ≡ pick extreme (sample_in Short bytes.old s) (sample_in Short bytes.old (s + shift)) }
+    ensures left { (s : ℕ) → s < first → sample_in Short bytes.new s ≡ sample_in Short bytes.old s }
+{
+    for s in first..count.saturating_sub(shift) {
+        let a = sample(Depth::Short, bytes, s);
+        let b = sample(Depth::Short, bytes, s + shift);
+        set_sample(Depth::Short, bytes, s, extreme.pick(a, b));
     }
 }
 
-// The same, block by block: a block is made apart from the samples and then takes their place, so that the compiler
-// knows that none of them changes meanwhile, and picks 16 at once.
+// The same for samples of 8 bits, block by block: a block is made apart from the samples and then takes their place, so
+// that the compiler knows that none of them changes meanwhile, and picks 16 at once.
 #[inline(always)]
 fn spread_blocks(extreme: Extreme, depth: Depth, bytes: &mut [u8], count: usize, shift: usize)
     requires long { length bytes.old ≡ count * size depth }

@@ -8,6 +8,7 @@ mod dilate;
 mod erode;
 mod extreme;
 mod lines;
+mod shorts;
 
 pub use boxblur::Boxblur;
 pub use convolve3::Convolve3;

@@ -1,4 +1,4 @@
-use Rattle.std.proofs.Common.{◌≡◌, ◌&&◌, Bool, ℕ, pos, ap, sym}
+use Rattle.std.proofs.Common.{◌&&◌, ℕ, pos, ap, sym}
 use Rattle.std.specs.Ordering.{int_eq}
 use Rattle.std.proofs.Math.Bool.{and-true}
 use Rattle.fx_effect.specs.Numbers.{number}

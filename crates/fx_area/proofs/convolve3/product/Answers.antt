@@ -1,6 +1,5 @@
-use Rattle.std.proofs.Common.{◌≡◌, ◌*ℤ◌, pos, w64, to_z, of_z, arith, refl}
+use Rattle.std.proofs.Common.{◌≡◌, ◌*ℤ◌, pos, w64, to_z, of_z, arith}
 use Rattle.std.proofs.lemmas.Int.{ints, to_z-of_z}
-use Rattle.fx_base.specs.Rect.{IsStep}
 use Rattle.fx_image.proofs.ImageLaws.{fits_near}
 use Rattle.fx_area.proofs.ConvolveLaws.{product_near}
 use Rattle.fx_area.proofs.convolve3.product.Goals as goal

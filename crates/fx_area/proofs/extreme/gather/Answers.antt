@@ -1,5 +1,4 @@
-use Rattle.std.proofs.Common.{◌≡◌, ◌≤◌, ◌<◌, ◌*◌, ◌∙◌, subst, ap, sym, arith}
-use Rattle.std.proofs.Math.Nat.{mul-le-mul_left}
+use Rattle.std.proofs.Common.{◌≡◌, subst, arith}
 use Rattle.fx_area.specs.Gathered.{AreGathered}
 use Rattle.fx_area.proofs.GatherLaws.{gathered_one, gathered_more}
 use Rattle.fx_area.proofs.extreme.gather.Goals as goal

@@ -1,4 +1,4 @@
-use Rattle.std.proofs.Common.{ℕ, ◌+◌, ◌*◌, subst}
+use Rattle.std.proofs.Common.{◌+◌, ◌*◌, subst}
 use Rattle.fx_area.specs.Gathered.{AreGathered}
 use Rattle.fx_area.proofs.AreaLaws.{tall_room}
 use Rattle.fx_area.proofs.extreme.pick_squares.Goals as goal

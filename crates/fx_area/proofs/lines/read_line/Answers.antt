@@ -1,9 +1,9 @@
-use Rattle.std.proofs.Common.{◌≡◌, ◌<◌, ◌∙◌, ℕ, ℤ, pos, ◌+ℤ◌, sym, subst, ap, refl, arith, w64, to_z, of_z, FitsSigned, rules}
+use Rattle.std.proofs.Common.{◌≡◌, pos, ◌+ℤ◌, sym, subst, arith, w64, to_z, of_z, FitsSigned, rules}
 use Rattle.std.proofs.lemmas.Int.{ints, to_z-of_z}
 use Rattle.fx_base.specs.Bounds.{Bounds}
 use Rattle.fx_effect.specs.Given.{row_pixel}
 use Rattle.fx_effect.specs.Rows.{IsLine, ShowsRow}
-use Rattle.fx_area.proofs.LineLaws.{line_rect, line_is, line_row, line_pixel}
+use Rattle.fx_area.proofs.LineLaws.{line_is, line_row, line_pixel}
 use Rattle.fx_area.proofs.lines.read_line.Goals as goal
 
 pub read_row-requires-clause-row : goal.read_row-requires-clause-row

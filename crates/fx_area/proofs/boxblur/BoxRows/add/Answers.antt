@@ -1,4 +1,4 @@
-use Rattle.std.proofs.Common.{◌≡◌, ◌<◌, ◌+◌, ◌*◌, ◌∙◌, ℕ, pos, ◌+ℤ◌, ◌-ℤ◌, length, slice_index, sym, subst, ap, arith, w64, rules}
+use Rattle.std.proofs.Common.{◌≡◌, ◌<◌, ◌+◌, ◌*◌, ◌∙◌, ℕ, pos, ◌+ℤ◌, ◌-ℤ◌, slice_index, sym, subst, ap, arith, w64, rules}
 use Rattle.std.proofs.lemmas.Int.{ints, to_z-of_z}
 use Rattle.fx_base.specs.Rect.{IsStep}
 use Rattle.fx_base.proofs.RectLaws.{gap_is}

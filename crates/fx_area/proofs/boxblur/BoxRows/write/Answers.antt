@@ -1,4 +1,4 @@
-use Rattle.std.proofs.Common.{◌≡◌, ◌≤◌, ◌<◌, ◌∙◌, ℕ, ◌+◌, ◌*◌, pos, ◌+ℤ◌, map, ap, arith, w64, FitsSigned, rules}
+use Rattle.std.proofs.Common.{◌≡◌, ◌∙◌, ◌+◌, ◌*◌, map, ap, arith, w64, FitsSigned, rules}
 use Rattle.std.proofs.lemmas.Int.{to_z-of_z}
 use Rattle.fx_base.specs.Rect.{columns}
 use Rattle.fx_pixel.specs.Pixel.{greatest, count}

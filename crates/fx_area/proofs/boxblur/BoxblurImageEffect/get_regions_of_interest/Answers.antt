@@ -1,4 +1,3 @@
-use Rattle.std.proofs.Common.{subst, sym}
 use Rattle.fx_area.specs.Boxblur.{boxblur, rx, ry}
 use Rattle.fx_area.specs.BoxblurLaws.{boxblur_laws}
 use Rattle.fx_area.proofs.AnswerLaws.{interest_fits, grown_by, wrote_interest}

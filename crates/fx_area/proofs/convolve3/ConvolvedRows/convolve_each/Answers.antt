@@ -1,4 +1,4 @@
-use Rattle.std.proofs.Common.{◌≡◌, ◌≢◌, ◌<◌, ◌+◌, ◌∙◌, ℕ, ap, refl, below_more, arith}
+use Rattle.std.proofs.Common.{◌≢◌, ◌∙◌, ap, refl, below_more, arith}
 use Rattle.fx_pixel.specs.Pixel.{greatest}
 use Rattle.fx_area.specs.Convolve3.{rounded_z}
 use Rattle.fx_kernel.specs.Samples.{clamped}

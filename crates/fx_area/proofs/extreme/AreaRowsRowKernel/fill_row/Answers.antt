@@ -1,6 +1,6 @@
-use Rattle.std.proofs.Common.{◌≡◌, ◌≤◌, ◌<◌, ◌+◌, ◌*◌, ◌∙◌, length, ap, sym, arith, w64, FitsSigned, rules}
+use Rattle.std.proofs.Common.{◌≡◌, ◌+◌, ◌*◌, ◌∙◌, length, ap, arith, w64, FitsSigned, rules}
 use Rattle.std.specs.Int.{int_gap}
-use Rattle.std.proofs.lemmas.Int.{ints, to_z-of_z}
+use Rattle.std.proofs.lemmas.Int.{to_z-of_z}
 use Rattle.fx_base.specs.Rect.{columns, rows}
 use Rattle.fx_image.specs.Stored.{pixel_size, pixel_in}
 use Rattle.fx_image.proofs.ImageLaws.{gap_below, place_from}
