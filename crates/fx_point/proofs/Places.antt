@@ -26,7 +26,7 @@ bytes_fit xs long small =
     (λ j low. record { fits = omega (arith, small j (omega (arith, low, long))) })
 
 -- a lane that is picked
-picked : (xs : List ℕ) (place : ℕ → ℕ) (j : ℕ) → j < 32
+pub picked : (xs : List ℕ) (place : ℕ → ℕ) (j : ℕ) → j < 32
     → get_or (pick_l 0 xs (map place (range_with_len 0 32))) j 0 ≡ get_or xs (place j) 0
 picked xs place j low =
     ap (λ lanes. get_or lanes j 0) (map-map (λ k. get_or xs k 0) place (range_with_len 0 32))

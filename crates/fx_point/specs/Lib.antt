@@ -6,6 +6,7 @@ pub mod Invert
 pub mod InvertLaws
 pub mod Lanes
 pub mod Levels
+pub mod Picks
 pub mod Posterise
 pub mod PosteriseLaws
 pub mod Premult

@@ -1,6 +1,7 @@
 //! The effect shuffle.
-ghost use Rattle.std.specs.Prelude.{◌≡◌};
+ghost use Rattle.std.specs.Prelude.{◌≡◌, ◌<◌, ℕ, slice_index};
 ghost use Rattle.fx_point.specs.Shuffle.{shuffle, chosen, shuffled, keeps_all, IsChoice};
+ghost use Rattle.fx_point.specs.Picks.{place_of, IsPlace, ArePicked};
 ghost use Rattle.fx_point.specs.ShuffleLaws.{shuffle_laws};
 
 use crate::filter::describe;
@@ -15,6 +16,7 @@ use fx_params::ParamDef;
 use fx_pixel::{Components, Depth, Pixel};
 use fx_props::PropSet;
 use std::alloc::Global;
+use std::simd::prelude::*;
 
 /// Makes each of r, g, b and a one of the pixel's samples, or 0: a filter for RGBA. It has one clip,
 /// Source, and the parameters r, g, b and a, each one of the choices r, g, b, a and zero.
@@ -127,6 +129,9 @@ fn keeps_all(values: &Values) -> bool
         & (values.number(3) == 3)
 }
 
+// The place that stands for 0 where bytes are picked.
+const NO_PLACE: u8 = 128;
+
 // What is made of a pixel, by the places of the choices.
 #[derive(Clone, Copy)]
 struct Shuffling {
@@ -155,6 +160,11 @@ impl PointKernel for Shuffling {
             Pixel::Alpha { a } => Pixel::Alpha { a },
         }
     }
+
+    fn eight(&self, pixels: u8x32) -> u8x32 {
+        let places = [place(self.r), place(self.g), place(self.b), place(self.a)];
+        picked(pixels, u8x4::from_array(places))
+    }
 }
 
 // The samples are lent, so that they are stored once a pixel and not once a choice.
@@ -164,4 +174,31 @@ fn chosen(samples: &[u16; 5], choice: i64) -> u16
     ensures { result ≡ chosen samples.now choice }
 {
     samples[choice as usize]
+}
+
+// The place of a choice among the bytes of a pixel. What is chosen last is 0, and has none: it is put at 128.
+#[inline(always)]
+fn place(choice: i64) -> u8
+    requires { IsChoice choice }
+    ensures { result ≡ place_of choice }
+{
+    if choice == 4 { NO_PLACE } else { choice as u8 }
+}
+
+// Of each pixel the bytes at the places, and 0 for no place.
+#[inline(always)]
+fn picked(pixels: u8x32, places: u8x4) -> u8x32
+    requires { (k : ℕ) → k < 4 → IsPlace (slice_index places k) }
+    ensures { ArePicked pixels places result }
+{
+    // A lane is read from its own half of the vector, at a place that is counted from there.
+    let firsts = u8x32::from_array([
+        0, 0, 0, 0, 4, 4, 4, 4, 8, 8, 8, 8, 12, 12, 12, 12, 0, 0, 0, 0, 4, 4, 4, 4, 8, 8, 8, 8, 12,
+        12, 12, 12,
+    ]);
+    let all = places.swizzle([
+        0, 1, 2, 3, 0, 1, 2, 3, 0, 1, 2, 3, 0, 1, 2, 3, 0, 1, 2, 3, 0, 1, 2, 3, 0, 1, 2, 3, 0, 1,
+        2, 3,
+    ]);
+    pixels.swizzle_dyn_within::<16>(all + firsts)
 }
