@@ -1,10 +1,11 @@
 -- Four sums in lanes of 64 bits: what they gain and lose, and their means.
-use Rattle.std.proofs.Common.{◌≡◌, ◌≤◌, ◌<◌, ◌⊎◌, inl, inr, subst, ℕ, zero, suc, ◌+◌, ◌-◌, ◌*◌, ◌/◌, ◌%◌, ◌^◌, List, [], ◌∷◌, map, length, get_or, slice_index, replicate, ap, ◌∙◌, arith, w8, w32, w64, Fits}
-use Rattle.std.proofs.lemmas.Nat.{div-add-mod', mul-le}
+use Rattle.std.proofs.Common.{◌≡◌, ◌≤◌, ◌<◌, ◌⊎◌, inl, inr, subst, ℕ, zero, suc, ◌+◌, ◌-◌, ◌*◌, ◌/◌, ◌%◌, ◌^◌, List, [], ◌∷◌, map, length, get_or, slice_index, replicate, ap, ◌∙◌, arith, w8, Fits, bit_and}
+use Rattle.std.proofs.lemmas.Nat.{mul-le, and_mask}
 use Rattle.std.proofs.lemmas.Simd.{get_or-zip2, length-zip2, get_or-chunk, length-chunk, get_or-put_chunk_below, get_or-put_chunk_at, Each1-from_get_or}
 use lib.Lanes.{zip2, chunk, put_chunk, Each1}
 use Rattle.std.proofs.lemmas.Bool.{cases_lt}
 use Rattle.fx_kernel.specs.Window.{AreSmall, window, strided}
+use Rattle.fx_kernel.specs.Factor.{HasByteFactor}
 use Rattle.fx_kernel.specs.Samples.{rounded}
 use Rattle.fx_kernel.specs.SampleLaws.{rounded_bound}
 use Rattle.fx_kernel.proofs.FactorLaws.{by_factor, excess}
@@ -97,77 +98,59 @@ pixels_next want row made i long room done new j k below low = by (cases_lt j i)
 
 -- ---- means of bytes
 
-abbrev pub halves : ℕ → ℕ → List ℕ → List ℕ
-halves n count xs = zip2 added (zip2 added xs xs) (replicate n count)
+abbrev masked : ℕ → ℕ → ℕ
+masked a b = bit_and a b
 
-abbrev pub quotients : ℕ → ℕ → ℕ → List ℕ → List ℕ
-quotients n count factor xs =
-    zip2 (λ a b. a / 2 ^ b) (zip2 times (map same (map same (halves n count xs))) (replicate n factor)) (replicate n 42)
+abbrev pub quotients : ℕ → ℕ → ℕ → ℕ → List ℕ → List ℕ
+quotients n count factor shift xs =
+    zip2 (λ a b. a / 2 ^ b) (zip2 times (zip2 masked (zip2 added (zip2 added xs xs) (replicate n count)) (replicate n 4294967295)) (replicate n factor)) (replicate n shift)
 
-module _ (count factor : ℕ) (some : 0 < count) (few : count ≤ 65536) (is : factor ≡ 4398046511104 / (2 * count) + 1) where
-  some_more : 0 < 2 * count
-  some_more = omega arith
+mask_small : (a : ℕ) → a < 4294967296 → bit_and a 4294967295 ≡ a
+mask_small a small = and_mask a 32 ∙ omega arith
 
-  product_small : (p e : ℕ) → p ≤ count * 511 → e ≤ 2 * count → p * e < 4398046511104
-  product_small p e low high = omega (arith, mul-le p e (count * 511) (2 * count) low high, mul-le count count 65536 65536 few few)
+module _ (count factor shift : ℕ) (some : 0 < count) (few : count ≤ 65536) (is : HasByteFactor count factor shift) where
+  product_small : (p e : ℕ) → p ≤ count * 511 → e ≤ 2 * count → p * e < 2 ^ shift
+  product_small p e low high = omega (arith, mul-le p e (count * 511) (2 * count) low high, is.room)
 
-  product_fits : (p : ℕ) → p ≤ count * 511 → p * factor < 18446744073709551616
-  product_fits p low =
-      let quotient = 4398046511104 / (2 * count) in
-      let least : p * quotient ≤ (count * 511) * quotient = mul-le p quotient (count * 511) quotient low (omega arith) in
-      let whole : quotient * (2 * count) + 4398046511104 % (2 * count) ≡ 4398046511104 = div-add-mod' 4398046511104 (2 * count) in
-      rw is (omega (arith, least, whole))
-
-  one_quotient : (x : ℕ) → x ≤ count * 255 → times (added (added x x) count) factor / 2 ^ 42 ≡ rounded x count
+  one_quotient : (x : ℕ) → x ≤ count * 255 → times (masked (added (added x x) count) 4294967295) factor / 2 ^ shift ≡ rounded x count
   one_quotient x low =
-      let half : added (added x x) count ≡ 2 * x + count = omega arith in
-      let rest = 2 * count - 4398046511104 % (2 * count) in
-      let product : times (2 * x + count) factor ≡ (2 * x + count) * factor = omega (arith, product_fits (2 * x + count) (omega arith)) in
-      let most : rest ≤ 2 * count = omega arith in
-      rw (half, product, is)
-      (by_factor (2 * x + count) (2 * count) (4398046511104 / (2 * count) + 1) rest 4398046511104 some_more (excess (2 * count) 4398046511104 some_more)
-      (product_small (2 * x + count) rest (omega arith) most))
+      let p = 2 * x + count in
+      let d = 2 * count in
+      let k = 2 ^ shift in
+      let least : p ≤ count * 511 = omega arith in
+      let sum : added (added x x) count ≡ p = omega arith in
+      let mask : masked p 4294967295 ≡ p = mask_small p (omega arith) in
+      let fits : p * factor ≤ 33488896 * 4294967295 = mul-le p factor 33488896 4294967295 (omega arith) (omega (arith, is.short)) in
+      let product : times p factor ≡ p * factor = omega (arith, fits) in
+      let some_more : 0 < d = omega arith in
+      let most : d - k % d ≤ d = omega arith in
+      rw (sum, mask, product, is.value)
+      (by_factor p d (k / d + 1) (d - k % d) k some_more (excess d k some_more) (product_small p (d - k % d) least most))
 
   quotient_at : (n : ℕ) (xs : List ℕ) (k : ℕ) → length xs ≡ n → k < n → Each1 (λ x. x ≤ count * 255) xs
-      → get_or (map same (quotients n count factor xs)) k 0 ≡ rounded (get_or xs k 0) count
+      → get_or (map same (quotients n count factor shift xs)) k 0 ≡ rounded (get_or xs k 0) count
   quotient_at zero xs k long inside low = absurd (omega arith)
   quotient_at (suc n) [] k long inside low = absurd (omega arith)
   quotient_at (suc n) (x ∷ xs) zero long inside low = one_quotient x low.0
   quotient_at (suc n) (x ∷ xs) (suc k) long inside low = quotient_at n xs k (omega arith) (omega arith) low.1
 
-  halves_fit : (n : ℕ) (xs : List ℕ) → Each1 (λ x. x ≤ count * 255) xs → Each1 (Fits w32) (halves n count xs)
-  halves_fit n [] low = tt
-  halves_fit zero (x ∷ xs) low = tt
-  halves_fit (suc n) (x ∷ xs) low = (record { fits = let small = low.0 in omega arith }, halves_fit n xs low.1)
-
-  wider_fit : (n : ℕ) (xs : List ℕ) → Each1 (λ x. x ≤ count * 255) xs → Each1 (Fits w64) (map same (halves n count xs))
-  wider_fit n [] low = tt
-  wider_fit zero (x ∷ xs) low = tt
-  wider_fit (suc n) (x ∷ xs) low = (record { fits = let small = low.0 in omega arith }, wider_fit n xs low.1)
-
-  quotients_fit : (n : ℕ) (xs : List ℕ) → Each1 (λ x. x ≤ count * 255) xs → Each1 (Fits w8) (quotients n count factor xs)
+  quotients_fit : (n : ℕ) (xs : List ℕ) → Each1 (λ x. x ≤ count * 255) xs → Each1 (Fits w8) (quotients n count factor shift xs)
   quotients_fit n [] low = tt
   quotients_fit zero (x ∷ xs) low = tt
   quotients_fit (suc n) (x ∷ xs) low =
       (record { fits = omega (arith, one_quotient x low.0, rounded_bound x count 255 some low.0) }, quotients_fit n xs low.1)
 
 -- of four sums, by a mean whose count is this one
-module _ (count factor mean : ℕ) (sums : List ℕ) (view : count ≡ mean) (some : 0 < count) (few : count ≤ 65536)
-    (is : factor ≡ 4398046511104 / (2 * mean) + 1) (long : length sums ≡ 4) (low : (k : ℕ) → k < 4 → slice_index sums k ≤ mean * 255) where
-  factor_is : factor ≡ 4398046511104 / (2 * count) + 1
-  factor_is = rw view is
+module _ (count factor shift mean : ℕ) (sums : List ℕ) (view : count ≡ mean) (some : 0 < count) (few : count ≤ 65536)
+    (has : HasByteFactor mean factor shift) (long : length sums ≡ 4) (low : (k : ℕ) → k < 4 → slice_index sums k ≤ mean * 255) where
+  is : HasByteFactor count factor shift
+  is = rw view has
 
   all_low : Each1 (λ x. x ≤ count * 255) sums
   all_low = Each1-from_get_or (λ x. x ≤ count * 255) sums 0 (λ k inside. rw view (low k (omega (arith, inside, long))))
 
-  pub four_halves_fit : Each1 (Fits w32) (halves 4 count sums)
-  four_halves_fit = halves_fit count factor some few factor_is 4 sums all_low
+  pub four_fit : Each1 (Fits w8) (quotients 4 count factor shift sums)
+  four_fit = quotients_fit count factor shift some few is 4 sums all_low
 
-  pub four_wider_fit : Each1 (Fits w64) (map same (halves 4 count sums))
-  four_wider_fit = wider_fit count factor some few factor_is 4 sums all_low
-
-  pub four_quotients_fit : Each1 (Fits w8) (quotients 4 count factor sums)
-  four_quotients_fit = quotients_fit count factor some few factor_is 4 sums all_low
-
-  pub four_means : (k : ℕ) → k < 4 → get_or (map same (quotients 4 count factor sums)) k 0 ≡ rounded (get_or sums k 0) mean
-  four_means k inside = quotient_at count factor some few factor_is 4 sums k long inside all_low ∙ ap (rounded (get_or sums k 0)) view
+  pub four_means : (k : ℕ) → k < 4 → get_or (map same (quotients 4 count factor shift sums)) k 0 ≡ rounded (get_or sums k 0) mean
+  four_means k inside = quotient_at count factor shift some few is 4 sums k long inside all_low ∙ ap (rounded (get_or sums k 0)) view

@@ -1,6 +1,7 @@
 //! Means of many sums of one count.
-ghost use Rattle.std.specs.Prelude.{◌≡◌, ◌≤◌, ◌<◌, ◌+◌, ◌*◌, ◌/◌, ℕ, length, slice_index};
+ghost use Rattle.std.specs.Prelude.{◌≡◌, ◌≤◌, ◌<◌, ◌*◌, ℕ, length, slice_index};
 ghost use Rattle.fx_pixel.specs.Pixel.{greatest};
+ghost use Rattle.fx_kernel.specs.Factor.{HasByteFactor};
 ghost use Rattle.fx_kernel.specs.Samples.{rounded};
 
 use fx_pixel::Depth;
@@ -31,8 +32,16 @@ impl Model for Mean {
 // The quotients are those of 2^64.
 const SHIFT: u32 = 64;
 
-// Those of means of bytes are of 2^42: so their products have room in 64 bits, as those of lanes must.
-const BYTE_SHIFT: u64 = 42;
+// A reciprocal for means of bytes: 2^shift divided by twice the count, and 1 more. It has 32 bits, so that
+// its products have room in the 64 bits of a lane.
+#[derive(Clone, Copy)]
+pub(crate) struct ByteFactor {
+    factor: u32,
+    shift: u32,
+}
+
+// Below this count a quotient of 2^42 may have more than 32 bits, and far above it those of 2^32 are too coarse.
+const MANY: u64 = 1024;
 
 impl Mean {
     /// For sums of so many samples, from 1 to 65,536.
@@ -68,21 +77,34 @@ impl Mean {
 
     // What `bytes` multiplies by.
     #[inline(always)]
-    pub(crate) fn byte_factor(self) -> u64
-        ensures { result ≡ 4398046511104 / (2 * self) + 1 }
+    pub(crate) fn byte_factor(self) -> ByteFactor
+        ensures { HasByteFactor self result.factor result.shift }
     {
-        (1 << BYTE_SHIFT) / (2 * self.count) + 1
+        let twice = 2 * self.count;
+        if self.count < MANY {
+            ByteFactor {
+                factor: ((1 << 32) / twice + 1) as u32,
+                shift: 32,
+            }
+        } else {
+            ByteFactor {
+                factor: ((1 << 42) / twice + 1) as u32,
+                shift: 42,
+            }
+        }
     }
 
     // The means of as many bytes, by each of four sums.
     #[inline(always)]
-    pub(crate) fn bytes(self, factor: u64, sums: u64x4) -> u8x4
-        requires factor { factor ≡ 4398046511104 / (2 * self) + 1 }
+    pub(crate) fn bytes(self, by: ByteFactor, sums: u64x4) -> u8x4
+        requires factor { HasByteFactor self by.factor by.shift }
         requires sums { (k : ℕ) → k < 4 → slice_index sums k ≤ self * 255 }
         ensures len { length result ≡ 4 }
         ensures value { (k : ℕ) → k < 4 → slice_index result k ≡ rounded (slice_index sums k) self }
     {
-        let halves = (sums + sums + u64x4::splat(self.count)).cast::<u32>();
-        ((halves.cast::<u64>() * u64x4::splat(factor)) >> BYTE_SHIFT).cast::<u8>()
+        // The mask changes nothing: with it the processor's product of 32 bits is enough.
+        let halves = (sums + sums + u64x4::splat(self.count)) & u64x4::splat(0xffff_ffff);
+        let products = halves * u64x4::splat(u64::from(by.factor));
+        (products >> u64::from(by.shift)).cast::<u8>()
     }
 }
