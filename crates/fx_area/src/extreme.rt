@@ -1,7 +1,8 @@
 //! The least or the greatest sample of a square. The samples of the whole area are picked in place, first
 //! along columns and then along rows: windows of 1, 2, 4 and more samples are each made of two that are
 //! half as long, so that the work grows with the logarithm of the radius.
-ghost use Rattle.std.specs.Prelude.{◌≡◌, ◌≢◌, ◌≤◌, ◌<◌, ◌+◌, ◌*◌, ℕ, pos, ◌+ℤ◌, length, slice_index, IfOk, OnOk, vec_len};
+ghost use Rattle.std.specs.Prelude.{◌≡◌, ◌≢◌, ◌≤◌, ◌<◌, ◌+◌, ◌*◌, ℕ, pos, ◌+ℤ◌};
+ghost use Rattle.std.specs.Prelude.{length, slice_index, IfOk, OnOk, vec_len};
 ghost use Rattle.fx_base.specs.Bounds.{none};
 ghost use Rattle.fx_base.specs.Rect.{columns, rows, IsStep, IsUpTo};
 ghost use Rattle.fx_pixel.specs.Pixel.{size};
@@ -218,7 +219,8 @@ fn gather(
     }
 }
 
-// Picks of each sample and the one `shift` behind it.
+// Picks of each sample and the one `shift` behind it. Which is picked is a constant in each arm, so that the loops
+// decide nothing of it.
 fn spread(extreme: Extreme, depth: Depth, bytes: &mut [u8], count: usize, shift: usize)
     requires long { length bytes.old ≡ count * size depth }
     ensures { (s : ℕ) → s + shift < count → sample_in depth bytes.new s
@@ -228,7 +230,7 @@ fn spread(extreme: Extreme, depth: Depth, bytes: &mut [u8], count: usize, shift:
         (Extreme::Least, Depth::Byte) => {
             spread_blocks(Extreme::Least, Depth::Byte, bytes, count, shift)
         }
-        (Extreme::Least, Depth::Short) => { spread_shorts(Extreme::Least, bytes, count, shift) }
+        (Extreme::Least, Depth::Short) => spread_shorts(Extreme::Least, bytes, count, shift),
         (Extreme::Greatest, Depth::Byte) => {
             spread_blocks(Extreme::Greatest, Depth::Byte, bytes, count, shift)
         }

@@ -11,8 +11,7 @@ pub(crate) const LANES: usize = 16;
 /// The samples that the bytes of a row hold.
 #[inline(always)]
 pub(crate) fn samples_of(bytes: u8x32) -> u16x16
-    ensures len { length result ≡ 16 }
-    ensures value { (i : ℕ) → i < 16 → slice_index result i ≡ sample_in Short bytes i }
+    ensures { (i : ℕ) → i < 16 → slice_index result i ≡ sample_in Short bytes i }
 {
     u16x16::from_le_bytes(swapped(bytes))
 }

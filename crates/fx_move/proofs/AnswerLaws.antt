@@ -1,5 +1,5 @@
 -- Regions that an effect computes are those of its meaning, and can be written.
-use Rattle.std.proofs.Common.{◌≡◌, ◌∙◌, ℕ, ℤ, refl, List, [], ◌∷◌, All, codes, sym, subst}
+use Rattle.std.proofs.Common.{◌≡◌, ◌∙◌, ℤ, refl, List, [], ◌∷◌, All, sym, subst}
 use Rattle.std.proofs.lemmas.List.Elements.{All-nil, All-cons}
 use Rattle.fx_base.specs.Bounds.{Bounds}
 use Rattle.fx_base.specs.Rect.{IsUpTo, rect_of}

@@ -1,11 +1,11 @@
 -- The rows that translate reads.
-use Rattle.std.proofs.Common.{◌≡◌, ◌≤◌, ◌<◌, ◌∙◌, ℕ, ◌+◌, ◌-◌, ◌*◌, ◌==◌, ℤ, pos, negsuc, ◌+ℤ◌, ◌-ℤ◌, ◌≤ℤ◌, ◌<ℤ◌, Bool, true, false, List, length, map, ap, refl, sym, subst, arith, w64, to_z, of_z, FitsSigned}
+use Rattle.std.proofs.Common.{◌≡◌, ◌<◌, ◌∙◌, ℕ, ◌+◌, ◌*◌, ◌==◌, ℤ, pos, negsuc, ◌+ℤ◌, ◌≤ℤ◌, ◌<ℤ◌, Bool, true, false, List, length, map, ap, refl, sym, subst, arith, w64, to_z, of_z, FitsSigned}
 use Rattle.std.specs.Int.{int_gap, int_min, int_max}
 use Rattle.std.proofs.lemmas.Bool.Decides.{nat_tests}
 use Rattle.std.proofs.lemmas.Int.{ints}
 use Rattle.fx_base.specs.Bounds.{Bounds}
-use Rattle.fx_base.specs.Rect.{Holds, IsNear, columns, within, shifted, stretched, hull, is_empty}
-use Rattle.fx_base.proofs.RectLemmas.{within-shifted, IsProper, IsProper-from_test, is_empty-proper, hull-proper}
+use Rattle.fx_base.specs.Rect.{Holds, IsNear, columns, shifted, stretched, hull, is_empty}
+use Rattle.fx_base.proofs.RectLemmas.{within-shifted, IsProper-from_test, is_empty-proper, hull-proper}
 use Rattle.fx_base.proofs.RectLaws.{gap_is}
 use Rattle.fx_pixel.specs.declared.Depth.{Depth}
 use Rattle.fx_pixel.specs.declared.Components.{Components}

@@ -1,18 +1,16 @@
 -- What every effect keeps, of crop.
-use Rattle.std.specs.Prelude.{◌≡◌, ◌<◌, ℕ, ◌+◌, ℤ, pos, negsuc, ◌≤ℤ◌, ◌+ℤ◌, Bool, true, false, ◌&&◌, ◌||◌, ◌↔◌, IsTrue, List, [], ◌∷◌, length, All, slice_index_or, if◌then◌else◌, refl}
+use Rattle.std.specs.Prelude.{◌≡◌, ℕ, ◌+◌, ℤ, pos, negsuc, Bool, true, false, ◌&&◌, ◌||◌, ◌↔◌, IsTrue, List, [], ◌∷◌, length, All, if◌then◌else◌, refl}
 use Rattle.std.specs.List.{Contains}
-use Rattle.std.specs.Int.Signed.{le_z}
-use Rattle.std.proofs.Common.{ap, sym, subst, arith, ◌∙◌}
-use Rattle.std.proofs.lemmas.Int.{ints}
+use Rattle.std.proofs.Common.{sym, subst, arith, ◌∙◌}
 use Rattle.std.proofs.lemmas.List.Elements.{All-nil, All-cons}
-use Rattle.fx_base.specs.Bounds.{Bounds, IsRect}
+use Rattle.fx_base.specs.Bounds.{Bounds}
 use Rattle.fx_base.specs.Rect.{Holds, IsWithin, within, is_empty, meet}
 use Rattle.fx_base.proofs.RectLemmas.{within-meet, IsWithin-empty, IsWithin-enclosed, IsProper-from_test, Encloses-from_test, Encloses-from_within, test-encloses, same_test}
 use Rattle.fx_base.proofs.RectLaws.{IsRect-meet, IsUpTo-meet}
 use Rattle.fx_pixel.specs.declared.Depth.{Depth}
 use Rattle.fx_pixel.specs.declared.Components.{Components}
 use Rattle.fx_pixel.specs.declared.Pixel.{Pixel}
-use Rattle.fx_pixel.specs.Pixel.{greatest, zero as clear, IsOfDepth, components_of}
+use Rattle.fx_pixel.specs.Pixel.{zero as clear, IsOfDepth, components_of}
 use Rattle.fx_pixel.specs.PixelLaws.{zero_form}
 use Rattle.fx_params.specs.declared.def.ParamDef.{ParamDef}
 use Rattle.fx_props.specs.Entries.{region_of}
@@ -26,10 +24,10 @@ use Rattle.fx_effect.specs.DefaultLaws.{default_spans_near, covered_here, second
 use Rattle.fx_effect.specs.Laws.{Laws, TapPixels, IsCovered, IsGiven, IsSameAs, IsZeroOutside}
 use Rattle.fx_effect.specs.ShapeTests.{shape_is}
 use Rattle.fx_effect.specs.declared.action.Context.{Context}
-use Rattle.fx_effect.specs.declared.action.Identity.TheVariants.{Same, No}
+use Rattle.fx_effect.specs.declared.action.Identity.TheVariants.{Same}
 use Rattle.fx_effect.specs.declared.values.Values.{Values}
 use Rattle.fx_effect.specs.SourceLaws.{source_flag, source_connected, same_source}
-use Rattle.fx_move.specs.Crop.{corner, crop_params, crop_rect, is_within, one_of, crop_taps, crop_shape, crop}
+use Rattle.fx_move.specs.Crop.{corner, crop_params, crop_rect, is_within, crop_taps, crop_shape, crop}
 
 both_true : (a b : Bool) → a ≡ true → b ≡ true → (a && b) ≡ true
 both_true true b h k = k

@@ -1,5 +1,5 @@
 -- The effect mirror: the source with its columns, or its rows, in the other order, within the project's extent.
-use Rattle.std.specs.Prelude.{ℕ, ℤ, pos, ◌-ℤ◌, Bool, false, List, [], ◌∷◌, codes, if◌then◌else◌}
+use Rattle.std.specs.Prelude.{ℤ, pos, ◌-ℤ◌, Bool, false, List, [], ◌∷◌, codes, if◌then◌else◌}
 use Rattle.std.specs.Ordering.{int_eq}
 use Rattle.fx_base.specs.Bounds.{Bounds}
 use Rattle.fx_base.specs.Rect.{rect_of}

@@ -1,22 +1,18 @@
 -- What every effect keeps, of mirror.
-use Rattle.std.specs.Prelude.{◌≡◌, ◌≤◌, ◌<◌, ℕ, ◌+◌, ℤ, pos, negsuc, neg_ℤ, ◌≤ℤ◌, ◌<ℤ◌, ◌+ℤ◌, ◌-ℤ◌, Bool, true, false, List, [], ◌∷◌, length, All, if◌then◌else◌, refl}
-use Rattle.std.proofs.Common.{arith, sym, subst, ◌∙◌}
+use Rattle.std.specs.Prelude.{◌≡◌, ℕ, ◌+◌, ℤ, pos, ◌≤ℤ◌, ◌-ℤ◌, Bool, true, false, List, [], ◌∷◌, length, All, refl}
+use Rattle.std.proofs.Common.{arith}
 use Rattle.std.proofs.lemmas.Int.{ints}
-use Rattle.std.proofs.lemmas.List.Elements.{All-nil, All-cons, All-head}
+use Rattle.std.proofs.lemmas.List.Elements.{All-nil, All-cons}
 use Rattle.fx_base.specs.Bounds.{Bounds, IsRect}
-use Rattle.fx_base.specs.Rect.{Holds, IsUpTo, IsStep, within, rect_of}
+use Rattle.fx_base.specs.Rect.{Holds, IsUpTo, IsStep}
 use Rattle.fx_base.proofs.RectLemmas.{IsInside, IsInside-from_holds, Holds-rect_of, rect_of-cases}
 use Rattle.fx_base.proofs.RectLaws.{IsRect-rect_of, IsUpTo-none}
-use Rattle.fx_pixel.specs.declared.Depth.{Depth}
-use Rattle.fx_pixel.specs.declared.Components.{Components}
-use Rattle.fx_pixel.specs.Pixel.{zero as clear}
 use Rattle.fx_props.specs.Entries.{region_of}
 use Rattle.fx_effect.specs.Tap.{Tap, tap}
 use Rattle.fx_effect.specs.Shape.{IsLawfulIn, IsProject}
-use Rattle.fx_effect.specs.Meaning.{mixed}
 use Rattle.fx_effect.specs.Default.{default_spans}
-use Rattle.fx_effect.specs.DefaultLaws.{default_spans_near, covered_here, region_near}
-use Rattle.fx_effect.specs.Laws.{Laws, TapPixels, IsCovered}
+use Rattle.fx_effect.specs.DefaultLaws.{default_spans_near, covered_here}
+use Rattle.fx_effect.specs.Laws.{Laws, IsCovered}
 use Rattle.fx_effect.specs.ShapeTests.{shape_is}
 use Rattle.fx_effect.specs.declared.action.Context.{Context}
 use Rattle.fx_effect.specs.declared.values.Values.{Values}

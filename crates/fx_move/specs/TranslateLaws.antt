@@ -1,46 +1,44 @@
 -- What every effect keeps, of translate.
-use Rattle.std.specs.Prelude.{◌≡◌, ◌≤◌, ◌<◌, ℕ, ◌+◌, ◌-◌, ◌*◌, ◌/◌, ◌==◌, ℤ, pos, negsuc, neg_ℤ, ◌≤ℤ◌, ◌<ℤ◌, ◌+ℤ◌, ◌-ℤ◌, ◌*ℤ◌, unsigned_abs, Bool, true, false, ◌&&◌, List, [], ◌∷◌, length, map, All, if◌then◌else◌, refl}
+use Rattle.std.specs.Prelude.{◌≡◌, ◌≤◌, ◌<◌, ℕ, ◌+◌, ◌-◌, ◌*◌, ◌/◌, ◌==◌, ℤ, pos, negsuc, neg_ℤ, ◌≤ℤ◌, ◌<ℤ◌, ◌+ℤ◌, ◌-ℤ◌, ◌*ℤ◌, unsigned_abs, Bool, true, false, ◌&&◌, List, [], ◌∷◌, length, map, All, refl}
 use Rattle.std.specs.List.{Contains}
 use Rattle.std.specs.Int.{int_div_euclid}
 use Rattle.std.specs.Ordering.{int_eq}
-use Rattle.std.proofs.Common.{zero, suc, inl, ap, sym, subst, arith, ◌∙◌}
+use Rattle.std.proofs.Common.{inl, ap, sym, subst, arith, ◌∙◌}
 use Rattle.std.proofs.Math.Nat.{mul-le-mul_left}
 use Rattle.std.proofs.lemmas.Bool.{and_parts}
-use Rattle.std.proofs.lemmas.Bool.Decides.{nat_tests, Decides-int_eq}
+use Rattle.std.proofs.lemmas.Bool.Decides.{Decides-int_eq}
 use Rattle.std.proofs.lemmas.Int.{ints}
 use Rattle.std.proofs.lemmas.List.Elements.{All-head, All-tail, All-map, All-weaker}
 use Rattle.fx_base.specs.Bounds.{Bounds, IsRect, none}
-use Rattle.fx_base.specs.Rect.{Holds, IsUpTo, IsStep, within, is_empty, stretched}
+use Rattle.fx_base.specs.Rect.{Holds, IsUpTo, IsStep, is_empty, stretched}
 use Rattle.fx_base.specs.Run.{int_run}
 use Rattle.fx_base.proofs.RunLaws.{All-run, All-flat_map}
 use Rattle.fx_base.proofs.CoverLemmas.{IsFloor-div}
-use Rattle.fx_base.proofs.RectLemmas.{IsInside, IsInside-from_holds, Holds-from_inside, IsProper, IsProper-from_test, IsProper-stretched, IsRect-proper, is_empty-proper}
+use Rattle.fx_base.proofs.RectLemmas.{IsInside-from_holds, Holds-from_inside, IsProper, IsProper-from_test, IsRect-proper, is_empty-proper}
 use Rattle.fx_base.proofs.RectLaws.{IsUpTo-none}
 use Rattle.fx_pixel.specs.declared.Depth.{Depth}
 use Rattle.fx_pixel.specs.declared.Components.{Components}
 use Rattle.fx_pixel.specs.declared.Pixel.{Pixel}
 use Rattle.fx_pixel.specs.Pixel.{greatest, zero as clear, IsOfDepth, components_of}
-use Rattle.fx_kernel.specs.Samples.{nth, each}
+use Rattle.fx_kernel.specs.Samples.{nth}
 use Rattle.fx_kernel.specs.SampleLaws.{nth_bound, nth_clear, each_same, each_of, each_clear, each_is_pixel}
 use Rattle.fx_kernel.specs.Blends.{in_units}
 use Rattle.fx_kernel.specs.BlendLaws.{in_units-bound}
-use Rattle.fx_params.specs.declared.def.ParamDef.{ParamDef}
 use Rattle.fx_props.specs.Entries.{region_of}
 use Rattle.fx_effect.specs.Tap.{Tap, tap}
 use Rattle.fx_effect.specs.Shape.{IsLawfulIn}
 use Rattle.fx_effect.specs.Numbers.{number}
-use Rattle.fx_effect.specs.NumberLaws.{Between, number_between}
-use Rattle.fx_effect.specs.Meaning.{mixed}
+use Rattle.fx_effect.specs.NumberLaws.{number_between}
 use Rattle.fx_effect.specs.Default.{default_spans}
 use Rattle.fx_effect.specs.DefaultLaws.{default_spans_near, covered_here}
-use Rattle.fx_effect.specs.Laws.{Laws, TapPixels, IsCovered, IsGiven, IsSameAs, IsZeroOutside}
+use Rattle.fx_effect.specs.Laws.{Laws, TapPixels, IsCovered, IsGiven, IsSameAs}
 use Rattle.fx_effect.specs.ShapeTests.{shape_is}
 use Rattle.fx_effect.specs.declared.action.Context.{Context}
-use Rattle.fx_effect.specs.declared.action.Identity.TheVariants.{Same, No}
+use Rattle.fx_effect.specs.declared.action.Identity.TheVariants.{Same}
 use Rattle.fx_effect.specs.declared.values.Values.{Values}
 use Rattle.fx_move.specs.declared.translate.Along.{Along}
 use Rattle.fx_effect.specs.SourceLaws.{source_flag, source_connected, same_source}
-use Rattle.fx_move.specs.Translate.{distance, translate_params, along, across, upward, extra, shares, places, weights, weighted, weighed, moved_to, moved_from, is_still, translate_shape, translate}
+use Rattle.fx_move.specs.Translate.{distance, translate_params, along, across, upward, extra, places, weights, weighted, weighed, moved_to, moved_from, is_still, translate_shape, translate}
 
 -- ---- distances
 

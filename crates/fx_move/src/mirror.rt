@@ -1,6 +1,7 @@
 //! The effect mirror.
-ghost use Rattle.std.specs.Prelude.{◌≡◌, ◌≤◌, ◌<◌, ◌+◌, ◌-◌, ◌*◌, ℕ, ℤ, pos, length};
+ghost use Rattle.std.specs.Prelude.{◌≡◌, ◌≤◌, ◌<◌, ◌+◌, ◌-◌, ◌*◌, ◌/◌, ℕ, ℤ, pos, length};
 ghost use Rattle.fx_base.specs.Rect.{columns, IsUpTo, IsStep};
+ghost use Rattle.fx_pixel.specs.declared.Components.TheVariants.{Rgba};
 ghost use Rattle.fx_image.specs.Stored.{pixel_size, pixel_in};
 ghost use Rattle.fx_effect.specs.Asked.{MayRender};
 ghost use Rattle.fx_effect.specs.Meaning.{rendered};
@@ -22,6 +23,7 @@ use fx_pixel::{Components, Depth};
 use fx_props::names::REGION;
 use fx_props::{PropSet, write_interest, write_region};
 use std::alloc::Global;
+use std::simd::prelude::*;
 
 /// The source with its columns in the other order, or its rows, within the project's extent: a filter. Its
 /// parameter axis is x for the columns and y for the rows.
@@ -30,6 +32,9 @@ pub struct Mirror;
 
 // The place of the clip Source.
 const SOURCE: u32 = 0;
+
+// How many bytes are turned at once.
+const LANES: usize = 32;
 
 impl ImageEffect for Mirror {
     ghost meaning = { λ _. mirror };
@@ -194,30 +199,66 @@ fn turn_pixels(depth: Depth, components: Components, source: &[u8], row: &mut [u
         → pixel_in depth components row.new i ≡ pixel_in depth components source.now ((n - 1) - i) }
 {
     match (depth, components) {
-        (Depth::Byte, Components::Rgba) => {
-            turn_each(Depth::Byte, Components::Rgba, source, row);
-        }
+        (Depth::Byte, Components::Rgba) => turn_blocks(Depth::Byte, source, row),
         (Depth::Byte, Components::Alpha) => {
-            turn_each(Depth::Byte, Components::Alpha, source, row);
+            turn_each(Depth::Byte, Components::Alpha, source, row, 0);
         }
-        (Depth::Short, Components::Rgba) => {
-            turn_each(Depth::Short, Components::Rgba, source, row);
-        }
+        (Depth::Short, Components::Rgba) => turn_blocks(Depth::Short, source, row),
         (Depth::Short, Components::Alpha) => {
-            turn_each(Depth::Short, Components::Alpha, source, row);
+            turn_each(Depth::Short, Components::Alpha, source, row, 0);
         }
     }
 }
 
-// The depth and the components are constants, so that the loop decides nothing of them.
+// The same for pixels of r, g, b and a: 32 bytes at once, and the pixels that are left one by one. The depth is a
+// constant, so that the loop decides nothing of it.
 #[inline(always)]
-fn turn_each(depth: Depth, components: Components, source: &[u8], row: &mut [u8])
+fn turn_blocks(depth: Depth, source: &[u8], row: &mut [u8])
     requires { length row.old ≡ length source.now }
-    ensures { (n i : ℕ) → n * pixel_size depth components ≡ length source.now → i < n
+    ensures { (n i : ℕ) → n * pixel_size depth Rgba ≡ length source.now → i < n
+        → pixel_in depth Rgba row.new i ≡ pixel_in depth Rgba source.now ((n - 1) - i) }
+{
+    let whole = source.len() / LANES;
+    for block in 0..whole {
+        let at = LANES * block;
+        let pixels = u8x32::from_slice(&source[source.len() - LANES - at..]);
+        turned(depth, pixels).copy_to_slice(&mut row[at..]);
+    }
+    let first = LANES / pixel_size(depth, Components::Rgba) * whole;
+    turn_each(depth, Components::Rgba, source, row, first);
+}
+
+// The pixels of r, g, b and a that 32 bytes have, in the other order.
+#[inline(always)]
+fn turned(depth: Depth, pixels: u8x32) -> u8x32
+    ensures len { length result ≡ 32 }
+    ensures value { let count = 32 / pixel_size depth Rgba in (i : ℕ) → i < count
+        → pixel_in depth Rgba result i ≡ pixel_in depth Rgba pixels ((count - 1) - i) }
+{
+    match depth {
+        Depth::Byte => pixels.swizzle([
+            28, 29, 30, 31, 24, 25, 26, 27, 20, 21, 22, 23, 16, 17, 18, 19, 12, 13, 14, 15, 8, 9,
+            10, 11, 4, 5, 6, 7, 0, 1, 2, 3,
+        ]),
+        Depth::Short => pixels.swizzle([
+            24, 25, 26, 27, 28, 29, 30, 31, 16, 17, 18, 19, 20, 21, 22, 23, 8, 9, 10, 11, 12, 13,
+            14, 15, 0, 1, 2, 3, 4, 5, 6, 7,
+        ]),
+    }
+}
+
+// The same from the pixel with number `first` on. The depth and the components are constants, so that the loop decides
+// nothing of them.
+#[inline(always)]
+fn turn_each(depth: Depth, components: Components, source: &[u8], row: &mut [u8], first: usize)
+    requires { length row.old ≡ length source.now }
+    ensures done { (n i : ℕ) → n * pixel_size depth components ≡ length source.now → i < n → first ≤ i
         → pixel_in depth components row.new i ≡ pixel_in depth components source.now ((n - 1) - i) }
+    ensures left { (i : ℕ) → i < first
+        → pixel_in depth components row.new i ≡ pixel_in depth components row.old i }
 {
     let count = source.len() / pixel_size(depth, components);
-    for i in 0..count {
+    for i in first..count {
         set_pixel(
             depth,
             row,

@@ -18,8 +18,8 @@ loop-block-preserved c =
     record {
       done = block_picked e c.args.shift block c.args.bytes.now row made long room inv.done inv.left
           (λ i low. c.bytes_of.ensures.value i low ∙ c.pick_lanes.ensures i low
-          ∙ ap (λ a. pick e a (slice_index c.samples_of-there.result i)) (c.samples_of-here.ensures.value i low)
-          ∙ ap (pick e (sample_in Short (chunk (32 * block) 32 row) i)) (c.samples_of-there.ensures.value i low));
+          ∙ ap (λ a. pick e a (slice_index c.samples_of-there.result i)) (c.samples_of-here.ensures i low)
+          ∙ ap (pick e (sample_in Short (chunk (32 * block) 32 row) i)) (c.samples_of-there.ensures i low));
       left = λ k behind. stored_behind block row made k long behind ∙ inv.left k (omega arith);
     }
 

@@ -3,8 +3,8 @@ use Rattle.std.proofs.lemmas.Simd.{get_or_wider, Each1-get_or, Each1-from_get_or
 use Rattle.fx_area.proofs.ShortLaws.{partner, lane_of_bytes}
 use Rattle.fx_area.proofs.shorts.samples_of.Goals as goal
 
-pub returns-clause-value : goal.returns-clause-value
-returns-clause-value c i low =
+pub returns : goal.returns
+returns c i low =
     let bytes = c.args.bytes in
     let turned = c.swapped.result in
     let long = c.swapped.ensures.len in

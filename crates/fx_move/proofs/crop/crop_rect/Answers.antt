@@ -1,4 +1,4 @@
-use Rattle.std.proofs.Common.{◌≡◌, pos, ◌+ℤ◌, arith, w64, to_z, of_z}
+use Rattle.std.proofs.Common.{◌+ℤ◌, arith, w64, to_z, of_z}
 use Rattle.std.proofs.lemmas.Int.{ints}
 use Rattle.fx_effect.specs.Numbers.{number}
 use Rattle.fx_move.specs.CropLaws.{crop_numbers}

@@ -1,4 +1,4 @@
-use Rattle.std.proofs.Common.{◌≡◌, ◌∙◌, true, false, pos, ◌-ℤ◌, sym, ap, arith, w64, to_z, of_z}
+use Rattle.std.proofs.Common.{◌≡◌, ◌∙◌, true, false, ◌-ℤ◌, sym, ap, arith, w64, to_z, of_z}
 use Rattle.std.proofs.lemmas.Int.{ints}
 use Rattle.fx_base.specs.Bounds.{Bounds}
 use Rattle.fx_move.specs.Mirror.{turns_columns}

@@ -1,4 +1,4 @@
-use Rattle.std.proofs.Common.{◌≡◌, ◌∙◌, ℤ, pos, ◌+ℤ◌, ap, arith, w64, to_z, of_z}
+use Rattle.std.proofs.Common.{◌∙◌, pos, ◌+ℤ◌, ap, arith, w64, to_z, of_z}
 use Rattle.std.proofs.lemmas.Int.{ints}
 use Rattle.fx_base.specs.Rect.{hull, shifted}
 use Rattle.fx_move.specs.Translate.{extra}

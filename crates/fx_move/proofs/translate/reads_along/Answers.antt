@@ -1,7 +1,6 @@
-use Rattle.std.proofs.Common.{◌≡◌, ◌∙◌, ℕ, ◌/◌, ℤ, pos, neg_ℤ, ◌≤ℤ◌, ◌-ℤ◌, ◌*ℤ◌, unsigned_abs, ap, subst, sym, refl, arith, w64, to_z, of_z}
+use Rattle.std.proofs.Common.{◌≡◌, ◌∙◌, ℕ, ◌/◌, ℤ, pos, neg_ℤ, ◌-ℤ◌, ◌*ℤ◌, unsigned_abs, ap, subst, sym, refl, arith, w64, to_z, of_z}
 use Rattle.std.specs.Int.{int_div_euclid}
 use Rattle.std.proofs.lemmas.Int.{ints}
-use Rattle.fx_move.specs.declared.translate.Along.{Along}
 use Rattle.fx_move.specs.Translate.{along}
 use Rattle.fx_move.specs.TranslateLaws.{IsAlong, along_is}
 use Rattle.fx_move.proofs.translate.reads_along.Goals as goal

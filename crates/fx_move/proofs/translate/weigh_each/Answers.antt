@@ -1,7 +1,4 @@
-use Rattle.std.proofs.Common.{◌≡◌, ◌≢◌, ◌<◌, ◌+◌, ◌∙◌, ℕ, refl, below_more, arith}
-use Rattle.fx_pixel.specs.Pixel.{count}
-use Rattle.fx_image.specs.Stored.{sample_in}
-use Rattle.fx_move.specs.TranslateRows.{of_four, weighed_sample}
+use Rattle.std.proofs.Common.{◌≢◌, ◌∙◌, refl, below_more, arith}
 use Rattle.fx_move.proofs.RowFits.{sample_below}
 use Rattle.fx_move.proofs.translate.weigh_each.Goals as goal
 

@@ -1,4 +1,4 @@
-use Rattle.std.proofs.Common.{◌≡◌, ◌<◌, ◌/◌, ℕ}
+use Rattle.std.proofs.Common.{◌≡◌, ◌<◌, ℕ}
 use Rattle.fx_pixel.specs.Pixel.{count}
 use Rattle.fx_image.specs.Stored.{sample_in}
 use Rattle.fx_move.specs.TranslateRows.{weighed_sample}

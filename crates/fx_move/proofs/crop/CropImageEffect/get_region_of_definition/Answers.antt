@@ -1,6 +1,6 @@
 use Rattle.std.proofs.Common.{◌∙◌, ap}
 use Rattle.fx_base.specs.Rect.{meet}
-use Rattle.fx_move.specs.Crop.{crop, crop_rect}
+use Rattle.fx_move.specs.Crop.{crop}
 use Rattle.fx_move.specs.CropLaws.{crop_laws}
 use Rattle.fx_move.proofs.AnswerLaws.{region_fits}
 use Rattle.fx_move.proofs.crop.CropImageEffect.get_region_of_definition.Goals as goal

@@ -1,8 +1,8 @@
-use Rattle.std.proofs.Common.{◌≡◌, ◌∙◌, ◌∷◌, [], codes, ap, subst}
+use Rattle.std.proofs.Common.{◌∙◌, ◌∷◌, [], codes, ap, subst}
 use Rattle.fx_base.specs.Bounds.{Bounds}
 use Rattle.fx_base.specs.Rect.{meet}
 use Rattle.fx_props.specs.Entries.{Wrote, interest, region_of}
-use Rattle.fx_move.specs.Crop.{crop, crop_rect}
+use Rattle.fx_move.specs.Crop.{crop}
 use Rattle.fx_move.specs.CropLaws.{crop_laws}
 use Rattle.fx_move.proofs.AnswerLaws.{interest_fits}
 use Rattle.fx_move.proofs.crop.CropImageEffect.get_regions_of_interest.Goals as goal

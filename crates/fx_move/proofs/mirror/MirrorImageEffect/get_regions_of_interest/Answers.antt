@@ -1,4 +1,4 @@
-use Rattle.std.proofs.Common.{◌≡◌, ◌∙◌, ◌∷◌, [], codes, ap, subst}
+use Rattle.std.proofs.Common.{◌∙◌, ◌∷◌, [], codes, ap, subst}
 use Rattle.fx_base.specs.Bounds.{Bounds}
 use Rattle.fx_props.specs.Entries.{Wrote, interest, region_of}
 use Rattle.fx_move.specs.Mirror.{mirror, mirrored}

@@ -1,10 +1,9 @@
-use Rattle.std.proofs.Common.{◌≡◌, ◌∙◌, true, false, pos, ◌≤ℤ◌, sym, subst, ap, refl, arith, w64, to_z, of_z, FitsSigned, rules}
+use Rattle.std.proofs.Common.{◌≡◌, ◌∙◌, true, false, sym, subst, ap, refl, arith, w64, to_z, of_z, FitsSigned, rules}
 use Rattle.std.proofs.lemmas.Int.{ints, to_z-of_z}
 use Rattle.std.specs.Int.{int_gap}
 use Rattle.fx_base.specs.Bounds.{Bounds}
 use Rattle.fx_base.specs.Rect.{columns}
 use Rattle.fx_base.proofs.RectLaws.{IsUpTo-near, IsUpTo-more}
-use Rattle.fx_image.specs.Stored.{pixel_size}
 use Rattle.fx_image.proofs.ImageLaws.{gap_below, place_from}
 use Rattle.fx_effect.specs.Given.{row_pixel}
 use Rattle.fx_effect.specs.Rows.{IsLine, ShowsRow}

@@ -1,4 +1,4 @@
-use Rattle.std.proofs.Common.{◌≡◌, ◌∙◌, ◌+◌, ◌*◌, length, ℤ, pos, ◌+ℤ◌, sym, subst, ap, refl, arith, w64, to_z, of_z, FitsSigned, rules}
+use Rattle.std.proofs.Common.{◌∙◌, ◌+◌, ◌*◌, length, pos, ◌+ℤ◌, sym, subst, ap, refl, arith, w64, to_z, of_z, FitsSigned, rules}
 use Rattle.std.proofs.lemmas.Int.{ints, to_z-of_z}
 use Rattle.std.specs.Int.{int_gap}
 use Rattle.fx_base.specs.Bounds.{Bounds}

@@ -1,6 +1,4 @@
-use Rattle.std.proofs.Common.{◌≡◌, ◌<◌, ◌+◌, ◌-◌, ◌*◌, ℕ, ap, arith}
-use Rattle.fx_move.specs.declared.translate.Along.{Along}
-use Rattle.fx_move.specs.TranslateRows.{AreWeights, four_weights}
+use Rattle.std.proofs.Common.{◌≡◌, ◌+◌, ◌-◌, ◌*◌, ℕ, ap, arith}
 use Rattle.fx_move.proofs.translate.Weights.of.Goals as goal
 
 whole : (a w b u : ℕ) → a + w ≡ 256 → b + u ≡ 256 → a * b + a * u + w * b + w * u ≡ 65536
