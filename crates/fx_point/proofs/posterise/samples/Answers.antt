@@ -52,7 +52,8 @@ level last p some few low =
     let small : full * rest < 16777216 =
     omega (arith, mul-le full rest 65152 255 (omega (arith, few, low)) (omega (arith, few))) in
     let quotient : full * reciprocal last / 16777216 ≡ rounded (p * 255) last =
-    by_factor full last (reciprocal last) rest 16777216 some (excess last 16777216 some) small ∙ halves (p * 255) last in
+    by_factor full last (reciprocal last) rest 16777216 some (excess last 16777216 some) small
+    ∙ halves (p * 255) last in
     let fits : full * reciprocal last % 4294967296 ≡ full * reciprocal last =
     omega (arith, quotient, level_bound last p some low) in
     ap (λ n. n * reciprocal last % 4294967296 / 16777216) plain ∙ ap (λ n. n / 16777216) fits ∙ quotient
