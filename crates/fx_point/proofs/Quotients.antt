@@ -18,7 +18,7 @@ rest_low p d q r m e k whole is low small =
     ]
 
 -- where the product of m and d is k and an excess, and the excess is small
-by_factor : (p d m e k : ℕ) → 0 < d → m * d ≡ k + e → p * e < k → p * m / k ≡ p / d
+pub by_factor : (p d m e k : ℕ) → 0 < d → m * d ≡ k + e → p * e < k → p * m / k ≡ p / d
 by_factor p d m e k some is small =
     let q = p / d in
     let r = p % d in
@@ -27,7 +27,7 @@ by_factor p d m e k some is small =
     rw split (div-mul-add q k (q * e + r * m) (rest_low p d q r m e k whole is (mod_below p d some) small))
 
 -- the factor is more than 2^32 over its divisor, by a part of 1
-excess : (d k : ℕ) → 0 < d → (k / d + 1) * d ≡ k + (d - k % d)
+pub excess : (d k : ℕ) → 0 < d → (k / d + 1) * d ≡ k + (d - k % d)
 excess d k some = omega (arith, div-add-mod' k d, mod_below k d some)
 
 small : (p e : ℕ) → p ≤ 131071 → e ≤ 510 → p * e < 4294967296

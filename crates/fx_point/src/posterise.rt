@@ -1,10 +1,12 @@
 //! The effect posterise.
-ghost use Rattle.std.specs.Prelude.{◌≡◌, ◌≤◌, ◌≤ℤ◌, pos};
-ghost use Rattle.fx_point.specs.Levels.{HasLevels, of_depth};
+ghost use Rattle.std.specs.Prelude.{◌≡◌, ◌≤◌, ◌<◌, ◌*◌, ◌≤ℤ◌, pos, ℕ, slice_index};
+ghost use Rattle.fx_kernel.specs.Samples.{rounded};
+ghost use Rattle.fx_point.specs.Levels.{HasLevels, HasSteps, of_depth, reciprocal};
 ghost use Rattle.fx_point.specs.Posterise.{posterise, posterised};
 ghost use Rattle.fx_point.specs.PosteriseLaws.{posterise_laws};
 
 use crate::filter::describe;
+use crate::lanes::{divided, products, recoloured};
 use fx_base::{Memory, Rect};
 use fx_core::Ticket;
 use fx_effect::{
@@ -16,6 +18,7 @@ use fx_params::ParamDef;
 use fx_pixel::{Components, Depth, Pixel};
 use fx_props::PropSet;
 use std::alloc::Global;
+use std::simd::prelude::*;
 
 /// Brings each of r, g and b to the nearest of some levels, and keeps a: a filter for RGBA at byte depth.
 /// It has one clip, Source, and the parameter levels, from 2 to 256.
@@ -107,16 +110,18 @@ impl ImageEffect for Posterise {
     }
 }
 
-// What is made of a pixel of bytes, by the levels and what they make of each byte. The effect renders no
-// other pixels, and those stay.
+// What is made of a pixel of bytes, by the levels and what they make of each byte, and of eight pixels by
+// the place of the last level and what divides by it. The effect renders no other pixels, and those stay.
 #[derive(Clone, Copy)]
 struct Posterising {
     levels: i64,
     table: [u8; 256],
+    last: u8,
+    factor: u32,
 }
 
 impl PointKernel for Posterising {
-    ghost is_ready = { λ k. HasLevels k.levels k.table };
+    ghost is_ready = { λ k. HasLevels k.levels k.table × HasSteps k.levels k.last k.factor };
 
     ghost of = { λ k depth p. of_depth k.levels depth p };
 
@@ -131,6 +136,11 @@ impl PointKernel for Posterising {
             _ => p,
         }
     }
+
+    fn eight(&self, pixels: u8x32) -> u8x32 {
+        let places = divided(products(pixels, u8x32::splat(self.last)));
+        recoloured(pixels, samples(places, self.last, self.factor))
+    }
 }
 
 impl Posterising {
@@ -138,12 +148,20 @@ impl Posterising {
         requires { (pos 2 ≤ℤ levels) × (levels ≤ℤ pos 256) }
         ensures levels { result.levels ≡ levels }
         ensures table { HasLevels levels result.table }
+        ensures steps { HasSteps levels result.last result.factor }
     {
         let mut table = [0; 256];
         for c in 0..256 {
             table[c] = posterised(levels, c as u64);
         }
-        Posterising { levels, table }
+        let last = (levels - 1) as u8;
+        let factor = (1 << 24) / u32::from(last) + 1;
+        Posterising {
+            levels,
+            table,
+            last,
+            factor,
+        }
     }
 }
 
@@ -155,4 +173,17 @@ fn posterised(levels: i64, c: u64) -> u8
     let last = levels as u64 - 1;
     let place = (2 * c * last + 255) / 510;
     ((2 * place * 255 + last) / (2 * last)) as u8
+}
+
+// The samples of levels, by their places from 0 to the last.
+#[inline(always)]
+fn samples(places: u8x32, last: u8, factor: u32) -> u8x32
+    requires some { 0 < last }
+    requires factor { factor ≡ reciprocal last }
+    requires places { (j : ℕ) → j < 32 → slice_index places j ≤ last }
+    ensures { (j : ℕ) → j < 32 → slice_index result j ≡ rounded (slice_index places j * 255) last }
+{
+    let half = u32x32::splat(u32::from(last / 2));
+    let raised = places.cast::<u32>() * u32x32::splat(255) + half;
+    ((raised * u32x32::splat(factor)) >> 24).cast::<u8>()
 }
