@@ -1,3 +1,4 @@
-mod LaneLaws
+pub mod LaneLaws
+pub mod ByteLaws
 mod FactorLaws
 mod WindowLaws
