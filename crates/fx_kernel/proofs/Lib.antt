@@ -1,4 +1,5 @@
-mod LaneLaws
+pub mod LaneLaws
+pub mod ByteLaws
 mod FactorLaws
 mod FourLaws
 mod WindowLaws

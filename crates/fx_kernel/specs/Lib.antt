@@ -9,3 +9,4 @@ pub mod Sums
 pub mod SumLaws
 pub mod RowLaws
 pub mod Factor
+pub mod Lanes

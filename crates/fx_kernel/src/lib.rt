@@ -6,6 +6,7 @@
 mod blend;
 mod bytes;
 mod cells;
+pub mod lanes;
 mod mean;
 mod products;
 mod windows;

@@ -1,17 +1,12 @@
 -- Vector operations lane by lane, on samples of 8 bits.
-use Rattle.std.proofs.Common.{◌≡◌, refl, ◌≤◌, ◌<◌, ℕ, zero, suc, ◌+◌, ◌-◌, ◌*◌, ◌/◌, ◌%◌, ◌^◌, min, max, Bool, true, false, cond, ltb, List, [], ◌∷◌, map, length, get_or, replicate, ◌++◌, ap, ◌∙◌, arith, w8, Fits, ltb-true, ltb-false}
-use Rattle.std.proofs.lemmas.Nat.{mul-le}
-use Rattle.std.specs.List.{range_with_len}
-use Rattle.std.proofs.lemmas.List.{get_or_append_left}
-use Rattle.std.proofs.lemmas.List.FromFn.{get_or-map-range_with_len}
+use Rattle.std.proofs.Common.{◌≡◌, refl, ◌≤◌, ◌<◌, ℕ, zero, suc, ◌+◌, ◌-◌, ◌*◌, ◌%◌, ◌^◌, min, max, Bool, true, false, cond, ltb, List, [], ◌∷◌, map, length, get_or, ap, ◌∙◌, arith, ltb-true, ltb-false}
 use Rattle.std.proofs.lemmas.Simd.{length-zip2, get_or-zip2}
-use lib.Lanes.{zip2, sel_l, top, Each1}
+use lib.Lanes.{zip2, sel_l, top}
 use Rattle.fx_pixel.specs.declared.Depth.TheVariants.{Byte}
 use Rattle.fx_pixel.specs.declared.Components.TheVariants as components
 use Rattle.fx_pixel.specs.declared.Pixel.TheVariants.{Rgba}
-use Rattle.fx_kernel.specs.Samples.{rounded}
 use Rattle.fx_kernel.specs.Blends.{product}
-use Rattle.fx_kernel.specs.BlendLaws.{product_bound}
+use Rattle.fx_kernel.specs.Lanes.{AreAlphas}
 use Rattle.fx_effect.specs.Rows.{MakesPairs}
 use Rattle.fx_merge.specs.declared.operation.Operation.{Operation}
 use Rattle.fx_merge.specs.Merge.{operated, merged}
@@ -57,11 +52,6 @@ one_excess a b few low = rw (one_most a b) (omega arith)
 
 -- ---- at each lane
 
-pub lane_low : (xs : List ℕ) (i : ℕ) → Each1 (Fits w8) xs → get_or xs i 0 ≤ 255
-lane_low [] i fits = omega arith
-lane_low (x ∷ xs) zero fits = let low = fits.0.fits in omega arith
-lane_low (x ∷ xs) (suc i) fits = lane_low xs i fits.1
-
 pub least_at : (xs ys : List ℕ) (i : ℕ) → i < length xs → i < length ys
     → get_or (chosen xs ys xs ys) i 0 ≡ min (get_or xs i 0) (get_or ys i 0)
 least_at [] ys i p q = absurd (omega arith)
@@ -90,57 +80,6 @@ excess_at (x ∷ xs) [] i p q few low = absurd (omega arith)
 excess_at (x ∷ xs) (y ∷ ys) zero p q few low = one_excess x y few low
 excess_at (x ∷ xs) (y ∷ ys) (suc i) p q few low = excess_at xs ys i (omega arith) (omega arith) few low
 
--- ---- products
-
-abbrev same : ℕ → ℕ
-same a = a
-
--- what is rounded of the products, in lanes of 16 bits
-abbrev pub sums : ℕ → List ℕ → List ℕ → List ℕ
-sums n xs ys =
-    zip2 (λ a b. (a + b) % 2 ^ 16) (zip2 (λ a b. (a * b) % 2 ^ 16) (map same xs) (map same ys)) (replicate n 127)
-
-abbrev pub quotients : ℕ → List ℕ → List ℕ → List ℕ
-quotients n xs ys = zip2 (λ a b. a / b) (sums n xs ys) (replicate n 255)
-
--- a quotient by 255 in 16 bits is rounded as any other
-quotient_is : (p : ℕ) → p ≤ 65025 → (p % 2 ^ 16 + 127) % 2 ^ 16 / 255 ≡ rounded p 255
-quotient_is p few = omega arith
-
-one_product : (a b : ℕ) → a ≤ 255 → b ≤ 255 → (a * b % 2 ^ 16 + 127) % 2 ^ 16 / 255 ≡ product 255 a b
-one_product a b few low = quotient_is (a * b) (mul-le a b 255 255 few low)
-
-product_low : (a b : ℕ) → a ≤ 255 → b ≤ 255 → product 255 a b ≤ 255
-product_low a b few low = product_bound 255 a b (omega arith) few low
-
-pub product_at : (n : ℕ) (xs ys : List ℕ) (i : ℕ) → length xs ≡ n → length ys ≡ n → i < n → Each1 (Fits w8) xs
-    → Each1 (Fits w8) ys → get_or (map same (quotients n xs ys)) i 0 ≡ product 255 (get_or xs i 0) (get_or ys i 0)
-product_at zero xs ys i p q low f g = absurd (omega arith)
-product_at (suc n) [] ys i p q low f g = absurd (omega arith)
-product_at (suc n) (x ∷ xs) [] i p q low f g = absurd (omega arith)
-product_at (suc n) (x ∷ xs) (y ∷ ys) zero p q low f g =
-    one_product x y (lane_low (x ∷ xs) 0 f) (lane_low (y ∷ ys) 0 g)
-product_at (suc n) (x ∷ xs) (y ∷ ys) (suc i) p q low f g =
-    product_at n xs ys i (omega arith) (omega arith) (omega arith) f.1 g.1
-
-pub quotients_long : (n : ℕ) (xs ys : List ℕ) → length xs ≡ n → length ys ≡ n
-    → length (map same (quotients n xs ys)) ≡ n
-quotients_long zero [] ys p q = refl
-quotients_long zero (x ∷ xs) ys p q = absurd (omega arith)
-quotients_long (suc n) [] ys p q = absurd (omega arith)
-quotients_long (suc n) (x ∷ xs) [] p q = absurd (omega arith)
-quotients_long (suc n) (x ∷ xs) (y ∷ ys) p q = ap suc (quotients_long n xs ys (omega arith) (omega arith))
-
-pub quotients_fit : (n : ℕ) (xs ys : List ℕ) → Each1 (Fits w8) xs → Each1 (Fits w8) ys
-    → Each1 (Fits w8) (quotients n xs ys)
-quotients_fit n [] ys f g = tt
-quotients_fit n (x ∷ xs) [] f g = tt
-quotients_fit zero (x ∷ xs) (y ∷ ys) f g = tt
-quotients_fit (suc n) (x ∷ xs) (y ∷ ys) f g =
-    let few = lane_low (x ∷ xs) 0 f in
-    let low = lane_low (y ∷ ys) 0 g in
-    (record { fits = omega (arith, one_product x y few low, product_low x y few low) }, quotients_fit n xs ys f.1 g.1)
-
 -- ---- a sum less a product
 
 one_screen : (a b : ℕ) → a ≤ 255 → b ≤ 255 → added b (less a (product 255 a b)) ≡ a + b - product 255 a b
@@ -155,21 +94,10 @@ screen_at xs ys ps i p q r inside few low is =
     ∙ ap (added (get_or ys i 0)) (get_or-zip2 less xs ps i 0 0 0 (omega arith) (omega arith) ∙ ap (less (get_or xs i 0)) is)
     ∙ one_screen (get_or xs i 0) (get_or ys i 0) few low
 
--- ---- the a of each pixel
-
-abbrev own : ℕ → ℕ
-own i = 4 * (i / 4) + 3
-
-pub alphas_at : (xs : List ℕ) (i : ℕ) → length xs ≡ 32 → i < 32
-    → get_or (map (λ j. get_or (xs ++ xs) (own j) 0) (range_with_len 0 32)) i 0 ≡ get_or xs (own i) 0
-alphas_at xs i long inside =
-    get_or-map-range_with_len (λ j. get_or (xs ++ xs) (own j) 0) 0 32 i i 0 inside (omega arith)
-    ∙ get_or_append_left xs xs 0 (own i) (omega arith)
-
 -- ---- eight pixels
 
 pub eight_pixels : (operation : Operation) (alphas a b made : List ℕ) → length a ≡ 32
-    → ((i : ℕ) → i < 32 → get_or alphas i 0 ≡ get_or a (own i) 0)
+    → AreAlphas a alphas
     → ((i : ℕ) → i < 32 → get_or made i 0 ≡ operated operation 255 (get_or alphas i 0) (get_or a i 0) (get_or b i 0))
     → MakesPairs Byte components.Rgba (merged operation 255) a b made
 eight_pixels operation alphas a b made long shown at i room =

@@ -1,27 +1,23 @@
 -- What every effect keeps, of merge.
-use Rattle.std.specs.Prelude.{◌≡◌, ◌≤◌, ◌<◌, ℕ, ◌+◌, ◌-◌, ◌*◌, ℤ, List, [], ◌∷◌, length, All, refl}
-use Rattle.std.specs.List.{Contains}
-use Rattle.std.proofs.Common.{zero, suc, inl, inr, ap, sym, subst, arith, ◌∙◌}
+use Rattle.std.specs.Prelude.{◌≡◌, ◌≤◌, ◌<◌, ℕ, ◌+◌, ◌-◌, ◌*◌, length, All, refl}
+use Rattle.std.proofs.Common.{inl, inr, ap, subst, arith, ◌∙◌}
 use Rattle.std.proofs.Math.Nat.{mul-le-mul_left}
 use Rattle.std.proofs.lemmas.Bool.{cases_lt}
 use Rattle.std.proofs.lemmas.Nat.{le-div}
 use Rattle.std.proofs.lemmas.List.Elements.{All-from_recursion}
-use Rattle.fx_base.specs.Bounds.{Bounds}
-use Rattle.fx_base.specs.Rect.{Holds}
 use Rattle.fx_pixel.specs.declared.Depth.{Depth}
 use Rattle.fx_pixel.specs.declared.Depth.TheVariants as depths
 use Rattle.fx_pixel.specs.declared.Components.{Components}
 use Rattle.fx_pixel.specs.declared.Components.TheVariants as components
 use Rattle.fx_pixel.specs.declared.Pixel.{Pixel}
 use Rattle.fx_pixel.specs.Pixel.{greatest, zero as clear, IsOfDepth, components_of}
-use Rattle.fx_props.specs.Entries.{region_of}
 use Rattle.fx_effect.specs.Shape.{IsLawfulIn}
 use Rattle.fx_effect.specs.ShapeTests.{shape_is}
 use Rattle.fx_effect.specs.Numbers.{number}
 use Rattle.fx_effect.specs.Laws.{Laws}
 use Rattle.fx_effect.specs.DefaultLaws.{default_spans_near, flag_for_each}
 use Rattle.fx_effect.specs.Default.{default_spans}
-use Rattle.fx_effect.specs.Local.{Read, IsRead, local_laws}
+use Rattle.fx_effect.specs.Local.{IsRead, local_laws}
 use Rattle.fx_effect.specs.declared.action.Context.{Context}
 use Rattle.fx_effect.specs.declared.values.Values.{Values}
 use Rattle.fx_kernel.specs.Samples.{nth, each, rounded}

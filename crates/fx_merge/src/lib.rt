@@ -3,7 +3,6 @@
 #![tactic(auto)]
 
 mod keymix;
-mod lanes;
 mod merge;
 mod operation;
 

@@ -9,7 +9,6 @@ ghost use Rattle.fx_effect.specs.Pairs.{ShowsPair, pair_pixel};
 ghost use Rattle.fx_merge.specs.Merge.{merge, merge_shape, merged, operation_at};
 ghost use Rattle.fx_merge.specs.MergeLaws.{merge_laws};
 
-use crate::lanes;
 use crate::operation::{Max, Min, Minus, Multiply, Operation, Over, Plus, SampleRule, Screen};
 use fx_base::{Memory, Rect};
 use fx_core::Ticket;
@@ -19,6 +18,7 @@ use fx_effect::{
 };
 use fx_gate::Hold;
 use fx_image::Part;
+use fx_kernel::lanes;
 use fx_params::ParamDef;
 use fx_pixel::{Components, Depth, Pixel};
 use fx_props::PropSet;

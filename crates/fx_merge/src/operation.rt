@@ -6,8 +6,7 @@ ghost use Rattle.fx_merge.specs.Merge.{operated};
 ghost use Rattle.fx_merge.specs.declared.operation.Operation.{Operation as Operations};
 ghost use Rattle.fx_merge.specs.declared.operation.Operation.TheVariants as operation;
 
-use crate::lanes;
-use fx_kernel::product;
+use fx_kernel::{lanes, product};
 use fx_pixel::Depth;
 use std::simd::prelude::*;
 

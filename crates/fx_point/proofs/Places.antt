@@ -3,21 +3,20 @@ use Rattle.std.proofs.Common.{◌≡◌, ◌<◌, ◌≤◌, ℕ, ◌+◌, ◌*�
 use Rattle.std.specs.List.{range_with_len}
 use Rattle.std.proofs.lemmas.List.FromFn.{get_or-map-range_with_len}
 use Rattle.std.proofs.lemmas.List.{get_or_append_left, get_or-append_right}
-use Rattle.std.proofs.lemmas.Simd.{map-map, Each1-get_or, Each1-from_get_or, bytes_below}
+use Rattle.std.proofs.lemmas.Simd.{map-map, Each1-from_get_or}
 use Rattle.std.specs.Simd.Lanes.{Each1, pick_l}
 use Rattle.fx_pixel.specs.declared.Depth.TheVariants as depths
 use Rattle.fx_pixel.specs.declared.Components.TheVariants as components
 use Rattle.fx_effect.specs.Rows.{MakesRow}
 use Rattle.fx_point.specs.Colours.{with_colours}
-use Rattle.fx_point.specs.Lanes.{alpha_place, AreAlphas, AreMade}
+use Rattle.fx_kernel.specs.Lanes.{alpha_place, AreAlphas}
+use Rattle.fx_kernel.proofs.ByteLaws.{lane_low}
+use Rattle.fx_point.specs.Lanes.{AreMade}
 
-pub byte_lane : (xs : List ℕ) (j : ℕ) → length xs ≡ 32 → Each1 (Fits w8) xs → j < 32 → get_or xs j 0 ≤ 255
-byte_lane xs j long fit low = Each1-get_or (λ x. x ≤ 255) xs j 0 (omega (arith, long)) (bytes_below xs fit)
-
-pub alpha_byte : (xs alphas : List ℕ) (j : ℕ) → length xs ≡ 32 → Each1 (Fits w8) xs → AreAlphas xs alphas → j < 32
+pub alpha_byte : (xs alphas : List ℕ) (j : ℕ) → Each1 (Fits w8) xs → AreAlphas xs alphas → j < 32
     → get_or alphas j 0 ≤ 255
-alpha_byte xs alphas j long fit is low =
-    let small = byte_lane xs (alpha_place j) long fit (omega arith) in omega (arith, is j low, small)
+alpha_byte xs alphas j fit is low =
+    let small = lane_low xs (alpha_place j) fit in omega (arith, is j low, small)
 
 -- lanes that fit in bytes
 pub bytes_fit : (xs : List ℕ) → length xs ≡ 32 → ((j : ℕ) → j < 32 → get_or xs j 0 ≤ 255) → Each1 (Fits w8) xs
@@ -31,11 +30,6 @@ pub picked : (xs : List ℕ) (place : ℕ → ℕ) (j : ℕ) → j < 32
 picked xs place j low =
     ap (λ lanes. get_or lanes j 0) (map-map (λ k. get_or xs k 0) place (range_with_len 0 32))
     ∙ get_or-map-range_with_len (λ k. get_or xs (place k) 0) 0 32 j j 0 low (omega arith)
-
-pub alphas_of : (xs : List ℕ) → length xs ≡ 32
-    → AreAlphas xs (pick_l 0 (xs ++ xs) (map alpha_place (range_with_len 0 32)))
-alphas_of xs long j low =
-    picked (xs ++ xs) alpha_place j low ∙ get_or_append_left xs xs 0 (alpha_place j) (omega (arith, long))
 
 -- r, g and b are of the lanes that were made, and a of those that were there
 abbrev kept_place : ℕ → ℕ

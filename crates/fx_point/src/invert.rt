@@ -4,7 +4,7 @@ ghost use Rattle.fx_point.specs.Invert.{invert, inverted};
 ghost use Rattle.fx_point.specs.InvertLaws.{invert_laws};
 
 use crate::filter::describe;
-use crate::lanes::{alphas, recoloured};
+use crate::lanes::recoloured;
 use fx_base::{Memory, Rect};
 use fx_core::Ticket;
 use fx_effect::{
@@ -12,6 +12,7 @@ use fx_effect::{
 };
 use fx_gate::Hold;
 use fx_image::Part;
+use fx_kernel::lanes::alphas;
 use fx_params::ParamDef;
 use fx_pixel::{Components, Depth, Pixel};
 use fx_props::PropSet;

@@ -5,7 +5,7 @@ ghost use Rattle.fx_point.specs.Premult.{premult, premultiplied};
 ghost use Rattle.fx_point.specs.PremultLaws.{premult_laws};
 
 use crate::filter::describe;
-use crate::lanes::{alphas, divided, products, recoloured};
+use crate::lanes::recoloured;
 use fx_base::{Memory, Rect};
 use fx_core::Ticket;
 use fx_effect::{
@@ -13,7 +13,7 @@ use fx_effect::{
 };
 use fx_gate::Hold;
 use fx_image::Part;
-use fx_kernel::product;
+use fx_kernel::{lanes, product};
 use fx_params::ParamDef;
 use fx_pixel::{Components, Depth, Pixel};
 use fx_props::PropSet;
@@ -123,7 +123,6 @@ impl PointKernel for Multiplying {
     }
 
     fn eight(&self, pixels: u8x32) -> u8x32 {
-        let made = divided(products(pixels, alphas(pixels)));
-        recoloured(pixels, made)
+        recoloured(pixels, lanes::product(pixels, lanes::alphas(pixels)))
     }
 }

@@ -5,8 +5,9 @@ use Rattle.std.proofs.lemmas.Nat.{mul-le}
 use Rattle.std.proofs.lemmas.Simd.{get_or-replicate, zip2_of_maps, splat_is_map}
 use Rattle.std.specs.Simd.Lanes.{Each1, zip2}
 use Rattle.fx_kernel.specs.Blends.{in_units}
+use Rattle.fx_kernel.proofs.ByteLaws.{lane_low}
 use Rattle.fx_point.proofs.Chosen.{chosen, chosen_lane, length_chosen}
-use Rattle.fx_point.proofs.Places.{byte_lane, bytes_fit}
+use Rattle.fx_point.proofs.Places.{bytes_fit}
 use Rattle.fx_point.proofs.gain.times.Goals as goal
 
 -- a product in 32 bits, half a unit more, without its 16 lowest bits
@@ -55,7 +56,7 @@ lane k lanes j long fit few low =
     let c = get_or lanes j 0 in
     let product : get_or xs j 0 ≡ in_units (c * k) =
     ap (λ ys. get_or ys j 0) (each k lanes long) ∙ get_or-map (by k) lanes j 0 0 (omega (arith, long))
-    ∙ whole c k (byte_lane lanes j long fit low) few in
+    ∙ whole c k (lane_low lanes j fit) few in
     chosen_lane w32 ltb 32 xs most xs most j wide refl wide refl low
     ∙ ap (λ b. cond (ltb (get_or xs j 0) b) (get_or xs j 0) b) (get_or-replicate 32 j 255 0 low)
     ∙ least (get_or xs j 0) ∙ ap (min 255) product

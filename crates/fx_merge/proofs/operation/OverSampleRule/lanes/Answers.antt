@@ -2,7 +2,8 @@ use Rattle.std.proofs.Common.{◌≡◌, ◌≤◌, ◌+◌, ◌-◌, min, get_o
 use Rattle.std.proofs.lemmas.List.{get_or-map}
 use Rattle.fx_kernel.specs.Blends.{product}
 use Rattle.fx_kernel.specs.BlendLaws.{product_bound}
-use Rattle.fx_merge.proofs.LaneLaws.{rest, lane_low, sum_at}
+use Rattle.fx_kernel.proofs.ByteLaws.{lane_low}
+use Rattle.fx_merge.proofs.LaneLaws.{rest, sum_at}
 use Rattle.fx_merge.proofs.operation.OverSampleRule.lanes.Goals as goal
 
 pub returns : goal.returns

@@ -1,5 +1,6 @@
 use Rattle.std.proofs.Common.{arith}
-use Rattle.fx_merge.proofs.LaneLaws.{lane_low, sum_at}
+use Rattle.fx_kernel.proofs.ByteLaws.{lane_low}
+use Rattle.fx_merge.proofs.LaneLaws.{sum_at}
 use Rattle.fx_merge.proofs.operation.PlusSampleRule.lanes.Goals as goal
 
 pub returns : goal.returns

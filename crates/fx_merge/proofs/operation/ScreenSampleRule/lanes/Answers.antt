@@ -1,4 +1,5 @@
-use Rattle.fx_merge.proofs.LaneLaws.{lane_low, screen_at}
+use Rattle.fx_kernel.proofs.ByteLaws.{lane_low}
+use Rattle.fx_merge.proofs.LaneLaws.{screen_at}
 use Rattle.fx_merge.proofs.operation.ScreenSampleRule.lanes.Goals as goal
 
 pub returns : goal.returns

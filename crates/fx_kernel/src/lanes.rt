@@ -1,13 +1,15 @@
 //! Pixels of 8 bits a sample with r, g, b and a, eight at once in 32 lanes.
-ghost use Rattle.std.specs.Prelude.{◌≡◌, ◌<◌, ℕ, ◌+◌, ◌*◌, ◌/◌, length, slice_index};
+ghost use Rattle.std.specs.Prelude.{◌≡◌, ◌<◌, ℕ, length, slice_index};
 ghost use Rattle.fx_kernel.specs.Blends.{product};
+ghost use Rattle.fx_kernel.specs.Lanes.{AreAlphas};
 
 use std::simd::prelude::*;
 
 /// The a of each pixel, at each of its samples.
 #[inline(always)]
 pub fn alphas(pixels: u8x32) -> u8x32
-    ensures { (i : ℕ) → i < 32 → slice_index result i ≡ slice_index pixels (4 * (i / 4) + 3) }
+    ensures len { length result ≡ 32 }
+    ensures value { AreAlphas pixels result }
 {
     pixels.swizzle([
         3, 3, 3, 3, 7, 7, 7, 7, 11, 11, 11, 11, 15, 15, 15, 15, 19, 19, 19, 19, 23, 23, 23, 23, 27,

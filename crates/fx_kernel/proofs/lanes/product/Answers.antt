@@ -1,7 +1,7 @@
 use Rattle.std.proofs.Common.{◌<◌, ℕ, arith}
 use Rattle.std.proofs.lemmas.Simd.{Each1-all, Each2-splat}
-use Rattle.fx_merge.proofs.LaneLaws.{sums, product_at, quotients_long, quotients_fit}
-use Rattle.fx_merge.proofs.lanes.product.Goals as goal
+use Rattle.fx_kernel.proofs.ByteLaws.{sums, product_at, quotients_long, quotients_fit}
+use Rattle.fx_kernel.proofs.lanes.product.Goals as goal
 
 pub nonzero_div-result : goal.nonzero_div-result
 nonzero_div-result c =
