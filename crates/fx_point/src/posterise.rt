@@ -6,7 +6,7 @@ ghost use Rattle.fx_point.specs.Posterise.{posterise, posterised};
 ghost use Rattle.fx_point.specs.PosteriseLaws.{posterise_laws};
 
 use crate::filter::describe;
-use crate::lanes::{divided, products, recoloured};
+use crate::lanes::recoloured;
 use fx_base::{Memory, Rect};
 use fx_core::Ticket;
 use fx_effect::{
@@ -14,6 +14,7 @@ use fx_effect::{
 };
 use fx_gate::Hold;
 use fx_image::Part;
+use fx_kernel::lanes;
 use fx_params::ParamDef;
 use fx_pixel::{Components, Depth, Pixel};
 use fx_props::PropSet;
@@ -138,7 +139,7 @@ impl PointKernel for Posterising {
     }
 
     fn eight(&self, pixels: u8x32) -> u8x32 {
-        let places = divided(products(pixels, u8x32::splat(self.last)));
+        let places = lanes::product(pixels, u8x32::splat(self.last));
         recoloured(pixels, samples(places, self.last, self.factor))
     }
 }

@@ -1,26 +1,20 @@
-use Rattle.std.proofs.Common.{◌≡◌, ◌≤◌, ◌<◌, ℕ, ◌+◌, ◌-◌, ◌*◌, ℤ, pos, List, length, get_or, replicate, ap, sym, arith, ◌∙◌, w8, Fits}
+use Rattle.std.proofs.Common.{◌≡◌, ◌<◌, ℕ, ◌+◌, ◌-◌, ◌*◌, ℤ, pos, List, get_or, replicate, ap, sym, arith, ◌∙◌}
 use Rattle.std.proofs.lemmas.Nat.{mul-le}
 use Rattle.std.proofs.lemmas.Simd.{get_or-replicate}
-use Rattle.std.specs.Simd.Lanes.{Each1}
 use Rattle.fx_kernel.specs.Samples.{rounded}
 use Rattle.fx_kernel.specs.SampleLaws.{rounded_bound}
+use Rattle.fx_kernel.proofs.ByteLaws.{lane_low}
 use Rattle.fx_point.specs.Posterise.{posterised}
-use Rattle.fx_point.proofs.Places.{byte_lane}
 use Rattle.fx_point.proofs.posterise.PosterisingPointKernel.eight.Goals as goal
 
-abbrev AreProducts : List ℕ → ℕ → List ℕ → Type 0
-AreProducts pixels last products =
-    (j : ℕ) → j < 32 → get_or products j 0 ≡ get_or pixels j 0 * get_or (replicate 32 last) j 0
+abbrev ArePlaces : List ℕ → ℕ → List ℕ → Type 0
+ArePlaces pixels last places =
+    (j : ℕ) → j < 32 → get_or places j 0 ≡ rounded (get_or pixels j 0 * get_or (replicate 32 last) j 0) 255
 
-product : (pixels : List ℕ) (last : ℕ) (products : List ℕ) (j : ℕ) → AreProducts pixels last products → j < 32
-    → get_or products j 0 ≡ get_or pixels j 0 * last
-product pixels last products j are low = are j low ∙ ap (λ l. get_or pixels j 0 * l) (get_or-replicate 32 j last 0 low)
-
-product_bound : (pixels : List ℕ) (last : ℕ) (products : List ℕ) (j : ℕ) → length pixels ≡ 32 → Each1 (Fits w8) pixels
-    → AreProducts pixels last products → j < 32 → get_or products j 0 ≤ 255 * last
-product_bound pixels last products j long fit are low =
-    let small = mul-le (get_or pixels j 0) last 255 last (byte_lane pixels j long fit low) (omega arith) in
-    omega (arith, product pixels last products j are low, small)
+place : (pixels : List ℕ) (last : ℕ) (places : List ℕ) (j : ℕ) → ArePlaces pixels last places → j < 32
+    → get_or places j 0 ≡ rounded (get_or pixels j 0 * last) 255
+place pixels last places j are low =
+    are j low ∙ ap (λ l. rounded (get_or pixels j 0 * l) 255) (get_or-replicate 32 j last 0 low)
 
 -- by the number of levels, which is one more than the place of the last
 by_levels : (levels : ℤ) (last s : ℕ) → levels ≡ pos (last + 1)
@@ -29,23 +23,13 @@ by_levels levels last s is =
     let less : last ≡ last + 1 - 1 = omega arith in
     ap (λ n. rounded (rounded (s * n) 255 * 255) n) less ∙ ap (λ z. posterised 255 z s) (sym is)
 
-pub divided-places-requires : goal.divided-places-requires
-divided-places-requires c =
-    λ j low.
-    let last = c.args.self.now.last in
-    let few = c.requires.1.few in
-    let bound =
-    product_bound c.args.pixels last c.products.result j c.fits-pixels.0 c.fits-pixels.1 c.products.ensures low in
-    omega (arith, few, bound)
-
 pub samples-requires-clause-places : goal.samples-requires-clause-places
 samples-requires-clause-places c =
     λ j low.
     let last = c.args.self.now.last in
-    let n = get_or c.products.result j 0 in
-    let bound =
-    product_bound c.args.pixels last c.products.result j c.fits-pixels.0 c.fits-pixels.1 c.products.ensures low in
-    omega (arith, c.divided-places.ensures j low, rounded_bound n 255 last (omega arith) bound)
+    let s = get_or c.args.pixels j 0 in
+    let bound = mul-le s last 255 last (lane_low c.args.pixels j c.fits-pixels.1) (omega arith) in
+    omega (arith, place c.args.pixels last c.product-places.result j c.product-places.ensures.value low, rounded_bound (s * last) 255 last (omega arith) (omega (arith, bound)))
 
 pub returns : goal.returns
 returns c =
@@ -53,8 +37,6 @@ returns c =
     let pixels = c.args.pixels in
     c.recoloured.ensures (λ a s. posterised 255 k.levels s) (
     λ j low.
-    let place = c.divided-places.ensures j low in
-    let whole = product pixels k.last c.products.result j c.products.ensures low in
-    c.samples.ensures j low ∙ ap (λ p. rounded (p * 255) k.last) (place ∙ ap (λ n. rounded n 255) whole)
+    c.samples.ensures j low ∙ ap (λ p. rounded (p * 255) k.last) (place pixels k.last c.product-places.result j c.product-places.ensures.value low)
     ∙ by_levels k.levels k.last (get_or pixels j 0) c.requires.1.count
     )
