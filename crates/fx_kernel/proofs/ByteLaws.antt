@@ -1,14 +1,56 @@
--- Products of samples of 8 bits in vectors, lane by lane, and the a of each pixel.
-use Rattle.std.proofs.Common.{◌≡◌, refl, ◌≤◌, ◌<◌, ℕ, zero, suc, ◌+◌, ◌*◌, ◌/◌, ◌%◌, ◌^◌, List, [], ◌∷◌, map, length, get_or, replicate, ◌++◌, ap, ◌∙◌, arith, w8, Fits}
+-- Samples of 8 bits in vectors, lane by lane: comparisons, products, and the a of each pixel.
+use Rattle.std.proofs.Common.{◌≡◌, refl, ◌≤◌, ◌<◌, ℕ, zero, suc, ◌+◌, ◌*◌, ◌/◌, ◌%◌, ◌^◌, ◌-◌, min, max, Bool, true, false, cond, ltb, ltb-true, ltb-false, List, [], ◌∷◌, map, length, get_or, replicate, ◌++◌, ap, ◌∙◌, arith, w8, Fits}
 use Rattle.std.proofs.lemmas.Nat.{mul-le}
 use Rattle.std.specs.List.{range_with_len}
 use Rattle.std.proofs.lemmas.List.{get_or_append_left}
 use Rattle.std.proofs.lemmas.List.FromFn.{get_or-map-range_with_len}
-use lib.Lanes.{zip2, Each1}
+use lib.Lanes.{zip2, sel_l, top, Each1}
 use Rattle.fx_kernel.specs.Samples.{rounded}
 use Rattle.fx_kernel.specs.Blends.{product}
 use Rattle.fx_kernel.specs.BlendLaws.{product_bound}
 use Rattle.fx_kernel.specs.Lanes.{alpha_place}
+
+-- ---- two lanes of bytes
+
+abbrev pub below : ℕ → ℕ → ℕ
+below a b = cond (ltb a b) 255 0
+
+-- what a vector has of two others by a comparison of two
+abbrev pub chosen : List ℕ → List ℕ → List ℕ → List ℕ → List ℕ
+chosen xs ys us vs = sel_l (map (top 7) (zip2 below xs ys)) us vs
+
+abbrev pub less : ℕ → ℕ → ℕ
+less a b = (a + (2 ^ 8 - b)) % 2 ^ 8
+
+pub one_least : (a b : ℕ) → cond (top 7 (below a b)) a b ≡ min a b
+one_least a b = go (ltb a b) refl
+  where
+    go : (t : Bool) → ltb a b ≡ t → cond (top 7 (cond t 255 0)) a b ≡ min a b
+    go true e = omega (arith, ltb-true _ _ e)
+    go false e = omega (arith, ltb-false _ _ e)
+
+pub one_most : (a b : ℕ) → cond (top 7 (below a b)) b a ≡ max a b
+one_most a b = go (ltb a b) refl
+  where
+    go : (t : Bool) → ltb a b ≡ t → cond (top 7 (cond t 255 0)) b a ≡ max a b
+    go true e = omega (arith, ltb-true _ _ e)
+    go false e = omega (arith, ltb-false _ _ e)
+
+pub least_at : (xs ys : List ℕ) (i : ℕ) → i < length xs → i < length ys
+    → get_or (chosen xs ys xs ys) i 0 ≡ min (get_or xs i 0) (get_or ys i 0)
+least_at [] ys i p q = absurd (omega arith)
+least_at (x ∷ xs) [] i p q = absurd (omega arith)
+least_at (x ∷ xs) (y ∷ ys) zero p q = one_least x y
+least_at (x ∷ xs) (y ∷ ys) (suc i) p q = least_at xs ys i (omega arith) (omega arith)
+
+pub most_at : (xs ys : List ℕ) (i : ℕ) → i < length xs → i < length ys
+    → get_or (chosen xs ys ys xs) i 0 ≡ max (get_or xs i 0) (get_or ys i 0)
+most_at [] ys i p q = absurd (omega arith)
+most_at (x ∷ xs) [] i p q = absurd (omega arith)
+most_at (x ∷ xs) (y ∷ ys) zero p q = one_most x y
+most_at (x ∷ xs) (y ∷ ys) (suc i) p q = most_at xs ys i (omega arith) (omega arith)
+
+-- ---- at each lane
 
 pub lane_low : (xs : List ℕ) (i : ℕ) → Each1 (Fits w8) xs → get_or xs i 0 ≤ 255
 lane_low [] i fits = omega arith

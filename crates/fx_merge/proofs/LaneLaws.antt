@@ -1,12 +1,13 @@
 -- Vector operations lane by lane, on samples of 8 bits.
-use Rattle.std.proofs.Common.{◌≡◌, refl, ◌≤◌, ◌<◌, ℕ, zero, suc, ◌+◌, ◌-◌, ◌*◌, ◌%◌, ◌^◌, min, max, Bool, true, false, cond, ltb, List, [], ◌∷◌, map, length, get_or, ap, ◌∙◌, arith, ltb-true, ltb-false}
+use Rattle.std.proofs.Common.{◌≡◌, ◌≤◌, ◌<◌, ℕ, zero, suc, ◌+◌, ◌-◌, ◌*◌, ◌%◌, ◌^◌, min, cond, List, [], ◌∷◌, map, length, get_or, ap, ◌∙◌, arith}
 use Rattle.std.proofs.lemmas.Simd.{length-zip2, get_or-zip2}
-use lib.Lanes.{zip2, sel_l, top}
+use lib.Lanes.{zip2, top}
 use Rattle.fx_pixel.specs.declared.Depth.TheVariants.{Byte}
 use Rattle.fx_pixel.specs.declared.Components.TheVariants as components
 use Rattle.fx_pixel.specs.declared.Pixel.TheVariants.{Rgba}
 use Rattle.fx_kernel.specs.Blends.{product}
 use Rattle.fx_kernel.specs.Lanes.{AreAlphas}
+use Rattle.fx_kernel.proofs.ByteLaws.{chosen, below, less, one_least, one_most}
 use Rattle.fx_effect.specs.Rows.{MakesPairs}
 use Rattle.fx_merge.specs.declared.operation.Operation.{Operation}
 use Rattle.fx_merge.specs.Merge.{operated, merged}
@@ -14,35 +15,11 @@ use Rattle.fx_merge.specs.MergeLaws.{product_below, screen_low}
 
 -- ---- two lanes of bytes
 
-abbrev below : ℕ → ℕ → ℕ
-below a b = cond (ltb a b) 255 0
-
--- what a vector has of two others by a comparison of two
-abbrev chosen : List ℕ → List ℕ → List ℕ → List ℕ → List ℕ
-chosen xs ys us vs = sel_l (map (top 7) (zip2 below xs ys)) us vs
-
 abbrev pub added : ℕ → ℕ → ℕ
 added a b = (a + b) % 2 ^ 8
 
-abbrev pub less : ℕ → ℕ → ℕ
-less a b = (a + (2 ^ 8 - b)) % 2 ^ 8
-
 abbrev pub rest : ℕ → ℕ
 rest a = 2 ^ 8 - 1 - a
-
-one_least : (a b : ℕ) → cond (top 7 (below a b)) a b ≡ min a b
-one_least a b = go (ltb a b) refl
-  where
-    go : (t : Bool) → ltb a b ≡ t → cond (top 7 (cond t 255 0)) a b ≡ min a b
-    go true e = omega (arith, ltb-true _ _ e)
-    go false e = omega (arith, ltb-false _ _ e)
-
-one_most : (a b : ℕ) → cond (top 7 (below a b)) b a ≡ max a b
-one_most a b = go (ltb a b) refl
-  where
-    go : (t : Bool) → ltb a b ≡ t → cond (top 7 (cond t 255 0)) b a ≡ max a b
-    go true e = omega (arith, ltb-true _ _ e)
-    go false e = omega (arith, ltb-false _ _ e)
 
 one_sum : (a b : ℕ) → a ≤ 255 → b ≤ 255 → added a (cond (top 7 (below b (rest a))) b (rest a)) ≡ min 255 (a + b)
 one_sum a b few low = rw (one_least b (rest a)) (omega arith)
@@ -51,20 +28,6 @@ one_excess : (a b : ℕ) → a ≤ 255 → b ≤ 255 → less (cond (top 7 (belo
 one_excess a b few low = rw (one_most a b) (omega arith)
 
 -- ---- at each lane
-
-pub least_at : (xs ys : List ℕ) (i : ℕ) → i < length xs → i < length ys
-    → get_or (chosen xs ys xs ys) i 0 ≡ min (get_or xs i 0) (get_or ys i 0)
-least_at [] ys i p q = absurd (omega arith)
-least_at (x ∷ xs) [] i p q = absurd (omega arith)
-least_at (x ∷ xs) (y ∷ ys) zero p q = one_least x y
-least_at (x ∷ xs) (y ∷ ys) (suc i) p q = least_at xs ys i (omega arith) (omega arith)
-
-pub most_at : (xs ys : List ℕ) (i : ℕ) → i < length xs → i < length ys
-    → get_or (chosen xs ys ys xs) i 0 ≡ max (get_or xs i 0) (get_or ys i 0)
-most_at [] ys i p q = absurd (omega arith)
-most_at (x ∷ xs) [] i p q = absurd (omega arith)
-most_at (x ∷ xs) (y ∷ ys) zero p q = one_most x y
-most_at (x ∷ xs) (y ∷ ys) (suc i) p q = most_at xs ys i (omega arith) (omega arith)
 
 pub sum_at : (xs ys : List ℕ) (i : ℕ) → i < length xs → i < length ys → get_or xs i 0 ≤ 255 → get_or ys i 0 ≤ 255
     → get_or (zip2 added xs (chosen ys (map rest xs) ys (map rest xs))) i 0 ≡ min 255 (get_or xs i 0 + get_or ys i 0)

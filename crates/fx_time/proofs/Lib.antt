@@ -1,3 +1,4 @@
+mod DifferLaws
 mod LineLaws
 mod BlendLaws
 mod EchoRowLaws

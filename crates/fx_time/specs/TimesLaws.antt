@@ -1,6 +1,6 @@
 -- What holds of filters that read other frames.
-use Rattle.std.specs.Prelude.{◌≡◌, ◌≤◌, ◌<◌, ◌==◌, ℕ, ℤ, pos, negsuc, ◌≤ℤ◌, ◌+ℤ◌, ◌-ℤ◌, Bool, true, false, List, [], ◌∷◌, map, length, Some, slice_get, if◌then◌else◌, refl}
-use Rattle.std.specs.List.{AllZip, Contains}
+use Rattle.std.specs.Prelude.{◌≡◌, ◌<◌, ◌==◌, ℕ, ℤ, pos, ◌≤ℤ◌, ◌+ℤ◌, ◌-ℤ◌, Bool, true, false, List, [], ◌∷◌, map, if◌then◌else◌, refl}
+use Rattle.std.specs.List.{Contains}
 use Rattle.std.proofs.Common.{zero, suc, ap, sym, subst, arith}
 use Rattle.std.proofs.lemmas.Int.{ints}
 use Rattle.std.proofs.lemmas.Bool.Decides.{nat_tests}

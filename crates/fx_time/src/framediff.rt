@@ -18,6 +18,7 @@ use fx_params::ParamDef;
 use fx_pixel::{Components, Depth, Pixel};
 use fx_props::{PropSet, write_frames};
 use std::alloc::Global;
+use std::simd::prelude::*;
 
 /// How far the pixels of the current frame and of one some frames before it are apart, sample by sample:
 /// a filter. Of RGBA the a is the greater one. Its parameter gap says how many frames.
@@ -155,6 +156,18 @@ impl PairKernel for Differing {
             (Pixel::Alpha { a }, Pixel::Alpha { a: alpha }) => Pixel::Alpha { a: apart(a, alpha) },
             _ => unreachable!(),
         }
+    }
+
+    #[inline(always)]
+    fn pair_eight(&self, first: u8x32, second: u8x32) -> u8x32 {
+        // Of each pixel r, g and b of the one vector, and a of the other.
+        first.abs_diff(second).shuffle(
+            first.simd_max(second),
+            [
+                0, 1, 2, 35, 4, 5, 6, 39, 8, 9, 10, 43, 12, 13, 14, 47, 16, 17, 18, 51, 20, 21, 22,
+                55, 24, 25, 26, 59, 28, 29, 30, 63,
+            ],
+        )
     }
 }
 

@@ -1,5 +1,5 @@
 use Rattle.std.proofs.Common.{arith}
-use Rattle.fx_merge.proofs.LaneLaws.{most_at}
+use Rattle.fx_kernel.proofs.ByteLaws.{most_at}
 use Rattle.fx_merge.proofs.operation.MaxSampleRule.lanes.Goals as goal
 
 pub returns : goal.returns

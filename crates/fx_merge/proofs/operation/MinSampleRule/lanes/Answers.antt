@@ -1,5 +1,5 @@
 use Rattle.std.proofs.Common.{arith}
-use Rattle.fx_merge.proofs.LaneLaws.{least_at}
+use Rattle.fx_kernel.proofs.ByteLaws.{least_at}
 use Rattle.fx_merge.proofs.operation.MinSampleRule.lanes.Goals as goal
 
 pub returns : goal.returns
