@@ -2,10 +2,11 @@
 """opencv.py [RUNS [FRAMES [NAME..]]]: each effect beside OpenCV, one worker beside one thread.
 
 It renders 8 HD frames of noise, or FRAMES, r, g, b and a, in bytes and in shorts, from and to PAM files in a folder of its own
-in memory, in tiles of 64: processor time of the least of 3 runs, or of RUNS, less that of reading and writing the same
-frames with no effect. OpenCV does the same work within this process, on arrays that are there. It prints milliseconds a frame
-of both and how many times the one is of the other, of a copy of the frame, and the greatest difference of a sample away from
-the edges. Effects that OpenCV has no call for are beside the copy alone. Python needs numpy and cv2."""
+in memory, in tiles of 64: processor time of the least of 3 runs, or of RUNS, less that of reading and writing the same frames
+with no effect. The clips of an effect all show one source, so that no more is read than with no effect. OpenCV does the same
+work within this process, on arrays that are there. It prints milliseconds a frame of both and how many times the one is of the
+other, of a copy of the frame, and the greatest difference of a sample away from the edges. Effects that OpenCV has no call for
+are beside the copy alone. Python needs numpy and cv2."""
 import os
 import resource
 import shutil
@@ -34,9 +35,10 @@ INSIDE = 70
 HEADER = "P7\nWIDTH %d\nHEIGHT %d\nDEPTH 4\nMAXVAL %d\nTUPLTYPE RGB_ALPHA\nENDHDR\n"
 GRAPH = """{"ofxr":1,"project":{"width":%d,"height":%d,"depth":"%s","components":"RGBA"},
 "output":{"node":"%s","file":"%s.#.pam","format":"RGB_ALPHA"},"range":{"first":0,"last":%d},
-"nodes":[{"name":"a","source":"a.#.pam","first":0,"last":%d},{"name":"b","source":"b.#.pam","first":0,"last":%d}%s]}"""
+"nodes":[{"name":"a","source":"a.#.pam","first":0,"last":%d}%s]}"""
 SOURCE = {"Source": "a"}
-TWO = {"A": "a", "B": "b"}
+TWO = {"A": "a", "B": "a"}
+FADED = {"SourceFrom": "a", "SourceTo": "a"}
 
 
 def square(radius):
@@ -123,9 +125,9 @@ WORKS = [
     ("frameblend", "frameblend", SOURCE, {"radius": 1}, None),
     ("framediff", "framediff", SOURCE, {"gap": 1}, None),
     ("echo", "echo", SOURCE, {"count": 2}, None),
-    ("dissolve", "dissolve", {"SourceFrom": "a", "SourceTo": "b"}, {"Transition": "0.5"},
+    ("dissolve", "dissolve", FADED, {"Transition": "0.5"},
      lambda a, b, m: cv2.addWeighted(a, 0.5, b, 0.5, 0)),
-    ("wipe", "wipe", {"SourceFrom": "a", "SourceTo": "b"}, {"Transition": "0.5"},
+    ("wipe", "wipe", FADED, {"Transition": "0.5"},
      lambda a, b, m: numpy.hstack([b[:, :960], a[:, 960:]])),
     ("over", "merge", TWO, {"operation": "over"}, over),
     ("plus", "merge", TWO, {"operation": "plus"}, lambda a, b, m: cv2.add(a, b)),
@@ -151,16 +153,15 @@ def node(effect, clips, params):
 
 
 def write_frames(kind, most):
-    """The frames, other noise in each; those of the first frame as arrays too."""
+    """The frames, other noise in each; the first as an array too."""
     noise = numpy.random.default_rng(1)
-    first = {}
-    for name in "ab":
-        for frame in range(FRAMES):
-            pixels = noise.integers(0, most + 1, (HEIGHT, WIDTH, 4)).astype(kind)
-            with open(f"{name}.{frame}.pam", "wb") as file:
-                file.write((HEADER % (WIDTH, HEIGHT, most)).encode() + pixels.astype(pixels.dtype.newbyteorder(">")).tobytes())
-            first.setdefault(name, pixels)
-    return first["a"], first["b"]
+    first = None
+    for frame in range(FRAMES):
+        pixels = noise.integers(0, most + 1, (HEIGHT, WIDTH, 4)).astype(kind)
+        with open(f"a.{frame}.pam", "wb") as file:
+            file.write((HEADER % (WIDTH, HEIGHT, most)).encode() + pixels.astype(pixels.dtype.newbyteorder(">")).tobytes())
+        first = pixels if first is None else first
+    return first
 
 
 def spent(graph):
@@ -192,12 +193,12 @@ def difference(path, kind, other):
 
 
 def table(depth, kind, most):
-    a, b = write_frames(kind, most)
+    a = write_frames(kind, most)
     last = FRAMES - 1
     graphs = {"none": ("a", "")} | {name: ("n", node(*work)) for name, *work, _ in WORKS if not NAMES or name.split()[0] in NAMES}
     for name, (shown, nodes) in graphs.items():
         with open(f"{name}.json", "w") as file:
-            file.write(GRAPH % (WIDTH, HEIGHT, depth, shown, name, last, last, last, nodes))
+            file.write(GRAPH % (WIDTH, HEIGHT, depth, shown, name, last, last, nodes))
     least = {}
     for _ in range(RUNS):
         for name in graphs:
@@ -211,7 +212,7 @@ def table(depth, kind, most):
             continue
         ours = max(0, least[name] - least["none"])
         line = f"{depth} {name:12} {ours:7.1f} ms, {ours / copy:5.1f} copies"
-        theirs, made = within(lambda: call(a, b, most)) if call else (0, None)
+        theirs, made = within(lambda: call(a, a, most)) if call else (0, None)
         if made is not None:
             line += f", OpenCV {theirs:6.1f} ms, {ours / theirs:5.1f} times it, most {difference(f'{name}.0.pam', kind, made)}"
         print(line, flush=True)

@@ -7,3 +7,4 @@ mod GatherLaws
 mod SquareLaws
 mod ConvolveLaws
 mod AreaLaws
+mod NineLaws

@@ -1,51 +1,29 @@
 -- Samples of 16 bits in vectors, lane by lane, and rows of which 16 at once are written.
-use Rattle.std.proofs.Common.{◌≡◌, refl, ◌≤◌, ◌<◌, ◌⊎◌, inl, inr, ℕ, zero, suc, ◌+◌, ◌-◌, ◌*◌, ◌/◌, ◌%◌, min, max, Bool, true, false, cond, ltb, List, [], ◌∷◌, map, length, get_or, ◌++◌, ap, subst, ◌∙◌, arith, ltb-true, ltb-false}
+use Rattle.std.proofs.Common.{◌≡◌, refl, ◌≤◌, ◌<◌, ◌⊎◌, inl, inr, ℕ, ◌+◌, ◌-◌, ◌*◌, ◌/◌, ◌%◌, min, max, List, [], ◌∷◌, map, length, get_or, ◌++◌, ap, subst, ◌∙◌, arith}
 use Rattle.std.specs.List.{range_with_len}
 use Rattle.std.proofs.lemmas.Bool.{cases_lt}
 use Rattle.std.proofs.lemmas.List.{get_or_append_left}
 use Rattle.std.proofs.lemmas.List.FromFn.{get_or-map-range_with_len}
 use Rattle.std.proofs.lemmas.Simd.{length-chunk, get_or-chunk, get_or-put_chunk_below, get_or-put_chunk_at, get_or-put_chunk_above}
-use lib.Lanes.{zip2, sel_l, top, chunk, put_chunk, number_l}
+use lib.Lanes.{chunk, put_chunk, number_l}
 use Rattle.fx_pixel.specs.declared.Depth.TheVariants.{Short}
 use Rattle.fx_image.specs.Stored.{sample_in}
+use Rattle.fx_kernel.proofs.ByteLaws.{IsMask, lanes_chosen, lanes_least, lanes_most}
 use Rattle.fx_area.specs.declared.extreme.Extreme.{Extreme}
 use Rattle.fx_area.specs.Extreme.{pick}
 
 -- ---- the least and the greatest at each lane
 
-abbrev below : ℕ → ℕ → ℕ
-below a b = cond (ltb a b) 65535 0
-
-abbrev chosen : List ℕ → List ℕ → List ℕ → List ℕ → List ℕ
-chosen xs ys us vs = sel_l (map (top 15) (zip2 below xs ys)) us vs
-
-one_least : (a b : ℕ) → cond (top 15 (below a b)) a b ≡ min a b
-one_least a b = go (ltb a b) refl
-  where
-    go : (t : Bool) → ltb a b ≡ t → cond (top 15 (cond t 65535 0)) a b ≡ min a b
-    go true e = omega (arith, ltb-true _ _ e)
-    go false e = omega (arith, ltb-false _ _ e)
-
-one_most : (a b : ℕ) → cond (top 15 (below a b)) b a ≡ max a b
-one_most a b = go (ltb a b) refl
-  where
-    go : (t : Bool) → ltb a b ≡ t → cond (top 15 (cond t 65535 0)) b a ≡ max a b
-    go true e = omega (arith, ltb-true _ _ e)
-    go false e = omega (arith, ltb-false _ _ e)
+short_mask : IsMask 15 65535
+short_mask = record { on = refl; off = refl }
 
 pub least_at : (xs ys : List ℕ) (i : ℕ) → i < length xs → i < length ys
-    → get_or (chosen xs ys xs ys) i 0 ≡ min (get_or xs i 0) (get_or ys i 0)
-least_at [] ys i p q = absurd (omega arith)
-least_at (x ∷ xs) [] i p q = absurd (omega arith)
-least_at (x ∷ xs) (y ∷ ys) zero p q = one_least x y
-least_at (x ∷ xs) (y ∷ ys) (suc i) p q = least_at xs ys i (omega arith) (omega arith)
+    → get_or (lanes_chosen 15 65535 xs ys xs ys) i 0 ≡ min (get_or xs i 0) (get_or ys i 0)
+least_at xs ys i p q = lanes_least 15 65535 xs ys i short_mask p q
 
 pub most_at : (xs ys : List ℕ) (i : ℕ) → i < length xs → i < length ys
-    → get_or (chosen xs ys ys xs) i 0 ≡ max (get_or xs i 0) (get_or ys i 0)
-most_at [] ys i p q = absurd (omega arith)
-most_at (x ∷ xs) [] i p q = absurd (omega arith)
-most_at (x ∷ xs) (y ∷ ys) zero p q = one_most x y
-most_at (x ∷ xs) (y ∷ ys) (suc i) p q = most_at xs ys i (omega arith) (omega arith)
+    → get_or (lanes_chosen 15 65535 xs ys ys xs) i 0 ≡ max (get_or xs i 0) (get_or ys i 0)
+most_at xs ys i p q = lanes_most 15 65535 xs ys i short_mask p q
 
 -- ---- the two bytes of a sample
 

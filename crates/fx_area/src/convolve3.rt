@@ -1,5 +1,6 @@
 //! The effect convolve3.
-ghost use Rattle.std.specs.Prelude.{◌≡◌, ◌≤◌, ◌<◌, ◌+◌, ◌*◌, ℕ, pos, ◌+ℤ◌, ◌-ℤ◌, ◌*ℤ◌, ◌<ℤ◌, length};
+ghost use Rattle.std.specs.Prelude.{◌≡◌, ◌≤◌, ◌<◌, ◌+◌, ◌*◌, ◌/◌, ℕ, pos, ◌+ℤ◌, ◌-ℤ◌, ◌*ℤ◌, ◌<ℤ◌, length, slice_index};
+ghost use Rattle.fx_pixel.specs.declared.Depth.TheVariants.{Byte};
 ghost use Rattle.std.specs.Ordering.{int_eq};
 ghost use Rattle.fx_base.specs.Rect.{columns, IsNear, IsStep};
 ghost use Rattle.fx_pixel.specs.Pixel.{size, greatest, count as count_of};
@@ -39,6 +40,7 @@ use fx_pixel::{Components, Depth};
 use fx_props::names::REGION;
 use fx_props::{PropSet, write_interest, write_region};
 use std::alloc::Global;
+use std::simd::prelude::*;
 
 /// The sum of the nine pixels at most one column and one row away, each times a number, divided by a
 /// divisor: a filter. The numbers are k1 to k9, by rows from the top, from -256 to 256; the parameter
@@ -193,6 +195,15 @@ fn divisor(values: &Values) -> u64
     values.number(9).unsigned_abs()
 }
 
+// How many samples of 8 bits are made at once.
+const LANES: usize = 16;
+
+// No sum of three products of samples of 8 bits is further below 0.
+const BIAS: u32 = 195840;
+
+// The quotients of samples of 8 bits are those of 2^42.
+const SHIFT: u64 = 42;
+
 /// The numbers of three places of a row, from the left.
 #[derive(Clone, Copy, Debug)]
 pub(crate) struct Triple {
@@ -230,6 +241,53 @@ impl Triple {
         let right = product(self.right, sample(depth, line, s + 2 * step));
         left + middle + right
     }
+
+    // The sums of sixteen samples of 8 bits from this one on, each with the bias.
+    #[inline(always)]
+    fn lanes(self, step: usize, line: &[u8], s: usize) -> u32x16
+        requires few { IsTriple self }
+        requires step { step ≤ 4 }
+        requires room { s + 2 * step + 16 ≤ length line.now }
+        ensures len { length result ≡ 16 }
+        ensures value { (i : ℕ) → i < 16
+            → pos (slice_index result i) ≡ triple_sum self Byte step line.now (s + i) +ℤ pos 195840 }
+        ensures few { (i : ℕ) → i < 16 → slice_index result i ≤ 391680 }
+    {
+        // Products of numbers below 0 wrap, and the sum with the bias doesn't.
+        let left = lanes_at(line, s) * u32x16::splat((self.left as i32).cast_unsigned());
+        let middle = lanes_at(line, s + step) * u32x16::splat((self.middle as i32).cast_unsigned());
+        let right = lanes_at(line, s + 2 * step)
+            * u32x16::splat((self.right as i32).cast_unsigned());
+        u32x16::splat(BIAS) + left + middle + right
+    }
+}
+
+// Sixteen samples of 8 bits.
+#[inline(always)]
+fn lanes_at(line: &[u8], at: usize) -> u32x16
+    requires { at + 16 ≤ length line.now }
+    ensures len { length result ≡ 16 }
+    ensures value { (i : ℕ) → i < 16 → slice_index result i ≡ slice_index line.now (at + i) }
+    ensures few { (i : ℕ) → i < 16 → slice_index result i ≤ 255 }
+{
+    u8x16::from_slice(&line[at..]).cast::<u32>()
+}
+
+// Sums with three times the bias, each without it divided by the divisor, to the nearest, and brought into the
+// range of 8 bits.
+#[inline(always)]
+fn means(divisor: u32, factor: u64, sums: u32x16) -> u8x16
+    requires divisor { IsDivisor divisor }
+    requires factor { factor ≡ 4398046511104 / (2 * divisor) + 1 }
+    requires sums { (i : ℕ) → i < 16 → slice_index sums i ≤ 1175040 }
+    ensures len { length result ≡ 16 }
+    ensures value { (i : ℕ) → i < 16
+        → slice_index result i ≡ clamped 255 (rounded_z (pos (slice_index sums i) -ℤ pos 587520) divisor) }
+{
+    let above = sums.saturating_sub(u32x16::splat(3 * BIAS));
+    let capped = above.simd_min(u32x16::splat(255 * divisor));
+    let halves = (capped + capped + u32x16::splat(divisor)).cast::<u64>();
+    ((halves * u64x16::splat(factor)) >> SHIFT).cast::<u8>()
 }
 
 // A sample times its number.
@@ -345,17 +403,16 @@ impl<'a, 'b> ConvolvedRows<'a, 'b> {
             top.now middle.now bottom.now s }
     {
         match depth {
-            Depth::Byte => { self.convolve_each(Depth::Byte, components, top, middle, bottom, row) }
+            Depth::Byte => self.convolve_bytes(components, top, middle, bottom, row),
             Depth::Short => {
-                self.convolve_each(Depth::Short, components, top, middle, bottom, row)
+                self.convolve_each(Depth::Short, components, top, middle, bottom, row, 0)
             }
         }
     }
 
-    #[inline(always)]
-    fn convolve_each(
+    // The same for samples of 8 bits: sixteen at once, and those that are left one by one.
+    fn convolve_bytes(
         &self,
-        depth: Depth,
         components: Components,
         top: &[u8],
         middle: &[u8],
@@ -365,16 +422,61 @@ impl<'a, 'b> ConvolvedRows<'a, 'b> {
         requires factors { AreFactors self.now.factors }
         requires divisor { IsDivisor self.now.divisor }
         requires mean { self.now.mean ≡ self.now.divisor }
+        requires top { length top.now ≡ length row.old + 2 * count_of components }
+        requires middle { length middle.now ≡ length row.old + 2 * count_of components }
+        requires bottom { length bottom.now ≡ length row.old + 2 * count_of components }
+        ensures { let k = self.now in (s : ℕ) → s < length row.old
+            → slice_index row.new s ≡ convolved_sample k.factors k.divisor Byte (count_of components)
+            top.now middle.now bottom.now s }
+    {
+        let step = components.count() as usize;
+        let factors = self.factors;
+        let factor = (1 << SHIFT) / (2 * self.divisor) + 1;
+        let whole = row.len() / LANES;
+        for block in 0..whole {
+            let at = LANES * block;
+            let high = factors.top.lanes(step, top, at);
+            let level = factors.middle.lanes(step, middle, at);
+            let low = factors.bottom.lanes(step, bottom, at);
+            means(self.divisor as u32, factor, high + level + low).copy_to_slice(&mut row[at..]);
+        }
+        self.convolve_each(
+            Depth::Byte,
+            components,
+            top,
+            middle,
+            bottom,
+            row,
+            LANES * whole,
+        );
+    }
+
+    // Writes the samples from the one with number `first` on.
+    #[inline(always)]
+    fn convolve_each(
+        &self,
+        depth: Depth,
+        components: Components,
+        top: &[u8],
+        middle: &[u8],
+        bottom: &[u8],
+        row: &mut [u8],
+        first: usize,
+    )
+        requires factors { AreFactors self.now.factors }
+        requires divisor { IsDivisor self.now.divisor }
+        requires mean { self.now.mean ≡ self.now.divisor }
         requires top { length top.now ≡ length row.old + 2 * pixel_size depth components }
         requires middle { length middle.now ≡ length row.old + 2 * pixel_size depth components }
         requires bottom { length bottom.now ≡ length row.old + 2 * pixel_size depth components }
-        ensures { let k = self.now in (s : ℕ) → s * size depth + size depth ≤ length row.old
+        ensures left { (s : ℕ) → s < first → sample_in depth row.new s ≡ sample_in depth row.old s }
+        ensures done { let k = self.now in (s : ℕ) → first ≤ s → s * size depth + size depth ≤ length row.old
             → sample_in depth row.new s ≡ convolved_sample k.factors k.divisor depth (count_of components)
             top.now middle.now bottom.now s }
     {
         let step = components.count() as usize;
         let factors = self.factors;
-        for s in 0..row.len() / depth.size() as usize {
+        for s in first..row.len() / depth.size() as usize {
             let high = factors.top.sum(depth, step, top, s);
             let level = factors.middle.sum(depth, step, middle, s);
             let low = factors.bottom.sum(depth, step, bottom, s);

@@ -1,4 +1,4 @@
--- Samples of 8 bits in vectors, lane by lane: comparisons, products, and the a of each pixel.
+-- Samples in vectors, lane by lane: comparisons, and of 8 bits products and the a of each pixel.
 use Rattle.std.proofs.Common.{◌≡◌, refl, ◌≤◌, ◌<◌, ℕ, zero, suc, ◌+◌, ◌*◌, ◌/◌, ◌%◌, ◌^◌, ◌-◌, min, max, Bool, true, false, cond, ltb, ltb-true, ltb-false, List, [], ◌∷◌, map, length, get_or, replicate, ◌++◌, ap, ◌∙◌, arith, w8, Fits}
 use Rattle.std.proofs.lemmas.Nat.{mul-le}
 use Rattle.std.specs.List.{range_with_len}
@@ -10,45 +10,77 @@ use Rattle.fx_kernel.specs.Blends.{product}
 use Rattle.fx_kernel.specs.BlendLaws.{product_bound}
 use Rattle.fx_kernel.specs.Lanes.{alpha_place}
 
+-- ---- two lanes, whose highest bit is that of `sign`
+
+abbrev pub lane_below : ℕ → ℕ → ℕ → ℕ
+lane_below greatest a b = cond (ltb a b) greatest 0
+
+-- what a vector has of two others by a comparison of two
+abbrev pub lanes_chosen : ℕ → ℕ → List ℕ → List ℕ → List ℕ → List ℕ → List ℕ
+lanes_chosen sign greatest xs ys us vs = sel_l (map (top sign) (zip2 (lane_below greatest) xs ys)) us vs
+
+-- a comparison shows in the highest bit of its lane
+pub record IsMask (sign greatest : ℕ) : Type 0 where
+  pub on : top sign greatest ≡ true
+  pub off : top sign 0 ≡ false
+
+lane_least : (sign greatest a b : ℕ) → IsMask sign greatest → cond (top sign (lane_below greatest a b)) a b ≡ min a b
+lane_least sign greatest a b mask = go (ltb a b) refl
+  where
+    go : (t : Bool) → ltb a b ≡ t → cond (top sign (cond t greatest 0)) a b ≡ min a b
+    go true e = ap (λ t. cond t a b) mask.on ∙ omega (arith, ltb-true _ _ e)
+    go false e = ap (λ t. cond t a b) mask.off ∙ omega (arith, ltb-false _ _ e)
+
+lane_most : (sign greatest a b : ℕ) → IsMask sign greatest → cond (top sign (lane_below greatest a b)) b a ≡ max a b
+lane_most sign greatest a b mask = go (ltb a b) refl
+  where
+    go : (t : Bool) → ltb a b ≡ t → cond (top sign (cond t greatest 0)) b a ≡ max a b
+    go true e = ap (λ t. cond t b a) mask.on ∙ omega (arith, ltb-true _ _ e)
+    go false e = ap (λ t. cond t b a) mask.off ∙ omega (arith, ltb-false _ _ e)
+
+pub lanes_least : (sign greatest : ℕ) (xs ys : List ℕ) (i : ℕ) → IsMask sign greatest → i < length xs → i < length ys
+    → get_or (lanes_chosen sign greatest xs ys xs ys) i 0 ≡ min (get_or xs i 0) (get_or ys i 0)
+lanes_least sign greatest [] ys i mask p q = absurd (omega arith)
+lanes_least sign greatest (x ∷ xs) [] i mask p q = absurd (omega arith)
+lanes_least sign greatest (x ∷ xs) (y ∷ ys) zero mask p q = lane_least sign greatest x y mask
+lanes_least sign greatest (x ∷ xs) (y ∷ ys) (suc i) mask p q =
+    lanes_least sign greatest xs ys i mask (omega arith) (omega arith)
+
+pub lanes_most : (sign greatest : ℕ) (xs ys : List ℕ) (i : ℕ) → IsMask sign greatest → i < length xs → i < length ys
+    → get_or (lanes_chosen sign greatest xs ys ys xs) i 0 ≡ max (get_or xs i 0) (get_or ys i 0)
+lanes_most sign greatest [] ys i mask p q = absurd (omega arith)
+lanes_most sign greatest (x ∷ xs) [] i mask p q = absurd (omega arith)
+lanes_most sign greatest (x ∷ xs) (y ∷ ys) zero mask p q = lane_most sign greatest x y mask
+lanes_most sign greatest (x ∷ xs) (y ∷ ys) (suc i) mask p q =
+    lanes_most sign greatest xs ys i mask (omega arith) (omega arith)
+
 -- ---- two lanes of bytes
 
 abbrev pub below : ℕ → ℕ → ℕ
-below a b = cond (ltb a b) 255 0
+below a b = lane_below 255 a b
 
--- what a vector has of two others by a comparison of two
 abbrev pub chosen : List ℕ → List ℕ → List ℕ → List ℕ → List ℕ
-chosen xs ys us vs = sel_l (map (top 7) (zip2 below xs ys)) us vs
+chosen xs ys us vs = lanes_chosen 7 255 xs ys us vs
 
 abbrev pub less : ℕ → ℕ → ℕ
 less a b = (a + (2 ^ 8 - b)) % 2 ^ 8
 
+byte_mask : IsMask 7 255
+byte_mask = record { on = refl; off = refl }
+
 pub one_least : (a b : ℕ) → cond (top 7 (below a b)) a b ≡ min a b
-one_least a b = go (ltb a b) refl
-  where
-    go : (t : Bool) → ltb a b ≡ t → cond (top 7 (cond t 255 0)) a b ≡ min a b
-    go true e = omega (arith, ltb-true _ _ e)
-    go false e = omega (arith, ltb-false _ _ e)
+one_least a b = lane_least 7 255 a b byte_mask
 
 pub one_most : (a b : ℕ) → cond (top 7 (below a b)) b a ≡ max a b
-one_most a b = go (ltb a b) refl
-  where
-    go : (t : Bool) → ltb a b ≡ t → cond (top 7 (cond t 255 0)) b a ≡ max a b
-    go true e = omega (arith, ltb-true _ _ e)
-    go false e = omega (arith, ltb-false _ _ e)
+one_most a b = lane_most 7 255 a b byte_mask
 
 pub least_at : (xs ys : List ℕ) (i : ℕ) → i < length xs → i < length ys
     → get_or (chosen xs ys xs ys) i 0 ≡ min (get_or xs i 0) (get_or ys i 0)
-least_at [] ys i p q = absurd (omega arith)
-least_at (x ∷ xs) [] i p q = absurd (omega arith)
-least_at (x ∷ xs) (y ∷ ys) zero p q = one_least x y
-least_at (x ∷ xs) (y ∷ ys) (suc i) p q = least_at xs ys i (omega arith) (omega arith)
+least_at xs ys i p q = lanes_least 7 255 xs ys i byte_mask p q
 
 pub most_at : (xs ys : List ℕ) (i : ℕ) → i < length xs → i < length ys
     → get_or (chosen xs ys ys xs) i 0 ≡ max (get_or xs i 0) (get_or ys i 0)
-most_at [] ys i p q = absurd (omega arith)
-most_at (x ∷ xs) [] i p q = absurd (omega arith)
-most_at (x ∷ xs) (y ∷ ys) zero p q = one_most x y
-most_at (x ∷ xs) (y ∷ ys) (suc i) p q = most_at xs ys i (omega arith) (omega arith)
+most_at xs ys i p q = lanes_most 7 255 xs ys i byte_mask p q
 
 -- ---- at each lane
 

@@ -7,21 +7,23 @@ use lib.Lanes.{zip2, Each1, put_chunk}
 use Rattle.fx_kernel.specs.Blends.{blended}
 use Rattle.fx_kernel.specs.BlendLaws.{blended_bound}
 
--- ---- rows of which 32 samples at once are written
+-- ---- rows of which several samples at once are written
 
--- with 32 more that are written there are so many more
-pub lanes_next : (want : ℕ → ℕ) (row made : List ℕ) (block : ℕ) → length made ≡ 32 → 32 * block + 32 ≤ length row
-    → ((k : ℕ) → k < 32 * block → slice_index row k ≡ want k)
-    → ((i : ℕ) → i < 32 → slice_index made i ≡ want (32 * block + i))
-    → (k : ℕ) → k < 32 * (block + 1) → slice_index (put_chunk (32 * block) row made) k ≡ want k
-lanes_next want row made block long room done new k below = by (cases_lt k (32 * block))
+-- with n more that are written there are so many more
+pub lanes_next : (want : ℕ → ℕ) (row made : List ℕ) (first n : ℕ) → length made ≡ n → first + n ≤ length row
+    → ((k : ℕ) → k < first → slice_index row k ≡ want k)
+    → ((i : ℕ) → i < n → slice_index made i ≡ want (first + i))
+    → (k : ℕ) → k < first + n → slice_index (put_chunk first row made) k ≡ want k
+lanes_next want row made first n long room done new k below = by (cases_lt k first)
   where
-    is : 32 * block ≤ k → 32 * block + (k - 32 * block) ≡ k
+    is : first ≤ k → first + (k - first) ≡ k
     is behind = omega arith
 
-    by : (k < 32 * block) ⊎ (32 * block ≤ k) → slice_index (put_chunk (32 * block) row made) k ≡ want k
-    by (inl before) = get_or-put_chunk_below (32 * block) row made k 0 before ∙ done k before
-    by (inr behind) = rw (is behind) at (get_or-put_chunk_at (32 * block) row made (k - 32 * block) 0 (omega arith) (omega arith) ∙ new (k - 32 * block) (omega arith))
+    by : (k < first) ⊎ (first ≤ k) → slice_index (put_chunk first row made) k ≡ want k
+    by (inl before) = get_or-put_chunk_below first row made k 0 before ∙ done k before
+    by (inr behind) =
+        rw (is behind) at (get_or-put_chunk_at first row made (k - first) 0 (omega arith) (omega arith)
+        ∙ new (k - first) (omega arith))
 
 -- ---- blends, in lanes of 32 bits
 

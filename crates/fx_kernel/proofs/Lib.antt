@@ -1,5 +1,5 @@
 pub mod LaneLaws
 pub mod ByteLaws
-mod FactorLaws
+pub mod FactorLaws
 mod FourLaws
 mod WindowLaws

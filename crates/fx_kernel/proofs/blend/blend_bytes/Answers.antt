@@ -17,9 +17,12 @@ loop-block-preserved c =
     let long = c.blend_lanes.ensures.len in
     let room : at + 32 ≤ length row = omega arith in
     record {
-      done = lanes_next (λ k. blended level (slice_index was k) (slice_index other k)) row made block long room c.loop-block.invariant.done
+      done = λ k below. lanes_next (λ k. blended level (slice_index was k) (slice_index other k)) row made at 32 long
+          room c.loop-block.invariant.done
           (λ i low. c.blend_lanes.ensures.value i low
-          ∙ ap (λ s. blended level s (slice_index (chunk at 32 other) i)) (get_or-chunk at 32 row i 0 low ∙ c.loop-block.invariant.left (at + i) (omega arith))
-          ∙ ap (blended level (slice_index was (at + i))) (get_or-chunk at 32 other i 0 low));
-      left = λ k behind. get_or-put_chunk_above at row made k 0 (omega arith) ∙ c.loop-block.invariant.left k (omega arith);
+          ∙ ap (λ s. blended level s (slice_index (chunk at 32 other) i))
+          (get_or-chunk at 32 row i 0 low ∙ c.loop-block.invariant.left (at + i) (omega arith))
+          ∙ ap (blended level (slice_index was (at + i))) (get_or-chunk at 32 other i 0 low)) k (omega (arith, below));
+      left = λ k behind. get_or-put_chunk_above at row made k 0 (omega arith)
+          ∙ c.loop-block.invariant.left k (omega arith);
     }

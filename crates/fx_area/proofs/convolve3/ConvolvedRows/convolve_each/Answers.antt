@@ -19,12 +19,18 @@ loop-s-preserved c =
     let sum =
     three_are c.sum-high.result c.sum-level.result c.sum-low.result c.sum-high.ensures.near c.sum-level.ensures.near
     c.sum-low.ensures.near in
-    below_more _ _
-    (λ k low. let other : k ≢ s = omega arith in c.set_sample.ensures.others k other ∙ c.loop-s.invariant k low)
-    (c.set_sample.ensures.there ∙ c.divided.ensures.value
-    ∙ ap (λ z. clamped (greatest c.args.depth) (rounded_z z c.args.self.now.divisor)) sum
-    ∙ rw (c.sum-high.ensures.value, c.sum-level.ensures.value, c.sum-low.ensures.value, c.count-step.ensures) refl)
+    let others = c.set_sample.ensures.others in
+    record {
+      done = below_more _ _
+          (λ k low from. let other : k ≢ s = omega arith in others k other ∙ c.loop-s.invariant.done k low from)
+          (λ from. c.set_sample.ensures.there ∙ c.divided.ensures.value
+          ∙ ap (λ z. clamped (greatest c.args.depth) (rounded_z z c.args.self.now.divisor)) sum
+          ∙ rw (c.sum-high.ensures.value, c.sum-level.ensures.value, c.sum-low.ensures.value, c.count-step.ensures)
+          refl);
+      left = λ k before. let other : k ≢ s = omega arith in others k other ∙ c.loop-s.invariant.left k before;
+    }
 
-pub returns : goal.returns
-returns c s room =
-    c.loop-s.invariant s (sample_below c.args.depth s _ _ c.size.result c.size.ensures room c.loop-s-test.false)
+pub returns-clause-done : goal.returns-clause-done
+returns-clause-done c s from room =
+    c.loop-s.invariant.done s
+    (sample_below c.args.depth s _ _ c.size.result c.size.ensures room c.loop-s-test.false) from
