@@ -1,5 +1,5 @@
 //! The effect boxblur.
-ghost use Rattle.std.specs.Prelude.{◌≡◌, ◌≤◌, ◌<◌, ◌+◌, ◌*◌, ℕ, ℤ, pos, ◌-ℤ◌, ◌≤ℤ◌, ◌<ℤ◌, [], ◌∷◌, length, OnOk, slice_index};
+ghost use Rattle.std.specs.Prelude.{◌≡◌, ◌≤◌, ◌<◌, ◌+◌, ◌*◌, ℕ, ℤ, pos, ◌-ℤ◌, ◌≤ℤ◌, ◌<ℤ◌, [], ◌∷◌, length, OnOk, slice_index, vec_len};
 ghost use Rattle.fx_base.specs.Rect.{IsNear};
 ghost use Rattle.fx_pixel.specs.Pixel.{count, greatest};
 ghost use Rattle.fx_image.specs.Stored.{pixel_size};
@@ -20,7 +20,7 @@ use fx_effect::{
     Context, Description, Identity, ImageEffect, Inputs, Reply, RowKernel, Safety, Values,
     asked_region, clip_set, fill_with, region_of,
 };
-use fx_gate::Hold;
+use fx_gate::{Hold, Workspace};
 use fx_image::Part;
 use fx_image::samples::pixel_size;
 use fx_kernel::{Mean, Windows, add_row, clear, take_row, write_window_means};
@@ -362,20 +362,71 @@ impl<'a, 'b> BoxRows<'a, 'b> {
         ensures ok { let k = self.now in let c = out.old.image.now.components in
             OnOk result (IsWritten out.old out.new (box_pixel k.inputs.now k.frame k.rx k.ry c)) }
     {
-        let rect = out.rect();
-        let pixel = pixel_size(out.depth(), out.components());
-        let row = out.row_bytes() + 2 * self.rx * pixel;
-        let line = offset(rect.x1, rect.x2) + 2 * self.rx;
-        let count = line * out.components().count() as usize;
-        let Ok(room) = u32::try_from(count) else {
-            return Err(Memory);
-        };
+        let (cells, bytes) = (self.cell_count(out), self.byte_count(out));
         let workspace = hold.workspace();
-        workspace.room(alloc, room)?;
-        workspace.byte_room(alloc, row)?;
-        let cells = workspace.cells.slice_mut(0..count);
-        let bytes = workspace.bytes.slice_mut(0..row);
-        fill_with(self, cells, bytes, out);
+        make_room(workspace, alloc, cells, bytes)?;
+        self.fill(workspace, cells, bytes, out);
         Ok(())
     }
+
+    // How many sums a row of the part needs: one for each sample that is summed.
+    fn cell_count(&self, out: &Part<'_>) -> usize
+        requires part { IsPart out.now }
+        requires narrow { self.now.rx ≤ 64 }
+        ensures { result ≡ line_width self.now.rx out.now.rect * count out.now.image.now.components }
+    {
+        let _near = out.row_bytes();
+        let rect = out.rect();
+        let line = offset(rect.x1, rect.x2) + 2 * self.rx;
+        line * out.components().count() as usize
+    }
+
+    // How many bytes those samples take.
+    fn byte_count(&self, out: &Part<'_>) -> usize
+        requires part { IsPart out.now }
+        requires narrow { self.now.rx ≤ 64 }
+        ensures { let image = out.now.image.now in
+            result ≡ line_width self.now.rx out.now.rect * pixel_size image.depth image.components }
+    {
+        let pixel = pixel_size(out.depth(), out.components());
+        out.row_bytes() + 2 * self.rx * pixel
+    }
+
+    // Fills a part, with sums in the first cells and a row of pixels in the first bytes.
+    fn fill(&self, workspace: &mut Workspace, cells: usize, bytes: usize, out: &mut Part<'_>)
+        requires part { IsPart out.old }
+        requires source { let image = out.old.image.now in
+            ShowsClip self.now.inputs.now 0 image.depth image.components }
+        requires narrow { self.now.rx ≤ 64 }
+        requires flat { self.now.ry ≤ 64 }
+        requires mean { self.now.mean ≡ box_count self.now.rx self.now.ry }
+        requires cells { cells ≡ line_width self.now.rx out.old.rect * count out.old.image.now.components }
+        requires bytes { let image = out.old.image.now in
+            bytes ≡ line_width self.now.rx out.old.rect * pixel_size image.depth image.components }
+        requires cell_room { cells ≤ vec_len workspace.old.cells }
+        requires byte_room { bytes ≤ vec_len workspace.old.bytes }
+        ensures { let k = self.now in let c = out.old.image.now.components in
+            IsWritten out.old out.new (box_pixel k.inputs.now k.frame k.rx k.ry c) }
+    {
+        let cells = workspace.cells.slice_mut(0..cells);
+        let bytes = workspace.bytes.slice_mut(0..bytes);
+        fill_with(self, cells, bytes, out);
+    }
+}
+
+// Makes room for so many cells and bytes.
+fn make_room(
+    workspace: &mut Workspace,
+    alloc: Global,
+    cells: usize,
+    bytes: usize,
+) -> Result<(), Memory>
+    ensures cells { OnOk result (cells ≤ vec_len workspace.new.cells) }
+    ensures bytes { OnOk result (bytes ≤ vec_len workspace.new.bytes) }
+{
+    let Ok(cells) = u32::try_from(cells) else {
+        return Err(Memory);
+    };
+    workspace.room(alloc, cells)?;
+    workspace.byte_room(alloc, bytes)
 }

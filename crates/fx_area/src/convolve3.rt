@@ -1,5 +1,5 @@
 //! The effect convolve3.
-ghost use Rattle.std.specs.Prelude.{◌≡◌, ◌≤◌, ◌<◌, ◌+◌, ◌*◌, ◌/◌, ℕ, pos, ◌+ℤ◌, ◌-ℤ◌, ◌*ℤ◌, ◌<ℤ◌, length, slice_index};
+ghost use Rattle.std.specs.Prelude.{◌≡◌, ◌≤◌, ◌<◌, ◌+◌, ◌*◌, ◌/◌, ℕ, pos, ◌+ℤ◌, ◌-ℤ◌, ◌*ℤ◌, ◌<ℤ◌, [], ◌∷◌, ◌++◌, length, slice_index, OnOk};
 ghost use Rattle.fx_pixel.specs.declared.Depth.TheVariants.{Byte};
 ghost use Rattle.std.specs.Ordering.{int_eq};
 ghost use Rattle.fx_base.specs.Rect.{columns, IsNear, IsStep};
@@ -10,7 +10,7 @@ ghost use Rattle.fx_effect.specs.Given.{row_pixel, ShowsClip};
 ghost use Rattle.fx_effect.specs.Meaning.{rendered};
 ghost use Rattle.fx_effect.specs.Numbers.{number};
 ghost use Rattle.fx_effect.specs.Shape.{IsLawful};
-ghost use Rattle.fx_area.specs.Convolve3.{convolve3, convolve_shape, divisor, keeps_source, rounded_z};
+ghost use Rattle.fx_area.specs.Convolve3.{convolve3, convolve_shape, divisor, factor, keeps_source, rounded_z};
 ghost use Rattle.fx_kernel.specs.Samples.{clamped};
 ghost use Rattle.fx_area.specs.Convolve3Laws.{convolve3_laws};
 ghost use Rattle.fx_area.specs.ConvolveRows.{
@@ -75,15 +75,9 @@ impl ImageEffect for Convolve3 {
     ) -> Result<Reply, Memory> {
         let components = [Components::Rgba, Components::Alpha];
         clips.push(clip_set(alloc, "Source", false, &components)?)?;
-        params.push(ParamDef::int(alloc, "k1", -256, 256, 0)?)?;
-        params.push(ParamDef::int(alloc, "k2", -256, 256, 0)?)?;
-        params.push(ParamDef::int(alloc, "k3", -256, 256, 0)?)?;
-        params.push(ParamDef::int(alloc, "k4", -256, 256, 0)?)?;
-        params.push(ParamDef::int(alloc, "k5", -256, 256, 1)?)?;
-        params.push(ParamDef::int(alloc, "k6", -256, 256, 0)?)?;
-        params.push(ParamDef::int(alloc, "k7", -256, 256, 0)?)?;
-        params.push(ParamDef::int(alloc, "k8", -256, 256, 0)?)?;
-        params.push(ParamDef::int(alloc, "k9", -256, 256, 0)?)?;
+        add_triple(alloc, params, "k1", "k2", "k3", 0)?;
+        add_triple(alloc, params, "k4", "k5", "k6", 1)?;
+        add_triple(alloc, params, "k7", "k8", "k9", 0)?;
         params.push(ParamDef::int(alloc, "divisor", 1, 65536, 1)?)?;
         Ok(Reply::Ok)
     }
@@ -159,6 +153,36 @@ impl ImageEffect for Convolve3 {
         ticket.stamped = true;
         Ok(())
     }
+}
+
+// Adds the numbers of three places of a row, from the left: 0 at the start, but for the middle one.
+fn add_triple(
+    alloc: Global,
+    params: &mut Vec<ParamDef>,
+    left: &str,
+    middle: &str,
+    right: &str,
+    start: i64,
+) -> Result<(), Memory>
+    ensures { OnOk result (params.new.items ≡ params.old.items
+        ++ factor left.now (pos 0) ∷ factor middle.now start ∷ factor right.now (pos 0) ∷ []) }
+{
+    add_factor(alloc, params, left, 0)?;
+    add_factor(alloc, params, middle, start)?;
+    add_factor(alloc, params, right, 0)
+}
+
+// Adds the number of a place, with what it is at the start.
+fn add_factor(
+    alloc: Global,
+    params: &mut Vec<ParamDef>,
+    name: &str,
+    start: i64,
+) -> Result<(), Memory>
+    ensures { OnOk result (params.new.items ≡ params.old.items ++ factor name.now start ∷ []) }
+{
+    params.push(ParamDef::int(alloc, name, -256, 256, start)?)?;
+    Ok(())
 }
 
 // Whether the middle number is the divisor, and the others are 0.
