@@ -1,16 +1,16 @@
 //! Arguments that are kept, so that effects are asked again and again in the same property sets.
-ghost use Rattle.std.specs.Prelude.{◌≡◌, ◌≢◌, ◌<◌, ◌≤◌, [], ℕ, List, slice_set, All, IfOk, None, OnErr, OnOk, length, pos, vec_len};
+ghost use Rattle.std.specs.Prelude.{◌≡◌, ◌≢◌, ◌<◌, ◌≤◌, ◌∷◌, [], ℕ, List, slice_set, All, IfOk, None, OnErr, OnOk, length};
 ghost use Rattle.fx_base.specs.Rect.{IsFrame};
 ghost use Rattle.fx_effect.specs.Asked.{HasTime, IsWindow};
 ghost use Rattle.fx_effect.specs.Shape.{IsLawful};
 ghost use Rattle.fx_props.specs.Entries.{HasValues};
 ghost use Rattle.fx_props.specs.Property.{IsAnswer, IsLawfulDef};
 ghost use Rattle.fx_props.specs.Value.{kind_of};
-ghost use Rattle.fx_props.specs.Set.{Puts, property, refusal};
+ghost use Rattle.fx_props.specs.Set.{Puts, made, property, refusal};
 ghost use Rattle.fx_props.specs.declared.names.TheConstants.{TIME};
 ghost use Rattle.fx_props.specs.declared.value.PropKind.TheVariants as kinds;
 ghost use Rattle.fx_actions.specs.Clips.{NamesClips, each_clip};
-ghost use Rattle.fx_actions.specs.Asking.{AreArguments, HasNumbers, number_value, rect_entry};
+ghost use Rattle.fx_actions.specs.Asking.{AreArguments, HasNumbers, number_value, numbers, rect_entry};
 
 use crate::interest::interest_by;
 use crate::is_identity::identity;
@@ -110,52 +110,73 @@ fn first_arguments(alloc: Global, name: &str, kind: PropKind) -> Result<Argument
     requires number { kind ≢ kinds.Text }
     ensures { IfOk result (AreArguments name.now kind) }
 {
-    let frame = vec![in alloc; zero(PropKind::Fix)]?;
-    let bounds = vec![in alloc; zero(kind), zero(kind), zero(kind), zero(kind)]?;
-    let defs = vec![in alloc;
-        definition(alloc, TIME, PropKind::Fix, frame)?,
-        definition(alloc, name, kind, bounds)?,
-    ]?;
+    let time = definition(alloc, TIME, PropKind::Fix, &[0])?;
+    let bounds = definition(alloc, name, kind, &[0, 0, 0, 0])?;
+    let set = set_of_two(alloc, time, bounds)?;
     Ok(Arguments {
-        set: PropSet::new(alloc, defs)?,
+        set,
         frame: [0],
         bounds: [0, 0, 0, 0],
     })
 }
 
-// A property that begins with these values, and takes as many.
-fn definition(
-    alloc: Global,
-    name: &str,
-    kind: PropKind,
-    start: Vec<PropValue>,
-) -> Result<PropDef, Memory>
-    requires kinds { All (λ v. kind_of v ≡ kind) start.items }
-    requires few { vec_len start ≤ 4 }
+// The set of two properties.
+fn set_of_two(alloc: Global, first: PropDef, second: PropDef) -> Result<PropSet, Memory>
+    requires names { first.name ≢ second.name }
+    requires first { IsLawfulDef first }
+    requires second { IsLawfulDef second }
+    ensures { IfOk result (λ set. (name : List ℕ) → property set name ≡ made (first ∷ second ∷ []) name) }
+{
+    let defs = vec![in alloc; first, second]?;
+    PropSet::new(alloc, defs)
+}
+
+// A property that begins with these numbers, and takes as many.
+fn definition(alloc: Global, name: &str, kind: PropKind, start: &[i64]) -> Result<PropDef, Memory>
+    requires number { kind ≢ kinds.Text }
+    requires frames { All IsFrame start.now }
+    requires few { length start.now ≤ 4 }
     ensures lawful { IfOk result (λ def. IsLawfulDef def) }
     ensures name { IfOk result (λ def. def.name ≡ name.now) }
     ensures kind { IfOk result (λ def. def.kind ≡ kind) }
-    ensures start { IfOk result (λ def. def.start ≡ start.items) }
+    ensures start { IfOk result (λ def. def.start ≡ numbers kind start.now) }
     ensures any { IfOk result (λ def. def.allowed ≡ []) }
 {
+    let name = String::from_str(alloc, name)?;
+    let values = numbers(alloc, kind, start)?;
     Ok(PropDef {
-        name: Name::of(String::from_str(alloc, name)?),
+        name: Name::of(name),
         kind,
-        most: start.len() as u32,
+        most: values.len() as u32,
         allowed: Names::of(Vec::new(alloc)),
-        start: PropList::of(start),
+        start: PropList::of(values),
     })
 }
 
-// The number 0 as a value of a property.
-fn zero(kind: PropKind) -> PropValue
+// Numbers as values of a property.
+fn numbers(alloc: Global, kind: PropKind, list: &[i64]) -> Result<Vec<PropValue>, Memory>
     requires number { kind ≢ kinds.Text }
-    ensures value { result ≡ number_value kind (pos 0) }
+    requires frames { All IsFrame list.now }
+    ensures values { IfOk result (λ values. values.items ≡ numbers kind list.now) }
+    ensures kinds { IfOk result (λ values. All (λ v. kind_of v ≡ kind) values.items) }
+{
+    let mut values = Vec::new(alloc);
+    for n in list {
+        values.push(number(kind, *n))?;
+    }
+    Ok(values)
+}
+
+// A number as a value of a property.
+fn number(kind: PropKind, n: i64) -> PropValue
+    requires number { kind ≢ kinds.Text }
+    requires frame { IsFrame n }
+    ensures value { result ≡ number_value kind n }
     ensures kind { kind_of result ≡ kind }
 {
     match kind {
-        PropKind::Int => PropValue::Int(0),
-        PropKind::Fix => PropValue::Fix(Fix { raw: 0 }),
+        PropKind::Int => PropValue::Int(n),
+        PropKind::Fix => PropValue::Fix(Fix::of_whole(n)),
         PropKind::Text => unreachable!(),
     }
 }

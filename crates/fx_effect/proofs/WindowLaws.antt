@@ -1,6 +1,7 @@
 -- Windows and the numbers that tell them.
-use Rattle.std.proofs.Common.{◌≤ℤ◌, inl, inr, ap, arith}
+use Rattle.std.proofs.Common.{◌≤ℤ◌, [], ◌∷◌, All, inl, inr, ap, arith}
 use Rattle.std.proofs.lemmas.Int.{ints}
+use Rattle.std.proofs.lemmas.List.Elements.{All-cons, All-nil}
 use Rattle.fx_base.specs.Bounds.{Bounds, IsRect}
 use Rattle.fx_base.specs.Rect.{IsFrame}
 use Rattle.fx_effect.specs.Asked.{IsWindow}
@@ -31,3 +32,11 @@ AreFrames-window r window =
       right = (omega (arith, ints), near.right);
       top = (omega (arith, ints), near.top);
     }
+
+-- the same of the list of them
+pub frames_of_window : (r : Bounds) → IsWindow r → All IsFrame (r.x1 ∷ r.y1 ∷ r.x2 ∷ r.y2 ∷ [])
+frames_of_window r window =
+    let frames = AreFrames-window r window in
+    All-cons IsFrame r.x1 (r.y1 ∷ r.x2 ∷ r.y2 ∷ []) frames.left
+    (All-cons IsFrame r.y1 (r.x2 ∷ r.y2 ∷ []) frames.bottom
+    (All-cons IsFrame r.x2 (r.y2 ∷ []) frames.right (All-cons IsFrame r.y2 [] frames.top (All-nil IsFrame))))

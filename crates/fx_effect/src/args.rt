@@ -1,10 +1,11 @@
 //! The property sets that actions are handed.
-ghost use Rattle.std.specs.Prelude.{◌≡◌, ◌^◌, ◌<◌, ◌∷◌, [], All, IfOk, vec_len};
+ghost use Rattle.std.specs.Prelude.{◌≡◌, ◌≢◌, ◌^◌, ◌<◌, ◌∷◌, [], All, IfOk, Some, length, map, vec_len};
 ghost use Rattle.fx_base.specs.Rect.{IsFrame};
 ghost use Rattle.fx_props.specs.declared.value.PropKind.TheVariants as kind;
 ghost use Rattle.fx_props.specs.Value.{kind_of};
-ghost use Rattle.fx_props.specs.Property.{IsLawfulDef};
-ghost use Rattle.fx_props.specs.Entries.{IsBlank, whole, region_values};
+ghost use Rattle.fx_props.specs.Property.{IsLawfulDef, property_made};
+ghost use Rattle.fx_props.specs.Set.{property};
+ghost use Rattle.fx_props.specs.Entries.{IsBlank, whole, window_values};
 ghost use Rattle.fx_effect.specs.Asked.{IsWindow, HasTime, HasRegion, HasWindow, HasRange, HasStep, AsksSequence};
 
 use fx_base::{Fix, Memory, Name, Names, Rect};
@@ -19,17 +20,9 @@ pub fn window_args(alloc: Global, frame: i64, window: Rect) -> Result<PropSet, M
     ensures time { IfOk result (λ set. HasTime set frame) }
     ensures window { IfOk result (λ set. HasWindow set window) }
 {
-    let bounds = vec![in alloc;
-        PropValue::Int(window.x1),
-        PropValue::Int(window.y1),
-        PropValue::Int(window.x2),
-        PropValue::Int(window.y2),
-    ]?;
-    let defs = vec![in alloc;
-        time(alloc, frame)?,
-        given(alloc, WINDOW, PropKind::Int, bounds)?,
-    ]?;
-    PropSet::new(alloc, defs)
+    let time = wholes_def(alloc, TIME, &[frame])?;
+    let window = window_def(alloc, window)?;
+    set_of_two(alloc, time, window)
 }
 
 /// The arguments of begin and end of a sequence: its first and its last frame, and 1 as the step from one
@@ -41,13 +34,9 @@ pub fn sequence_args(alloc: Global, first: i64, last: i64) -> Result<PropSet, Me
     ensures range { IfOk result (λ set. HasRange set first last) }
     ensures step { IfOk result HasStep }
 {
-    let range = vec![in alloc; whole(first), whole(last)]?;
-    let step = vec![in alloc; whole(1)]?;
-    let defs = vec![in alloc;
-        given(alloc, SEQUENCE, PropKind::Fix, range)?,
-        given(alloc, STEP, PropKind::Fix, step)?,
-    ]?;
-    PropSet::new(alloc, defs)
+    let range = wholes_def(alloc, SEQUENCE, &[first, last])?;
+    let step = wholes_def(alloc, STEP, &[1])?;
+    set_of_two(alloc, range, step)
 }
 
 /// The arguments of an action that is told the frame alone.
@@ -55,8 +44,8 @@ pub fn time_args(alloc: Global, frame: i64) -> Result<PropSet, Memory>
     requires { IsFrame frame }
     ensures { IfOk result (λ set. HasTime set frame) }
 {
-    let defs = vec![in alloc; time(alloc, frame)?]?;
-    PropSet::new(alloc, defs)
+    let time = wholes_def(alloc, TIME, &[frame])?;
+    set_of_one(alloc, time)
 }
 
 /// The arguments of get_regions_of_interest: the frame as the time, and the region that is asked for.
@@ -66,12 +55,9 @@ pub fn interest_args(alloc: Global, frame: i64, region: Rect) -> Result<PropSet,
     ensures time { IfOk result (λ set. HasTime set frame) }
     ensures region { IfOk result (λ set. HasRegion set region) }
 {
-    let values = whole_bounds(alloc, region)?;
-    let defs = vec![in alloc;
-        time(alloc, frame)?,
-        given(alloc, ASKED_REGION, PropKind::Fix, values)?,
-    ]?;
-    PropSet::new(alloc, defs)
+    let time = wholes_def(alloc, TIME, &[frame])?;
+    let region = wholes_def(alloc, ASKED_REGION, &corners(region))?;
+    set_of_two(alloc, time, region)
 }
 
 /// The set that get_region_of_definition writes to.
@@ -79,56 +65,96 @@ pub fn region_answer(alloc: Global) -> Result<PropSet, Memory>
     ensures { IfOk result (λ set. IsBlank set kind.Fix REGION.now) }
 {
     let region = blank(alloc, REGION, PropKind::Fix)?;
-    let defs = vec![in alloc; region]?;
+    set_of_one(alloc, region)
+}
+
+// The set of one property.
+fn set_of_one(alloc: Global, def: PropDef) -> Result<PropSet, Memory>
+    requires { IsLawfulDef def }
+    ensures { IfOk result (λ set. property set def.name ≡ Some (property_made def)) }
+{
+    let defs = vec![in alloc; def]?;
     PropSet::new(alloc, defs)
 }
 
-// The time of a frame.
-fn time(alloc: Global, frame: i64) -> Result<PropDef, Memory>
-    requires { IsFrame frame }
-    ensures lawful { IfOk result (λ def. IsLawfulDef def) }
-    ensures name { IfOk result (λ def. def.name ≡ TIME.now) }
-    ensures kind { IfOk result (λ def. def.kind ≡ kind.Fix) }
-    ensures start { IfOk result (λ def. def.start ≡ whole frame ∷ []) }
+// The set of two properties.
+fn set_of_two(alloc: Global, first: PropDef, second: PropDef) -> Result<PropSet, Memory>
+    requires names { first.name ≢ second.name }
+    requires first { IsLawfulDef first }
+    requires second { IsLawfulDef second }
+    ensures first { IfOk result (λ set. property set first.name ≡ Some (property_made first)) }
+    ensures second { IfOk result (λ set. property set second.name ≡ Some (property_made second)) }
 {
-    let values = vec![in alloc; whole(frame)]?;
-    given(alloc, TIME, PropKind::Fix, values)
+    let defs = vec![in alloc; first, second]?;
+    PropSet::new(alloc, defs)
+}
+
+// The numbers that tell a rectangle.
+fn corners(r: Rect) -> [i64; 4]
+    ensures { result ≡ r.x1 ∷ r.y1 ∷ r.x2 ∷ r.y2 ∷ [] }
+{
+    [r.x1, r.y1, r.x2, r.y2]
+}
+
+// The window in pixels.
+fn window_def(alloc: Global, window: Rect) -> Result<PropDef, Memory>
+    ensures lawful { IfOk result (λ def. IsLawfulDef def) }
+    ensures name { IfOk result (λ def. def.name ≡ WINDOW.now) }
+    ensures kind { IfOk result (λ def. def.kind ≡ kind.Int) }
+    ensures start { IfOk result (λ def. def.start ≡ window_values window) }
+{
+    let name = String::from_str(alloc, WINDOW)?;
+    let values = vec![in alloc;
+        PropValue::Int(window.x1),
+        PropValue::Int(window.y1),
+        PropValue::Int(window.x2),
+        PropValue::Int(window.y2),
+    ]?;
+    Ok(given(alloc, Name::of(name), PropKind::Int, values))
+}
+
+// A property that has these whole numbers as fixed-point ones, and at most as many.
+fn wholes_def(alloc: Global, name: &str, numbers: &[i64]) -> Result<PropDef, Memory>
+    requires numbers { All IsFrame numbers.now }
+    requires few { length numbers.now < 2 ^ 32 }
+    ensures lawful { IfOk result (λ def. IsLawfulDef def) }
+    ensures name { IfOk result (λ def. def.name ≡ name.now) }
+    ensures kind { IfOk result (λ def. def.kind ≡ kind.Fix) }
+    ensures start { IfOk result (λ def. def.start ≡ map whole numbers.now) }
+{
+    let name = String::from_str(alloc, name)?;
+    let values = wholes(alloc, numbers)?;
+    Ok(given(alloc, Name::of(name), PropKind::Fix, values))
 }
 
 // A property that has these values, and at most as many.
-fn given(
-    alloc: Global,
-    name: &str,
-    kind: PropKind,
-    values: Vec<PropValue>,
-) -> Result<PropDef, Memory>
+fn given(alloc: Global, name: Name, kind: PropKind, values: Vec<PropValue>) -> PropDef
     requires kinds { All (λ v. kind_of v ≡ kind) values.items }
     requires few { vec_len values < 2 ^ 32 }
-    ensures lawful { IfOk result (λ def. IsLawfulDef def) }
-    ensures name { IfOk result (λ def. def.name ≡ name.now) }
-    ensures kind { IfOk result (λ def. def.kind ≡ kind) }
-    ensures start { IfOk result (λ def. def.start ≡ values.items) }
+    ensures lawful { IsLawfulDef result }
+    ensures name { result.name ≡ name }
+    ensures kind { result.kind ≡ kind }
+    ensures start { result.start ≡ values.items }
 {
-    Ok(PropDef {
-        name: Name::of(String::from_str(alloc, name)?),
+    PropDef {
+        name,
         kind,
         most: values.len() as u32,
         allowed: Names::of(Vec::new(alloc)),
         start: PropList::of(values),
-    })
+    }
 }
 
-// A region as fixed-point numbers.
-fn whole_bounds(alloc: Global, region: Rect) -> Result<Vec<PropValue>, Memory>
-    requires { IsWindow region }
-    ensures { IfOk result (λ values. values.items ≡ region_values region) }
+// Whole numbers as fixed-point ones.
+fn wholes(alloc: Global, numbers: &[i64]) -> Result<Vec<PropValue>, Memory>
+    requires { All IsFrame numbers.now }
+    ensures values { IfOk result (λ values. values.items ≡ map whole numbers.now) }
+    ensures kinds { IfOk result (λ values. All (λ v. kind_of v ≡ kind.Fix) values.items) }
 {
-    let values = vec![in alloc;
-        whole(region.x1),
-        whole(region.y1),
-        whole(region.x2),
-        whole(region.y2),
-    ]?;
+    let mut values = Vec::new(alloc);
+    for n in numbers {
+        values.push(whole(*n))?;
+    }
     Ok(values)
 }
 
