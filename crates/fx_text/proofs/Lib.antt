@@ -1,5 +1,6 @@
 pub mod Unknown
 pub mod Rows
+pub mod Faults
 pub mod Counts
 pub mod Pairs
 pub mod PrintedLaws

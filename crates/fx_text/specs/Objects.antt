@@ -8,8 +8,11 @@ use Rattle.fx_text.specs.declared.fault.GraphCode.TheVariants.{NotJson}
 use Rattle.fx_text.specs.declared.raw.RawContext.{RawContext}
 use Rattle.fx_text.specs.declared.raw.RawContext.TheVariants as context
 use Rattle.fx_text.specs.declared.raw.RawRange.{RawRange}
+use Rattle.fx_text.specs.declared.raw.RawHead.{RawHead}
 use Rattle.fx_text.specs.declared.raw.RawOutput.{RawOutput}
+use Rattle.fx_text.specs.declared.raw.RawWork.{RawWork}
 use Rattle.fx_text.specs.declared.raw.RawWork.TheVariants as work
+use Rattle.fx_text.specs.declared.raw.Taking.{Taking}
 use Rattle.fx_text.specs.declared.value.RawClip.{RawClip}
 use Rattle.fx_text.specs.declared.value.RawParam.{RawParam}
 use Rattle.fx_text.specs.Fault.{Fault}
@@ -64,19 +67,40 @@ source_keys =
     codes "name" ∷ codes "source" ∷ codes "first" ∷ codes "last"
     ∷ codes "outside" ∷ codes "depth" ∷ codes "components" ∷ []
 
--- a source: its name, its pattern, its first and last frame, whether it holds, and depth and components,
--- which are the project's where absent
+-- the first and last frame of a source
+abbrev pub source_frames : List ℕ → Data → Result RawRange Fault
+source_frames path d =
+    after (whole_at path (codes "first") 0 LAST_FRAME d) (λ first.
+    after (whole_at path (codes "last") first LAST_FRAME d) (λ last.
+    Ok (record { first = first; last = last })))
+
+-- whether it holds, and depth and components, which are the project's where absent
+abbrev pub taking_of : List ℕ → Project → Data → Result Taking Fault
+taking_of path project d =
+    after (hold_at path (codes "outside") d) (λ hold.
+    after (depth_or path (codes "depth") project.depth d) (λ depth.
+    after (components_or path (codes "components") project.components d) (λ components.
+    Ok (record { hold = hold; depth = depth; components = components }))))
+
+abbrev pub source_with : List ℕ → RawRange → Taking → RawWork
+source_with pattern frames taking =
+    work.Source pattern frames.first frames.last taking.hold taking.depth taking.components
+
+-- what a source does: its pattern, its frames, and how they are taken
+abbrev pub source_work : List ℕ → Project → Data → Result RawWork Fault
+source_work path project d =
+    after (text_at path (codes "source") d) (λ pattern.
+    after (source_frames path d) (λ frames.
+    after (taking_of path project d) (λ taking.
+    Ok (source_with pattern frames taking))))
+
+-- a source: its name, and what it does
 abbrev pub source_of : List ℕ → Project → Data → Result Node Fault
 source_of path project d =
     after (check_object path source_keys d) (λ _.
     after (short_at path (codes "name") d) (λ name.
-    after (text_at path (codes "source") d) (λ pattern.
-    after (whole_at path (codes "first") 0 LAST_FRAME d) (λ first.
-    after (whole_at path (codes "last") first LAST_FRAME d) (λ last.
-    after (hold_at path (codes "outside") d) (λ hold.
-    after (depth_or path (codes "depth") project.depth d) (λ depth.
-    after (components_or path (codes "components") project.components d) (λ components.
-    Ok (record { name = name; path = path; work = work.Source pattern first last hold depth components })))))))))
+    after (source_work path project d) (λ work.
+    Ok (record { name = name; path = path; work = work }))))
 
 abbrev pub context_of : List ℕ → Option RawContext
 context_of text =
@@ -102,16 +126,22 @@ params_at path d = params_in (joined path (codes "params")) (get (codes "params"
 abbrev pub effect_keys : List (List ℕ)
 effect_keys = codes "name" ∷ codes "effect" ∷ codes "context" ∷ codes "clips" ∷ codes "params" ∷ []
 
--- an effect: its name, the effect's name, its context, clips and parameters
-abbrev pub effect_of : List ℕ → Data → Result Node Fault
-effect_of path d =
-    after (check_object path effect_keys d) (λ _.
-    after (short_at path (codes "name") d) (λ name.
+-- what an effect does: the effect's name, its context, clips and parameters
+abbrev pub effect_work : List ℕ → Data → Result RawWork Fault
+effect_work path d =
     after (text_at path (codes "effect") d) (λ effect.
     after (context_at path (codes "context") d) (λ context.
     after (clips_at path d) (λ clips.
     after (params_at path d) (λ params.
-    Ok (record { name = name; path = path; work = work.Effect effect context clips params })))))))
+    Ok (work.Effect effect context clips params)))))
+
+-- an effect: its name, and what it does
+abbrev pub effect_of : List ℕ → Data → Result Node Fault
+effect_of path d =
+    after (check_object path effect_keys d) (λ _.
+    after (short_at path (codes "name") d) (λ name.
+    after (effect_work path d) (λ work.
+    Ok (record { name = name; path = path; work = work }))))
 
 abbrev pub use_keys : List (List ℕ)
 use_keys = codes "name" ∷ codes "group" ∷ codes "clips" ∷ []
@@ -141,17 +171,24 @@ nodes_of path grouped project = read_items (λ k d. node_of (inside path k) grou
 abbrev pub inputs_of : List ℕ → Items → Result (List (List ℕ)) Fault
 inputs_of path = read_items (λ k d. short_of (inside path k) d) 0
 
+abbrev pub inputs_at : List ℕ → Data → Result (List (List ℕ)) Fault
+inputs_at path d = after (list_at path (codes "inputs") 0 MOST_INPUTS d) (inputs_of (joined path (codes "inputs")))
+
+abbrev pub group_nodes_at : List ℕ → Project → Data → Result (List Node) Fault
+group_nodes_at path project d =
+    let nodes_path = joined path (codes "nodes") in
+    after (list_at path (codes "nodes") 1 MOST_GROUP_NODES d) (nodes_of nodes_path true project)
+
 abbrev pub group_keys : List (List ℕ)
 group_keys = codes "name" ∷ codes "inputs" ∷ codes "nodes" ∷ codes "output" ∷ []
 
 -- a group: name, inputs, nodes and output
 abbrev pub group_of : List ℕ → Project → Data → Result Group Fault
 group_of path project d =
-    let nodes_path = joined path (codes "nodes") in
     after (check_object path group_keys d) (λ _.
     after (short_at path (codes "name") d) (λ name.
-    after (after (list_at path (codes "inputs") 0 MOST_INPUTS d) (inputs_of (joined path (codes "inputs")))) (λ inputs.
-    after (after (list_at path (codes "nodes") 1 MOST_GROUP_NODES d) (nodes_of nodes_path true project)) (λ nodes.
+    after (inputs_at path d) (λ inputs.
+    after (group_nodes_at path project d) (λ nodes.
     after (text_at path (codes "output") d) (λ output.
     Ok (record { name = name; inputs = inputs; nodes = nodes; output = output }))))))
 
@@ -180,28 +217,46 @@ abbrev pub top_keys : Bool → List (List ℕ)
 top_keys false = plain_keys
 top_keys true = codes "groups" ∷ plain_keys
 
+abbrev pub project_at : ℕ → Data → Result Project Fault
+project_at side d = after (member_at [] (codes "project") d) (project_of (codes "project") side)
+
+abbrev pub output_at : Data → Result RawOutput Fault
+output_at d = after (member_at [] (codes "output") d) (output_of (codes "output"))
+
+abbrev pub frames_at : Data → Result RawRange Fault
+frames_at d = after (member_at [] (codes "range") d) (range_of (codes "range"))
+
+abbrev pub nodes_at : ℕ → Bool → Project → Data → Result (List Node) Fault
+nodes_at most grouped project d =
+    after (list_at [] (codes "nodes") 1 most d) (nodes_of (codes "nodes") grouped project)
+
+-- the graph with this head: groups, nodes and takes
+abbrev pub graph_from : ℕ → Bool → RawHead → Data → Result Graph Fault
+graph_from most grouped head d =
+    after (groups_at head.project d) (λ groups.
+    after (nodes_at most grouped head.project d) (λ nodes.
+    after (takes_at d) (λ takes.
+    Ok (record {
+      format = head.format;
+      project = head.project;
+      output = head.output;
+      first = head.range.first;
+      last = head.range.last;
+      groups = groups;
+      nodes = nodes;
+      takes = takes;
+    }))))
+
 -- the graph: ofxr, project, output, range, groups, nodes and takes
 abbrev pub graph_of : ℕ → ℕ → Data → Result Graph Fault
 graph_of most side d =
     let grouped = is_grouped d in
     after (check_object [] (top_keys grouped) d) (λ _.
     after (whole_at [] (codes "ofxr") 1 2 d) (λ format.
-    after (after (member_at [] (codes "project") d) (project_of (codes "project") side)) (λ project.
-    after (after (member_at [] (codes "output") d) (output_of (codes "output"))) (λ output.
-    after (after (member_at [] (codes "range") d) (range_of (codes "range"))) (λ range.
-    after (groups_at project d) (λ groups.
-    after (after (list_at [] (codes "nodes") 1 most d) (nodes_of (codes "nodes") grouped project)) (λ nodes.
-    after (takes_at d) (λ takes.
-    Ok (record {
-      format = format;
-      project = project;
-      output = output;
-      first = range.first;
-      last = range.last;
-      groups = groups;
-      nodes = nodes;
-      takes = takes;
-    })))))))))
+    after (project_at side d) (λ project.
+    after (output_at d) (λ output.
+    after (frames_at d) (λ range.
+    graph_from most grouped (record { format = format; project = project; output = output; range = range }) d)))))
 
 abbrev pub graph_in : ℕ → ℕ → Option Data → Result Graph Fault
 graph_in most side (Some d) = graph_of most side d

@@ -4,7 +4,8 @@ ghost use Rattle.serde_json.specs.View.{view, items_view};
 ghost use Rattle.fx_text.specs.Answers.{Answers, Refuses};
 ghost use Rattle.fx_text.specs.Json.{short_of};
 ghost use Rattle.fx_text.specs.Paths.{inside};
-ghost use Rattle.fx_text.specs.Objects.{inputs_of, group_of, groups_of, groups_at};
+ghost use Rattle.fx_text.specs.declared.raw.TheConstants.{MOST_GROUP_NODES, MOST_INPUTS};
+ghost use Rattle.fx_text.specs.Objects.{inputs_of, inputs_at, group_nodes_at, group_of, groups_of, groups_at};
 
 use crate::fault::GraphFault;
 use crate::json::{check_object, list_at, list_or, name_at, short_at, short_of};
@@ -37,6 +38,33 @@ fn inputs_of(alloc: Global, path: &str, values: &[Value]) -> Result<Vec<Name>, G
     Ok(names)
 }
 
+// A group's inputs.
+fn inputs_at(alloc: Global, path: &str, value: &Value) -> Result<Names, GraphFault>
+    ensures answer { Answers result (inputs_at path.now (view value.now)) }
+    ensures few { IfOk result (λ names. length names ≤ MOST_INPUTS) }
+{
+    let inputs_path = joined(alloc, path, "inputs")?;
+    let values = list_at(alloc, path, "inputs", 0, MOST_INPUTS, value)?;
+    let inputs = inputs_of(alloc, inputs_path.as_str(), values)?;
+    Ok(Names::of(inputs))
+}
+
+// A group's nodes.
+fn group_nodes_at(
+    alloc: Global,
+    path: &str,
+    project: RawProject,
+    value: &Value,
+) -> Result<RawNodes, GraphFault>
+    ensures answer { Answers result (group_nodes_at path.now project (view value.now)) }
+    ensures few { IfOk result (λ nodes. length nodes ≤ MOST_GROUP_NODES) }
+{
+    let nodes_path = joined(alloc, path, "nodes")?;
+    let values = list_at(alloc, path, "nodes", 1, MOST_GROUP_NODES, value)?;
+    let nodes = nodes_of(alloc, nodes_path.as_str(), true, project, values)?;
+    Ok(RawNodes::of(nodes))
+}
+
 // A group.
 fn group_of(
     alloc: Global,
@@ -48,17 +76,13 @@ fn group_of(
 {
     check_object(alloc, path, &["name", "inputs", "nodes", "output"], value)?;
     let name = short_at(alloc, path, "name", value)?;
-    let inputs_path = joined(alloc, path, "inputs")?;
-    let values = list_at(alloc, path, "inputs", 0, MOST_INPUTS, value)?;
-    let inputs = inputs_of(alloc, inputs_path.as_str(), values)?;
-    let nodes_path = joined(alloc, path, "nodes")?;
-    let values = list_at(alloc, path, "nodes", 1, MOST_GROUP_NODES, value)?;
-    let nodes = nodes_of(alloc, nodes_path.as_str(), true, project, values)?;
+    let inputs = inputs_at(alloc, path, value)?;
+    let nodes = group_nodes_at(alloc, path, project, value)?;
     let output = name_at(alloc, path, "output", value)?;
     Ok(RawGroup {
         name,
-        inputs: Names::of(inputs),
-        nodes: RawNodes::of(nodes),
+        inputs,
+        nodes,
         output,
     })
 }

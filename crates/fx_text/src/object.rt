@@ -1,6 +1,6 @@
 //! Reads the objects of a graph file, each as its definition says it: first that it is an object and has no
 //! unknown member, then its members in the order of the format.
-ghost use Rattle.std.specs.Prelude.{◌≡◌, ◌≤◌, ◌+◌, ◌-◌, [], IfOk, length};
+ghost use Rattle.std.specs.Prelude.{◌≡◌, ◌≤◌, ◌+◌, ◌-◌, [], Ok, IfOk, length};
 ghost use Rattle.fx_base.specs.declared.limits.TheConstants.{LAST_FRAME, MOST_FRAMES, MOST_NODES, MOST_SIDE};
 ghost use Rattle.serde_json.specs.View.{view, items_view};
 ghost use Rattle.fx_text.specs.Answers.{Answers, Refuses};
@@ -8,8 +8,11 @@ ghost use Rattle.fx_text.specs.Json.{depth_of, components_of, format_of, depth_a
 ghost use Rattle.fx_text.specs.Json.{outside_of, hold_at, depth_or, components_or};
 ghost use Rattle.fx_text.specs.Paths.{inside};
 ghost use Rattle.fx_text.specs.Objects.{project_of, output_of, range_of, context_of, context_at, source_of};
+ghost use Rattle.fx_text.specs.Objects.{source_frames, taking_of, source_work, effect_work, project_at, output_at, frames_at, nodes_at};
 ghost use Rattle.fx_text.specs.Objects.{clips_at, params_at, effect_of, use_of, node_of, nodes_of, is_grouped, top_keys, graph_of};
-ghost use Rattle.fx_text.specs.Objects.{read_graph};
+ghost use Rattle.fx_text.specs.Objects.{graph_from, read_graph};
+ghost use Rattle.fx_text.specs.Nodes.{AreFrames, IsInRange};
+ghost use Rattle.fx_text.specs.Raw.{IsHead};
 ghost use Rattle.fx_text.specs.Json.{check_object};
 
 use crate::fault::{GraphCode, GraphFault};
@@ -21,8 +24,8 @@ use crate::json::{
 use crate::params::{clips_in, params_in};
 use crate::path::{inside, joined};
 use crate::raw::{
-    RawClips, RawContext, RawGraph, RawNode, RawNodes, RawOutput, RawParams, RawProject, RawRange,
-    RawWork,
+    RawClips, RawContext, RawGraph, RawHead, RawNode, RawNodes, RawOutput, RawParams, RawProject,
+    RawRange, RawWork, Taking,
 };
 use crate::takes::takes_at;
 use fx_base::Name;
@@ -226,6 +229,32 @@ fn context_at(
     Ok(Some(word_at(alloc, path, key, context_of(text))?))
 }
 
+// What an effect does.
+fn effect_work(alloc: Global, path: &str, value: &Value) -> Result<RawWork, GraphFault>
+    ensures value { Answers result (effect_work path.now (view value.now)) }
+    ensures range { IfOk result (λ work. IsInRange work) }
+{
+    let effect = name_at(alloc, path, "effect", value)?;
+    let context = context_at(alloc, path, "context", value)?;
+    let clips = clips_at(alloc, path, value)?;
+    let params = params_at(alloc, path, value)?;
+    Ok(RawWork::Effect {
+        effect,
+        context,
+        clips,
+        params,
+    })
+}
+
+// The node of this name at a path.
+fn node_with(alloc: Global, path: &str, name: Name, work: RawWork) -> Result<RawNode, GraphFault>
+    requires { IsInRange work }
+    ensures { Answers result (Ok (record { name = name; path = path.now; work = work })) }
+{
+    let path = Name::of(path.to_string(alloc)?);
+    Ok(RawNode { name, path, work })
+}
+
 // A node that is an effect.
 fn effect_of(alloc: Global, path: &str, value: &Value) -> Result<RawNode, GraphFault>
     ensures { Answers result (effect_of path.now (view value.now)) }
@@ -237,20 +266,8 @@ fn effect_of(alloc: Global, path: &str, value: &Value) -> Result<RawNode, GraphF
         value,
     )?;
     let name = short_at(alloc, path, "name", value)?;
-    let effect = name_at(alloc, path, "effect", value)?;
-    let context = context_at(alloc, path, "context", value)?;
-    let clips = clips_at(alloc, path, value)?;
-    let params = params_at(alloc, path, value)?;
-    Ok(RawNode {
-        name,
-        path: Name::of(path.to_string(alloc)?),
-        work: RawWork::Effect {
-            effect,
-            context,
-            clips,
-            params,
-        },
-    })
+    let work = effect_work(alloc, path, value)?;
+    node_with(alloc, path, name, work)
 }
 
 fn clips_at(alloc: Global, path: &str, value: &Value) -> Result<RawClips, GraphFault>
@@ -275,11 +292,7 @@ fn use_of(alloc: Global, path: &str, value: &Value) -> Result<RawNode, GraphFaul
     let name = short_at(alloc, path, "name", value)?;
     let group = name_at(alloc, path, "group", value)?;
     let clips = clips_at(alloc, path, value)?;
-    Ok(RawNode {
-        name,
-        path: Name::of(path.to_string(alloc)?),
-        work: RawWork::GroupUse { group, clips },
-    })
+    node_with(alloc, path, name, RawWork::GroupUse { group, clips })
 }
 
 // A node: where there may be groups, a use where it has a member `group`; else a source where it has a member
@@ -300,6 +313,58 @@ fn node_of(
     } else {
         effect_of(alloc, path, value)
     }
+}
+
+// The frames of a source: as far as the last frame, and at most as many as that.
+fn source_frames(alloc: Global, path: &str, value: &Value) -> Result<RawRange, GraphFault>
+    ensures range { IfOk result (λ r. AreFrames r.first r.last) }
+    ensures answer { Answers result (source_frames path.now (view value.now)) }
+{
+    let first = whole_at(alloc, path, "first", 0, LAST_FRAME, value)?;
+    let last = whole_at(alloc, path, "last", first, LAST_FRAME, value)?;
+    Ok(RawRange { first, last })
+}
+
+// How a source's frames are taken.
+fn taking_of(
+    alloc: Global,
+    path: &str,
+    project: RawProject,
+    value: &Value,
+) -> Result<Taking, GraphFault>
+    ensures { Answers result (taking_of path.now project (view value.now)) }
+{
+    let hold = hold_at(alloc, path, "outside", value)?;
+    let depth = depth_or(alloc, path, "depth", project.depth, value)?;
+    let components = components_or(alloc, path, "components", project.components, value)?;
+    Ok(Taking {
+        hold,
+        depth,
+        components,
+    })
+}
+
+// What a source does.
+fn source_work(
+    alloc: Global,
+    path: &str,
+    project: RawProject,
+    value: &Value,
+) -> Result<RawWork, GraphFault>
+    ensures value { Answers result (source_work path.now project (view value.now)) }
+    ensures range { IfOk result (λ work. IsInRange work) }
+{
+    let pattern = name_at(alloc, path, "source", value)?;
+    let frames = source_frames(alloc, path, value)?;
+    let taking = taking_of(alloc, path, project, value)?;
+    Ok(RawWork::Source {
+        pattern,
+        first: frames.first,
+        last: frames.last,
+        hold: taking.hold,
+        depth: taking.depth,
+        components: taking.components,
+    })
 }
 
 // A node that is a source.
@@ -326,24 +391,8 @@ fn source_of(
         value,
     )?;
     let name = short_at(alloc, path, "name", value)?;
-    let pattern = name_at(alloc, path, "source", value)?;
-    let first = whole_at(alloc, path, "first", 0, LAST_FRAME, value)?;
-    let last = whole_at(alloc, path, "last", first, LAST_FRAME, value)?;
-    let hold = hold_at(alloc, path, "outside", value)?;
-    let depth = depth_or(alloc, path, "depth", project.depth, value)?;
-    let components = components_or(alloc, path, "components", project.components, value)?;
-    Ok(RawNode {
-        name,
-        path: Name::of(path.to_string(alloc)?),
-        work: RawWork::Source {
-            pattern,
-            first,
-            last,
-            hold,
-            depth,
-            components,
-        },
-    })
+    let work = source_work(alloc, path, project, value)?;
+    node_with(alloc, path, name, work)
 }
 
 // The node at a place of a list.
@@ -415,6 +464,77 @@ fn check_top(alloc: Global, grouped: bool, value: &Value) -> Result<(), GraphFau
     }
 }
 
+// The member `project`.
+fn project_at(alloc: Global, most_side: u32, value: &Value) -> Result<RawProject, GraphFault>
+    requires { most_side ≤ MOST_SIDE }
+    ensures { Answers result (project_at most_side (view value.now)) }
+{
+    let project = member_at(alloc, "", "project", value)?;
+    project_of(alloc, "project", most_side, project)
+}
+
+// The member `output`.
+fn output_at(alloc: Global, value: &Value) -> Result<RawOutput, GraphFault>
+    ensures { Answers result (output_at (view value.now)) }
+{
+    let output = member_at(alloc, "", "output", value)?;
+    output_of(alloc, "output", output)
+}
+
+// The member `range`.
+fn frames_at(alloc: Global, value: &Value) -> Result<RawRange, GraphFault>
+    ensures order { IfOk result (λ r. r.first ≤ r.last) }
+    ensures few { IfOk result (λ r. r.last ≤ r.first + (MOST_FRAMES - 1)) }
+    ensures end { IfOk result (λ r. r.last ≤ LAST_FRAME) }
+    ensures answer { Answers result (frames_at (view value.now)) }
+{
+    let range = member_at(alloc, "", "range", value)?;
+    range_of(alloc, "range", range)
+}
+
+// The member `nodes`.
+fn nodes_at(
+    alloc: Global,
+    most_nodes: u32,
+    grouped: bool,
+    project: RawProject,
+    value: &Value,
+) -> Result<RawNodes, GraphFault>
+    requires { most_nodes ≤ MOST_NODES }
+    ensures { Answers result (nodes_at most_nodes grouped project (view value.now)) }
+{
+    let values = list_at(alloc, "", "nodes", 1, most_nodes as usize, value)?;
+    let nodes = nodes_of(alloc, "nodes", grouped, project, values)?;
+    Ok(RawNodes::of(nodes))
+}
+
+// The graph with this head: its groups, nodes and takes are read.
+fn graph_from(
+    alloc: Global,
+    most_nodes: u32,
+    grouped: bool,
+    head: RawHead,
+    value: &Value,
+) -> Result<RawGraph, GraphFault>
+    requires nodes { most_nodes ≤ MOST_NODES }
+    requires head { IsHead head.format head.range.first head.range.last }
+    ensures { Answers result (graph_from most_nodes grouped head (view value.now)) }
+{
+    let groups = groups_at(alloc, head.project, value)?;
+    let nodes = nodes_at(alloc, most_nodes, grouped, head.project, value)?;
+    let takes = takes_at(alloc, value)?;
+    Ok(RawGraph {
+        format: head.format,
+        project: head.project,
+        output: head.output,
+        first: head.range.first,
+        last: head.range.last,
+        groups,
+        nodes,
+        takes,
+    })
+}
+
 // The graph.
 fn graph_of(
     alloc: Global,
@@ -429,31 +549,19 @@ fn graph_of(
     let grouped = is_grouped(value);
     check_top(alloc, grouped, value)?;
     let format = whole_at(alloc, "", "ofxr", 1, 2, value)?;
-    let project = project_of(
-        alloc,
-        "project",
-        most_side,
-        member_at(alloc, "", "project", value)?,
-    )?;
-    let output = output_of(alloc, "output", member_at(alloc, "", "output", value)?)?;
-    let range = range_of(alloc, "range", member_at(alloc, "", "range", value)?)?;
-    let groups = groups_at(alloc, project, value)?;
-    let values = list_at(alloc, "", "nodes", 1, most_nodes as usize, value)?;
-    let nodes = nodes_of(alloc, "nodes", grouped, project, values)?;
-    let takes = takes_at(alloc, value)?;
-    Ok(RawGraph {
+    let project = project_at(alloc, most_side, value)?;
+    let output = output_at(alloc, value)?;
+    let range = frames_at(alloc, value)?;
+    let head = RawHead {
         format,
         project,
         output,
-        first: range.first,
-        last: range.last,
-        groups,
-        nodes: RawNodes::of(nodes),
-        takes,
-    })
+        range,
+    };
+    graph_from(alloc, most_nodes, grouped, head, value)
 }
 
-//// The graph that a file's bytes say, or the first fault: `NotJson` at the empty path where they are no JSON
+/// The graph that a file's bytes say, or the first fault: `NotJson` at the empty path where they are no JSON
 /// text that `serde_json` reads; else the file is walked in the order of the format, and `WrongForm` or
 /// `NumberOutOfRange` come with the path of where. A graph has at most `most_nodes` nodes and sides of at
 /// most `most_side` pixels.

@@ -48,6 +48,24 @@ pub struct RawOutput {
     pub format: Format,
 }
 
+/// What a graph file says before its groups.
+#[derive(Drop)]
+pub(crate) struct RawHead {
+    pub(crate) format: u32,
+    pub(crate) project: RawProject,
+    pub(crate) output: RawOutput,
+    pub(crate) range: RawRange,
+}
+
+/// How a source's frames are taken: whether the nearest holds outside of them, and the depth and components that
+/// they are converted to.
+#[derive(Clone, Copy)]
+pub(crate) struct Taking {
+    pub(crate) hold: bool,
+    pub(crate) depth: Depth,
+    pub(crate) components: Components,
+}
+
 /// How an effect is used (OpenFX 1.4, "Image Effect Contexts").
 #[derive(Clone, Copy, Debug, PartialEq, Eq)]
 pub enum RawContext {

@@ -1,7 +1,11 @@
-use Rattle.std.proofs.Common.{arith}
+use Rattle.std.proofs.Common.{◌≡◌, ◌≢◌, rules, Err, arith}
 use Rattle.std.proofs.lemmas.Grind.{common_steps}
 use Rattle.fx_text.specs.Paths.{inside}
-use Rattle.fx_text.specs.Takes.{edit_of}
+use Rattle.fx_text.specs.Takes.{edit_of, edits_of}
+use Rattle.serde_json.specs.View.{items_view}
+use Rattle.fx_text.specs.Fault.{told}
+use Rattle.fx_text.specs.declared.fault.GraphFault.TheVariants.{Memory}
+use Rattle.fx_text.proofs.Faults.{item_fault}
 use Rattle.fx_text.proofs.Rows.{next_item}
 use Rattle.fx_text.proofs.takes.edits_of.Goals as goal
 
@@ -11,3 +15,12 @@ loop-k-preserved c = record {
       c.loop-k-test.true c.index-values-k.is c.in_ok-push.ensures.items c.in_ok-edit.ensures.0 c.loop-k.invariant.all;
   count = grind (arith, common_steps, c.in_ok-push.ensures.len, c.loop-k.invariant.count);
 }
+
+pub returns-in_err-edit-clause-err : goal.returns-in_err-edit-clause-err
+returns-in_err-edit-clause-err c =
+    let args = c.args in
+    let e = c.in_err-edit.field-0.0 in
+    let fault : e ≢ Memory → edits_of args.path.now (items_view args.values.now) ≡ Err (told e) = λ other.
+    item_fault (λ k d. edit_of (inside args.path.now k) d) args.values.now c.loop-k.k c.index-values-k.result c.loop-k.edits.items _ _
+      c.loop-k-test.true c.index-values-k.is (c.in_err-edit.ensures.1 other) c.loop-k.invariant.all in
+    search (rules, fault)
