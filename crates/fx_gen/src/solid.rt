@@ -1,8 +1,8 @@
 //! The effect solid.
-ghost use Rattle.std.specs.Prelude.{◌≡◌, ◌≤◌, ◌≤ℤ◌, pos, IfOk};
+ghost use Rattle.std.specs.Prelude.{◌≡◌, ◌≤◌, ◌≤ℤ◌, pos, [], ◌∷◌, ◌++◌, IfOk, OnOk};
 ghost use Rattle.fx_pixel.specs.Pixel.{greatest, components_of, IsOfDepth};
 ghost use Rattle.fx_effect.specs.Shape.{IsLawful};
-ghost use Rattle.fx_gen.specs.Solid.{scale, colour, solid, solid_shape};
+ghost use Rattle.fx_gen.specs.Solid.{scale, colour, level, solid, solid_shape};
 ghost use Rattle.fx_gen.specs.SolidLaws.{solid_laws};
 
 use crate::generator::{describe, write_project};
@@ -42,10 +42,10 @@ impl ImageEffect for Solid {
         _clips: &mut Vec<PropSet>,
         params: &mut Vec<ParamDef>,
     ) -> Result<Reply, Memory> {
-        params.push(ParamDef::fix(alloc, "r", NONE, FULL, NONE)?)?;
-        params.push(ParamDef::fix(alloc, "g", NONE, FULL, NONE)?)?;
-        params.push(ParamDef::fix(alloc, "b", NONE, FULL, NONE)?)?;
-        params.push(ParamDef::fix(alloc, "a", NONE, FULL, FULL)?)?;
+        add_level(alloc, params, "r", NONE)?;
+        add_level(alloc, params, "g", NONE)?;
+        add_level(alloc, params, "b", NONE)?;
+        add_level(alloc, params, "a", FULL)?;
         Ok(Reply::Ok)
     }
 
@@ -99,6 +99,19 @@ impl ImageEffect for Solid {
         ticket.stamped = true;
         Ok(())
     }
+}
+
+// Adds the parameter of a level, with what it is at the start.
+fn add_level(
+    alloc: Global,
+    params: &mut Vec<ParamDef>,
+    name: &str,
+    start: Fix,
+) -> Result<(), Memory>
+    ensures { OnOk result (params.new.items ≡ params.old.items ++ level name.now start.raw ∷ []) }
+{
+    params.push(ParamDef::fix(alloc, name, NONE, FULL, start)?)?;
+    Ok(())
 }
 
 // One pixel everywhere.

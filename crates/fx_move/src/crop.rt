@@ -1,5 +1,5 @@
 //! The effect crop.
-ghost use Rattle.std.specs.Prelude.{◌≡◌, ◌<◌, ◌+◌, ◌*◌, ◌≤◌, ℕ, pos, ◌+ℤ◌, length, if◌then◌else◌};
+ghost use Rattle.std.specs.Prelude.{◌≡◌, ◌<◌, ◌+◌, ◌*◌, ◌≤◌, ℕ, pos, ◌+ℤ◌, [], ◌∷◌, ◌++◌, length, OnOk, if◌then◌else◌};
 ghost use Rattle.fx_base.specs.Rect.{within, columns};
 ghost use Rattle.fx_pixel.specs.Pixel.{zero, IsOfDepth, components_of};
 ghost use Rattle.fx_image.specs.Stored.{pixel_size, pixel_in};
@@ -7,6 +7,7 @@ ghost use Rattle.fx_effect.specs.Asked.{MayRender};
 ghost use Rattle.fx_effect.specs.Meaning.{rendered};
 ghost use Rattle.fx_effect.specs.Rows.{IsRow};
 ghost use Rattle.fx_effect.specs.Shape.{IsLawful};
+ghost use Rattle.fx_params.specs.Def.{int_def};
 ghost use Rattle.fx_move.specs.Crop.{crop, crop_shape, crop_rect};
 ghost use Rattle.fx_move.specs.CropLaws.{crop_laws};
 
@@ -60,10 +61,10 @@ impl ImageEffect for Crop {
     ) -> Result<Reply, Memory> {
         let components = [Components::Rgba, Components::Alpha];
         clips.push(clip_set(alloc, "Source", false, &components)?)?;
-        params.push(ParamDef::int(alloc, "x", -16384, 16384, 0)?)?;
-        params.push(ParamDef::int(alloc, "y", -16384, 16384, 0)?)?;
-        params.push(ParamDef::int(alloc, "width", 0, 16384, 16384)?)?;
-        params.push(ParamDef::int(alloc, "height", 0, 16384, 16384)?)?;
+        add_int(alloc, params, "x", -16384, 16384, 0)?;
+        add_int(alloc, params, "y", -16384, 16384, 0)?;
+        add_int(alloc, params, "width", 0, 16384, 16384)?;
+        add_int(alloc, params, "height", 0, 16384, 16384)?;
         Ok(Reply::Ok)
     }
 
@@ -133,6 +134,21 @@ impl ImageEffect for Crop {
         ticket.stamped = true;
         Ok(())
     }
+}
+
+// Adds the parameter of a whole number.
+fn add_int(
+    alloc: Global,
+    params: &mut Vec<ParamDef>,
+    name: &str,
+    least: i64,
+    greatest: i64,
+    start: i64,
+) -> Result<(), Memory>
+    ensures { OnOk result (params.new.items ≡ params.old.items ++ int_def name.now least greatest start ∷ []) }
+{
+    params.push(ParamDef::int(alloc, name, least, greatest, start)?)?;
+    Ok(())
 }
 
 // The rectangle that is kept.

@@ -1,6 +1,7 @@
 //! The effect shuffle.
-ghost use Rattle.std.specs.Prelude.{◌≡◌, ◌<◌, ℕ, slice_index};
-ghost use Rattle.fx_point.specs.Shuffle.{shuffle, chosen, shuffled, keeps_all, IsChoice};
+ghost use Rattle.std.specs.Prelude.{◌≡◌, ◌<◌, ℕ, [], ◌∷◌, ◌++◌, OnOk, slice_index};
+ghost use Rattle.fx_params.specs.Def.{choice_def};
+ghost use Rattle.fx_point.specs.Shuffle.{shuffle, choices, chosen, shuffled, keeps_all, IsChoice};
 ghost use Rattle.fx_point.specs.Picks.{place_of, IsPlace, ArePicked};
 ghost use Rattle.fx_point.specs.ShuffleLaws.{shuffle_laws};
 
@@ -46,10 +47,10 @@ impl ImageEffect for Shuffle {
         params: &mut Vec<ParamDef>,
     ) -> Result<Reply, Memory> {
         clips.push(clip_set(alloc, "Source", false, &[Components::Rgba])?)?;
-        params.push(ParamDef::choice(alloc, "r", &CHOICES, 0)?)?;
-        params.push(ParamDef::choice(alloc, "g", &CHOICES, 1)?)?;
-        params.push(ParamDef::choice(alloc, "b", &CHOICES, 2)?)?;
-        params.push(ParamDef::choice(alloc, "a", &CHOICES, 3)?)?;
+        add_choice(alloc, params, "r", 0)?;
+        add_choice(alloc, params, "g", 1)?;
+        add_choice(alloc, params, "b", 2)?;
+        add_choice(alloc, params, "a", 3)?;
         Ok(Reply::Ok)
     }
 
@@ -117,6 +118,19 @@ impl ImageEffect for Shuffle {
         ticket.stamped = true;
         Ok(())
     }
+}
+
+// Adds the parameter of a sample, with the place of what it is at the start.
+fn add_choice(
+    alloc: Global,
+    params: &mut Vec<ParamDef>,
+    name: &str,
+    start: u32,
+) -> Result<(), Memory>
+    ensures { OnOk result (params.new.items ≡ params.old.items ++ choice_def name.now choices start ∷ []) }
+{
+    params.push(ParamDef::choice(alloc, name, &CHOICES, start)?)?;
+    Ok(())
 }
 
 // Whether each sample is its own.

@@ -1,5 +1,5 @@
 //! The effect frameblend.
-ghost use Rattle.std.specs.Prelude.{◌≡◌, ◌≤◌, ◌+◌, ◌*◌, pos, ◌-ℤ◌, length, OnOk};
+ghost use Rattle.std.specs.Prelude.{◌≡◌, ◌≤◌, ◌+◌, ◌*◌, pos, ◌-ℤ◌, length, OnOk, vec_len};
 ghost use Rattle.fx_base.specs.Rect.{columns, IsFrame};
 ghost use Rattle.fx_pixel.specs.Pixel.{count, greatest};
 ghost use Rattle.fx_image.specs.Stored.{pixel_size};
@@ -20,7 +20,7 @@ use fx_effect::{
     Context, Description, Identity, ImageEffect, Inputs, Reply, RowKernel, Safety, Values,
     clip_set, fill_with,
 };
-use fx_gate::Hold;
+use fx_gate::{Hold, Workspace};
 use fx_image::Part;
 use fx_kernel::{Mean, add_row, clear, write_means};
 use fx_params::ParamDef;
@@ -275,15 +275,55 @@ impl<'a, 'b> BlendRows<'a, 'b> {
         ensures ok { let me = self.now in OnOk result (IsWritten out.old out.new
             (blend_pixel me.inputs.now me.frame me.radius out.old.image.now.components)) }
     {
-        let two_rows = 2 * out.row_bytes();
-        let rect = out.rect();
-        let cells = offset(rect.x1, rect.x2) * out.components().count() as usize;
+        let (cells, bytes) = (sample_count(out), 2 * out.row_bytes());
         let workspace = hold.workspace();
-        workspace.room(alloc, cells as u32)?;
-        workspace.byte_room(alloc, two_rows)?;
-        let cells = workspace.cells.slice_mut(0..cells);
-        let bytes = workspace.bytes.slice_mut(0..two_rows);
-        fill_with(self, cells, bytes, out);
+        make_room(workspace, alloc, cells, bytes)?;
+        self.fill(workspace, cells as usize, bytes, out);
         Ok(())
     }
+
+    // Fills a part, with sums in the first cells and two rows of pixels in the first bytes.
+    fn fill(&self, workspace: &mut Workspace, cells: usize, bytes: usize, out: &mut Part<'_>)
+        requires part { IsPart out.old }
+        requires shows { let image = out.old.image.now in
+            ShowsClip self.now.inputs.now 0 image.depth image.components }
+        requires few { self.now.radius ≤ 16 }
+        requires frame { IsFrame self.now.frame }
+        requires mean { self.now.mean ≡ 2 * self.now.radius + 1 }
+        requires cells { cells ≡ columns out.old.rect * count out.old.image.now.components }
+        requires bytes { let image = out.old.image.now in
+            bytes ≡ 2 * (columns out.old.rect * pixel_size image.depth image.components) }
+        requires cell_room { cells ≤ vec_len workspace.old.cells }
+        requires byte_room { bytes ≤ vec_len workspace.old.bytes }
+        ensures { let me = self.now in IsWritten out.old out.new
+            (blend_pixel me.inputs.now me.frame me.radius out.old.image.now.components) }
+    {
+        let cells = workspace.cells.slice_mut(0..cells);
+        let bytes = workspace.bytes.slice_mut(0..bytes);
+        fill_with(self, cells, bytes, out);
+    }
+}
+
+// How many samples a row of a part has.
+fn sample_count(out: &Part<'_>) -> u32
+    requires { IsPart out.now }
+    ensures { result ≡ columns out.now.rect * count out.now.image.now.components }
+{
+    let _small = out.row_bytes();
+    let rect = out.rect();
+    (offset(rect.x1, rect.x2) * out.components().count() as usize) as u32
+}
+
+// Makes room for so many cells and bytes.
+fn make_room(
+    workspace: &mut Workspace,
+    alloc: Global,
+    cells: u32,
+    bytes: usize,
+) -> Result<(), Memory>
+    ensures cells { OnOk result (cells ≤ vec_len workspace.new.cells) }
+    ensures bytes { OnOk result (bytes ≤ vec_len workspace.new.bytes) }
+{
+    workspace.room(alloc, cells)?;
+    workspace.byte_room(alloc, bytes)
 }
