@@ -1,7 +1,9 @@
-ghost use Rattle.std.specs.Prelude.{◌≡◌, pos, IfOk};
+ghost use Rattle.std.specs.Prelude.{◌≡◌, [], ◌∷◌, pos};
 ghost use Rattle.fx_base.specs.Rect.{Holds, IsNear, columns, rows};
 ghost use Rattle.fx_pixel.specs.Pixel.{IsOfDepth, components_of};
 ghost use Rattle.fx_pixel.specs.declared.Components.TheVariants.{Rgba as RgbaSamples};
+ghost use Rattle.fx_pixel.specs.declared.Depth.TheVariants.{Byte};
+ghost use Rattle.fx_effect.specs.Placed.{IsPiece};
 
 use crate::same::{same, same_at};
 use fx_base::{Memory, Rect};
@@ -13,6 +15,7 @@ use fx_image::Image;
 use fx_pixel::{Components, Depth, Pixel};
 use fx_props::PropSet;
 use std::alloc::Global;
+use std::process::Abort;
 use std::sync::Arc;
 use std::test::Fail;
 
@@ -46,7 +49,7 @@ const CLEAR: Pixel = Pixel::Rgba {
 
 #[test]
 fn numbers_are_given_back(rt: HostRuntime) -> Result<(), Fail> {
-    let numbers = Numbers::of(vec![in rt.alloc(); -1, 2]?);
+    let numbers = Numbers::of([-1, 2].to_vec(rt.alloc())?);
     same(&rt, numbers.items(), [-1, 2].as_slice());
     same(&rt, numbers.into_items().as_slice(), [-1, 2].as_slice());
     Ok(())
@@ -54,7 +57,7 @@ fn numbers_are_given_back(rt: HostRuntime) -> Result<(), Fail> {
 
 #[test]
 fn flags_are_given_back(rt: HostRuntime) -> Result<(), Fail> {
-    let flags = Flags::of(vec![in rt.alloc(); true, false]?);
+    let flags = Flags::of([true, false].to_vec(rt.alloc())?);
     same(&rt, flags.items(), [true, false].as_slice());
     same(&rt, flags.into_items().as_slice(), [true, false].as_slice());
     Ok(())
@@ -64,8 +67,8 @@ fn flags_are_given_back(rt: HostRuntime) -> Result<(), Fail> {
 fn values_of(alloc: Global, connected: bool) -> Result<Values, Memory> {
     Ok(Values {
         frame: 3,
-        numbers: Numbers::of(vec![in alloc; 7, -8]?),
-        connected: Flags::of(vec![in alloc; connected]?),
+        numbers: Numbers::of([7, -8].to_vec(alloc)?),
+        connected: Flags::of([connected].to_vec(alloc)?),
         project: Rect::of(0, 0, 2, 1),
     })
 }
@@ -96,7 +99,7 @@ const REPEATED: Pixel = Pixel::Rgba {
 // And back to short samples as RGBA.
 #[test]
 fn steps_are_taken_and_given_back(rt: HostRuntime) -> Result<(), Fail> {
-    let steps = Steps::of(vec![in rt.alloc(); STEP]?);
+    let steps = Steps::of([STEP].to_vec(rt.alloc())?);
     same(&rt, steps.items(), [STEP].as_slice());
     let back = steps.convert(GREY, Depth::Short, Depth::Short, Components::Rgba);
     same(&rt, back, REPEATED);
@@ -105,60 +108,95 @@ fn steps_are_taken_and_given_back(rt: HostRuntime) -> Result<(), Fail> {
 }
 
 // An image of two pixels, one of them this one.
-fn pair(alloc: Global, rect: Rect, depth: Depth, x: i64, p: Pixel) -> Result<Image, Memory>
+fn pair(rt: &(impl Abort + AllocGlobal), rect: Rect, depth: Depth, x: i64, p: Pixel) -> Image
     requires near { IsNear rect }
     requires two { columns rect ≡ 2 }
     requires row { rows rect ≡ 1 }
     requires place { Holds rect x (pos 0) }
     requires components { components_of p ≡ RgbaSamples }
     requires depth { IsOfDepth depth p }
-    ensures { IfOk result (λ image. (image.rect ≡ rect) × (image.depth ≡ depth) × (image.components ≡ RgbaSamples)) }
+    ensures { (result.rect ≡ rect) × (result.depth ≡ depth) × (result.components ≡ RgbaSamples) }
 {
-    let mut image = Image::new(alloc, rect, depth, Components::Rgba, 16)?;
+    let mut image = Image::new(rt.alloc(), rect, depth, Components::Rgba, 16).expect(
+        rt, "no image",
+    );
     image.put(x, 0, p);
-    Ok(image)
+    image
+}
+
+// The whole of an image that is shared.
+fn tile<'a>(rt: &(impl Abort + AllocGlobal), image: Image) -> Piece<'a>
+    ensures { IsPiece result }
+{
+    image.pixels_fit();
+    let cut = image.rect();
+    Piece::Tile {
+        image: Arc::new(rt.alloc(), image).expect(rt, "no tile"),
+        cut,
+        through: Steps::of(Vec::new(rt.alloc())),
+    }
+}
+
+// The whole of an image that is lent.
+fn frame(alloc: Global, image: &Image) -> Piece<'_>
+    ensures { IsPiece result }
+{
+    Piece::Frame {
+        view: image.view(image.rect()),
+        through: Steps::of(Vec::new(alloc)),
+    }
+}
+
+// The two pieces, one behind the other.
+fn inputs_of<'a>(rt: &(impl Abort + AllocGlobal), first: Piece<'a>, second: Piece<'a>) -> Inputs<'a>
+    requires first { IsPiece first }
+    requires second { IsPiece second }
+    ensures depth { result.depth ≡ Byte }
+    ensures components { result.components ≡ RgbaSamples ∷ [] }
+{
+    let alloc = rt.alloc();
+    let components = [Components::Rgba].to_vec(alloc).expect(rt, "no clip");
+    let mut inputs = Inputs::new(alloc, Depth::Byte, components).expect(rt, "no inputs");
+    inputs.push(alloc, 0, 5, first).expect(rt, "no first");
+    inputs.push(alloc, 0, 5, second).expect(rt, "no second");
+    inputs
+}
+
+// The bytes of the columns -1 to 3.
+const SHOWN: [u8; 20] = [
+    0, 0, 0, 0, 0, 0, 0, 0, 1, 2, 3, 4, 128, 128, 128, 128, 0, 0, 0, 0,
+];
+
+fn shows_rows(rt: &impl Abort, inputs: &Inputs<'_>)
+    requires depth { inputs.now.depth ≡ Byte }
+    requires components { inputs.now.components ≡ RgbaSamples ∷ [] }
+{
+    inputs.pixels_fit();
+    let mut row = [9; 20];
+    inputs.read_row(0, 5, Rect::of(-1, 0, 4, 1), 0, &mut row);
+    same(rt, row.as_slice(), SHOWN.as_slice());
+    let mut covered = [9; 12];
+    inputs.read_row(0, 5, Rect::of(0, 0, 3, 1), 0, &mut covered);
+    same(rt, covered.as_slice(), &SHOWN[4..16]);
+}
+
+fn shows_pixels(rt: &impl Abort, inputs: &Inputs<'_>)
+    requires { inputs.now.components ≡ RgbaSamples ∷ [] }
+{
+    let (four, grey) = (inputs.at(0, 5, 1, 0), inputs.at(0, 5, 2, 0));
+    let clear = inputs.at(0, 4, 1, 0);
+    same(rt, (four, grey, clear), (FOUR, BYTE_GREY, CLEAR));
 }
 
 // A piece of bytes with the columns 0 and 1, and one of short samples behind it with the columns 1 and 2.
 #[test]
-fn rows_are_read_from_pieces(rt: HostRuntime) -> Result<(), Fail> {
-    let alloc = rt.alloc();
-    let short = pair(alloc, Rect::of(1, 0, 3, 1), Depth::Short, 2, GREY)?;
-    let byte = pair(alloc, Rect::of(0, 0, 2, 1), Depth::Byte, 1, FOUR)?;
-    let mut inputs = Inputs::new(alloc, Depth::Byte, vec![in alloc; Components::Rgba]?)?;
-    byte.pixels_fit();
-    let cut = byte.rect();
-    let image = Arc::new(alloc, byte)?;
-    let through = Steps::of(vec![in alloc;]?);
-    let tile = Piece::Tile {
-        image,
-        cut,
-        through,
-    };
-    inputs.push(alloc, 0, 5, tile)?;
-    let through = Steps::of(vec![in alloc;]?);
-    let view = short.view(Rect::of(1, 0, 3, 1));
-    inputs.push(alloc, 0, 5, Piece::Frame { view, through })?;
-    inputs.pixels_fit();
-    let mut row = [9; 20];
-    inputs.read_row(0, 5, Rect::of(-1, 0, 4, 1), 0, &mut row);
-    let shown = [
-        0, 0, 0, 0, 0, 0, 0, 0, 1, 2, 3, 4, 128, 128, 128, 128, 0, 0, 0, 0,
-    ];
-    same(&rt, row.as_slice(), shown.as_slice());
-    let mut covered = [9; 12];
-    inputs.read_row(0, 5, Rect::of(0, 0, 3, 1), 0, &mut covered);
-    same(&rt, covered.as_slice(), &shown[4..16]);
-    same(
-        &rt,
-        (
-            inputs.at(0, 5, 1, 0),
-            inputs.at(0, 5, 2, 0),
-            inputs.at(0, 4, 1, 0),
-        ),
-        (FOUR, BYTE_GREY, CLEAR),
-    );
-    Ok(())
+fn rows_are_read_from_pieces(rt: HostRuntime) {
+    let short = pair(&rt, Rect::of(1, 0, 3, 1), Depth::Short, 2, GREY);
+    let byte = pair(&rt, Rect::of(0, 0, 2, 1), Depth::Byte, 1, FOUR);
+    let tile = tile(&rt, byte);
+    let inputs = inputs_of(&rt, tile, frame(rt.alloc(), &short));
+    shows_rows(&rt, &inputs);
+    shows_pixels(&rt, &inputs);
 }
 
 // The texts of a description, by their names and indices.
