@@ -315,7 +315,7 @@ fn node_of(
     }
 }
 
-// The frames of a source: as far as the last frame, and at most as many as that.
+// The frames of a source, the first and the last of them.
 fn source_frames(alloc: Global, path: &str, value: &Value) -> Result<RawRange, GraphFault>
     ensures range { IfOk result (λ r. AreFrames r.first r.last) }
     ensures answer { Answers result (source_frames path.now (view value.now)) }
