@@ -8,7 +8,8 @@ ghost use Rattle.fx_text.specs.Json.{depth_of, components_of, format_of, depth_a
 ghost use Rattle.fx_text.specs.Json.{outside_of, hold_at, depth_or, components_or};
 ghost use Rattle.fx_text.specs.Paths.{inside};
 ghost use Rattle.fx_text.specs.Objects.{project_of, output_of, range_of, context_of, context_at, source_of};
-ghost use Rattle.fx_text.specs.Objects.{source_frames, taking_of, source_work, effect_work, project_at, output_at, frames_at, nodes_at};
+ghost use Rattle.fx_text.specs.Objects.{source_frames, taking_of, source_work, effect_work};
+ghost use Rattle.fx_text.specs.Objects.{project_at, output_at, frames_at, nodes_at};
 ghost use Rattle.fx_text.specs.Objects.{clips_at, params_at, effect_of, use_of, node_of, nodes_of, is_grouped, top_keys, graph_of};
 ghost use Rattle.fx_text.specs.Objects.{graph_from, read_graph};
 ghost use Rattle.fx_text.specs.Nodes.{AreFrames, IsInRange};
@@ -315,7 +316,7 @@ fn node_of(
     }
 }
 
-// The frames of a source: as far as the last frame, and at most as many as that.
+// The frames of a source, the first and the last of them.
 fn source_frames(alloc: Global, path: &str, value: &Value) -> Result<RawRange, GraphFault>
     ensures range { IfOk result (λ r. AreFrames r.first r.last) }
     ensures answer { Answers result (source_frames path.now (view value.now)) }

@@ -22,5 +22,5 @@ returns-in_err-group-clause-err c =
     let e = c.in_err-group.field-0.0 in
     let fault : e ≢ Memory → groups_of args.project (items_view args.values.now) ≡ Err (told e) = λ other.
     item_fault (λ k d. group_of (inside (codes "groups") k) args.project d) args.values.now c.loop-k.k c.index-values-k.result c.loop-k.groups.items _ _
-      c.loop-k-test.true c.index-values-k.is (c.in_err-group.ensures.1 other) c.loop-k.invariant.all in
+    c.loop-k-test.true c.index-values-k.is (c.in_err-group.ensures.1 other) c.loop-k.invariant.all in
     search (rules, fault)

@@ -23,5 +23,5 @@ returns-in_err-name-clause-err c =
     let e = c.in_err-name.field-0.0 in
     let fault : e ≢ Memory → inputs_of args.path.now (items_view args.values.now) ≡ Err (told e) = λ other.
     item_fault (λ k d. short_of (inside args.path.now k) d) args.values.now c.loop-k.k c.index-values-k.result c.loop-k.names.items _ _
-      c.loop-k-test.true c.index-values-k.is (c.in_err-name.ensures.1 other) c.loop-k.invariant.all in
+    c.loop-k-test.true c.index-values-k.is (c.in_err-name.ensures.1 other) c.loop-k.invariant.all in
     search (rules, fault)

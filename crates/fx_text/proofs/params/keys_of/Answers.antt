@@ -21,5 +21,5 @@ returns-in_err-key-clause-err c =
     let e = c.in_err-key.field-0.0 in
     let fault : e ≢ Memory → keys_of (items_view args.values.now) ≡ Err (told e) = λ other.
     item_fault (λ k d. key_of d) args.values.now c.loop-k.k c.index-values-k.result c.loop-k.keys.items _ _
-      c.loop-k-test.true c.index-values-k.is (c.in_err-key.ensures.1 other) c.loop-k.invariant.all in
+    c.loop-k-test.true c.index-values-k.is (c.in_err-key.ensures.1 other) c.loop-k.invariant.all in
     search (rules, fault)

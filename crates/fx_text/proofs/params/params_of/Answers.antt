@@ -27,5 +27,5 @@ returns-in_err-param c =
     let e = c.in_err-param.field-0.0 in
     let fault : e ≢ Memory → read_members read (members_view c.args.members.now.entries) ≡ Err (told e) = λ other.
     member_fault read c.loop-name.name-iterator c.next.new.self c.in-Some.name.now c.in-Some.value.now c.as_str.result.now c.loop-name.params.items _ _
-      c.in-Some.ensures.steps c.as_str.ensures.value (c.in_err-param.ensures.1 other) c.loop-name.invariant in
+    c.in-Some.ensures.steps c.as_str.ensures.value (c.in_err-param.ensures.1 other) c.loop-name.invariant in
     search (rules, fault)

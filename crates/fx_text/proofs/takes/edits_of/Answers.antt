@@ -22,5 +22,5 @@ returns-in_err-edit-clause-err c =
     let e = c.in_err-edit.field-0.0 in
     let fault : e ≢ Memory → edits_of args.path.now (items_view args.values.now) ≡ Err (told e) = λ other.
     item_fault (λ k d. edit_of (inside args.path.now k) d) args.values.now c.loop-k.k c.index-values-k.result c.loop-k.edits.items _ _
-      c.loop-k-test.true c.index-values-k.is (c.in_err-edit.ensures.1 other) c.loop-k.invariant.all in
+    c.loop-k-test.true c.index-values-k.is (c.in_err-edit.ensures.1 other) c.loop-k.invariant.all in
     search (rules, fault)

@@ -22,5 +22,5 @@ returns-in_err-take-clause-err c =
     let e = c.in_err-take.field-0.0 in
     let fault : e ≢ Memory → takes_of (items_view args.values.now) ≡ Err (told e) = λ other.
     item_fault (λ k d. take_of (inside (codes "takes") k) d) args.values.now c.loop-k.k c.index-values-k.result c.loop-k.takes.items _ _
-      c.loop-k-test.true c.index-values-k.is (c.in_err-take.ensures.1 other) c.loop-k.invariant.all in
+    c.loop-k-test.true c.index-values-k.is (c.in_err-take.ensures.1 other) c.loop-k.invariant.all in
     search (rules, fault)
