@@ -1,6 +1,8 @@
+ghost use Rattle.fx_base.specs.Rect.{IsNear};
+
 use crate::same::same;
 use fx_base::{Fix, Grid, Name, Names, Pattern, Rect, Status, offset};
-use std::test::Fail;
+use std::process::Abort;
 
 // Texts, and 65536 times their numbers.
 const NUMBERS: &[(&str, i64)] = &[
@@ -59,49 +61,49 @@ const NAMED: &[(&str, u32, u32, &str)] = &[
 ];
 
 #[test]
-fn patterns_name_frames(rt: HostRuntime) -> Result<(), Fail> {
-    let alloc = rt.alloc();
+fn patterns_name_frames(rt: HostRuntime) {
     for &(text, runs, frame, name) in NAMED {
-        let pattern = Pattern::of(alloc, text)?.ok_or("no pattern")?;
+        let pattern = pattern(&rt, text).expect(&rt, "no pattern");
         same(&rt, pattern.runs(), runs);
-        same(&rt, pattern.name(alloc, frame)?.text(), name);
+        let named = pattern.name(rt.alloc(), frame).expect(&rt, "no name");
+        same(&rt, named.text(), name);
     }
-    Ok(())
+}
+
+fn pattern(rt: &(impl Abort + AllocGlobal), text: &str) -> Option<Pattern> {
+    Pattern::of(rt.alloc(), text).expect(rt, "no memory")
 }
 
 const NO_PATTERNS: &[&str] = &["", "a#b#", "#-#", "a\0#"];
 
 #[test]
-fn other_texts_are_no_patterns(rt: HostRuntime) -> Result<(), Fail> {
+fn other_texts_are_no_patterns(rt: HostRuntime) {
     for text in NO_PATTERNS {
-        assert!(rt; Pattern::of(rt.alloc(), text)?.is_none(), "at {text:?}");
+        assert!(rt; pattern(&rt, text).is_none(), "at {text:?}");
     }
-    Ok(())
 }
 
 #[test]
-fn patterns_have_a_longest(rt: HostRuntime) -> Result<(), Fail> {
-    let alloc = rt.alloc();
-    let mut longest = String::new(alloc);
+fn patterns_have_a_longest(rt: HostRuntime) {
+    let mut longest = String::new(rt.alloc());
     for _ in 0..1024 {
-        longest.push('x')?;
+        longest.push('x').expect(&rt, "no memory");
     }
-    assert!(rt; Pattern::of(alloc, longest.as_str())?.is_some());
-    longest.push('x')?;
-    assert!(rt; Pattern::of(alloc, longest.as_str())?.is_none());
-    Ok(())
+    assert!(rt; pattern(&rt, longest.as_str()).is_some());
+    longest.push('x').expect(&rt, "no memory");
+    assert!(rt; pattern(&rt, longest.as_str()).is_none());
 }
 
 #[test]
-fn names_are_kept(rt: HostRuntime) -> Result<(), Fail> {
+fn names_are_kept(rt: HostRuntime) {
     let alloc = rt.alloc();
-    let name = Name::of(String::from_str(alloc, "Source")?);
+    let name = Name::of(String::from_str(alloc, "Source").expect(&rt, "no name"));
     same(&rt, name.text(), "Source");
-    same(&rt, name.copied(alloc)?.text(), "Source");
-    let names = Names::of(vec![in alloc; name]?);
+    let copied = name.copied(alloc).expect(&rt, "no copy");
+    same(&rt, copied.text(), "Source");
+    let names = Names::of(vec![in alloc; name].expect(&rt, "no names"));
     same(&rt, names.items().len(), 1);
     same(&rt, names.into_items().len(), 1);
-    Ok(())
 }
 
 // Places, and whether the rectangle from column -1 and row 2 to column 3 and row 4 holds them.
@@ -225,28 +227,25 @@ fn canonical_rectangles_are_covered(rt: HostRuntime) {
 }
 
 #[test]
-fn tiles_are_listed_by_rows(rt: HostRuntime) -> Result<(), Fail> {
-    let alloc = rt.alloc();
-    let grid = Grid { side: 64 };
-    same(&rt, grid.tile(-2, 3), Rect::of(-128, 192, -64, 256));
+fn tiles_are_listed_by_rows(rt: HostRuntime) {
+    same(&rt, GRID.tile(-2, 3), Rect::of(-128, 192, -64, 256));
     let left = Rect::of(-64, 0, 0, 64);
     let right = Rect::of(0, 0, 64, 64);
-    let across = grid.tiles_of(alloc, Rect::of(-1, 0, 1, 1))?;
-    same(&rt, across.as_slice(), [left, right].as_slice());
-    let up = grid.tiles_of(alloc, Rect::of(-1, 63, 1, 65))?;
+    same_tiles(&rt, Rect::of(-1, 0, 1, 1), &[left, right]);
     let above = [Rect::of(-64, 64, 0, 128), Rect::of(0, 64, 64, 128)];
-    same(
-        &rt,
-        up.as_slice(),
-        [left, right, above[0], above[1]].as_slice(),
-    );
-    same(
-        &rt,
-        grid.tiles_of(alloc, left)?.as_slice(),
-        [left].as_slice(),
-    );
-    assert!(rt; grid.tiles_of(alloc, Rect::of(0, 0, 0, 0))?.is_empty());
-    Ok(())
+    let up = [left, right, above[0], above[1]];
+    same_tiles(&rt, Rect::of(-1, 63, 1, 65), &up);
+    same_tiles(&rt, left, &[left]);
+    same_tiles(&rt, Rect::of(0, 0, 0, 0), &[]);
+}
+
+const GRID: Grid = Grid { side: 64 };
+
+fn same_tiles(rt: &(impl Abort + AllocGlobal), rect: Rect, wanted: &[Rect])
+    requires { IsNear rect }
+{
+    let tiles = GRID.tiles_of(rt.alloc(), rect).expect(rt, "no tiles");
+    same(rt, tiles.as_slice(), wanted);
 }
 
 const CODES: &[(Status, u32)] = &[

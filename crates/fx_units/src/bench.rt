@@ -1,7 +1,6 @@
 //! The graph and the frames of 0, worked by hand from the recurrence and the table of effects.
 use crate::same::same;
 use fx_bench::make;
-use std::test::Fail;
 
 // The draws are 15470 18256, 53708 43769, 25170 40750, 22526 41945, 33277 38128, 52214 48337, 40227 58006, 442 33734,
 // 46381 20425, and 25167 for the merge.
@@ -15,21 +14,19 @@ const FRONT: &[u8] =
 const NAMES: &[&str] = &["in0.pam", "in1.pam", "in2.pam", "in3.pam"];
 
 #[test]
-fn zero_makes_its_graph(rt: HostRuntime) -> Result<(), Fail> {
-    let bench = make(rt.alloc(), 0)?;
+fn zero_makes_its_graph(rt: HostRuntime) {
+    let bench = make(rt.alloc(), 0).expect(&rt, "no bench");
     same(&rt, bench.graph.as_slice(), GRAPH.as_bytes());
-    Ok(())
 }
 
 #[test]
-fn zero_makes_four_frames(rt: HostRuntime) -> Result<(), Fail> {
-    let bench = make(rt.alloc(), 0)?;
+fn zero_makes_four_frames(rt: HostRuntime) {
+    let bench = make(rt.alloc(), 0).expect(&rt, "no bench");
     same(&rt, bench.frames.len(), NAMES.len());
     for ((name, bytes), wanted) in bench.frames.iter().zip(NAMES) {
         same(&rt, name.text(), *wanted);
         same(&rt, bytes.len(), 307_269);
     }
-    let first = bench.frames.first().ok_or("no frame")?;
+    let first = bench.frames.first().expect(&rt, "no frame");
     assert!(rt; first.1.starts_with(FRONT));
-    Ok(())
 }

@@ -6,18 +6,21 @@ use fx_kernel::{
 };
 use fx_pixel::Depth;
 
+// Sums of three bytes, and their means.
+const THIRDS: &[(u64, u16)] = &[
+    (0, 0),
+    (1, 0),
+    (2, 1),
+    (3, 1),
+    (382, 127),
+    (383, 128),
+    (765, 255),
+];
+
 #[test]
 fn means_are_rounded(rt: HostRuntime) {
     let thirds = Mean::of(3);
-    for (sum, mean) in [
-        (0, 0),
-        (1, 0),
-        (2, 1),
-        (3, 1),
-        (382, 127),
-        (383, 128),
-        (765, 255),
-    ] {
+    for &(sum, mean) in THIRDS {
         assert!(rt; sum <= 765);
         same(&rt, thirds.sample(Depth::Byte, sum), mean);
     }

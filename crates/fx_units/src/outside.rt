@@ -4,185 +4,172 @@ use fx_outside::{
     Depot, FetchFault, FileDepot, FileLibrary, FreePace, Library, MemoryDepot, MemoryLibrary,
     MemorySink, Pace, PutFault, Sink, StdSink, SureDepot, SureLibrary, SureSink,
 };
-use std::alloc::{AllocError, Global};
 use std::fs;
-use std::test::Fail;
+use std::process::Abort;
 
-fn named(alloc: Global, text: &str) -> Result<Name, AllocError> {
-    Ok(Name::of(String::from_str(alloc, text)?))
+fn add_file(
+    rt: &(impl Abort + AllocGlobal),
+    files: &mut Vec<(Name, Vec<u8>)>,
+    name: &str,
+    bytes: &[u8],
+) {
+    let name = String::from_str(rt.alloc(), name).expect(rt, "no name");
+    let bytes = bytes.to_vec(rt.alloc()).expect(rt, "no bytes");
+    files.push((Name::of(name), bytes)).expect(rt, "no file");
+}
+
+// The library has these bytes under the name.
+fn same_file(
+    rt: &(impl Abort + AllocGlobal),
+    library: &mut impl Library,
+    name: &str,
+    bytes: &[u8],
+) {
+    let fetched = library.fetch(rt.alloc(), name).expect(rt, name);
+    same_at(rt, &name, fetched.as_slice(), bytes);
+}
+
+fn fails(rt: &(impl Abort + AllocGlobal), library: &mut impl Library, name: &str) {
+    let fault = library.fetch(rt.alloc(), name).err();
+    same_at(rt, &name, fault, Some(FetchFault::Failed));
+}
+
+// A library of a and b whose second and fourth fetch fail.
+fn failing(rt: &(impl Abort + AllocGlobal)) -> MemoryLibrary {
+    let mut files = Vec::new(rt.alloc());
+    add_file(rt, &mut files, "a", b"two");
+    add_file(rt, &mut files, "b", b"");
+    let failing = [2, 4].to_vec(rt.alloc()).expect(rt, "no list");
+    MemoryLibrary::new(rt.alloc(), files, failing)
 }
 
 #[test]
-fn library_fails_as_listed(rt: HostRuntime) -> Result<(), Fail> {
-    let alloc = rt.alloc();
-    let bytes = b"two".to_vec(alloc)?;
-    let other = b"".to_vec(alloc)?;
-    let files = vec![in alloc; (named(alloc, "a")?, bytes), (named(alloc, "b")?, other)]?;
-    let mut library = MemoryLibrary::new(alloc, files, vec![in alloc; 2, 4]?);
-    same(
-        &rt,
-        library.fetch(alloc, "a")?.as_slice(),
-        b"two".as_slice(),
-    );
-    same(
-        &rt,
-        library.fetch(alloc, "a").err(),
-        Some(FetchFault::Failed),
-    );
-    same(&rt, library.fetch(alloc, "b")?.len(), 0);
-    same(
-        &rt,
-        library.fetch(alloc, "a").err(),
-        Some(FetchFault::Failed),
-    );
-    same(
-        &rt,
-        library.fetch(alloc, "c").err(),
-        Some(FetchFault::Failed),
-    );
-    same(&rt, library.fetch(alloc, "a")?.len(), 3);
-    Ok(())
+fn library_fails_as_listed(rt: HostRuntime) {
+    let mut library = failing(&rt);
+    same_file(&rt, &mut library, "a", b"two");
+    fails(&rt, &mut library, "a");
+    same_file(&rt, &mut library, "b", b"");
+    fails(&rt, &mut library, "a");
+    fails(&rt, &mut library, "c");
+    same_file(&rt, &mut library, "a", b"two");
 }
 
 #[test]
-fn depot_fails_as_listed(rt: HostRuntime) -> Result<(), Fail> {
+fn depot_fails_as_listed(rt: HostRuntime) {
     let alloc = rt.alloc();
-    let mut depot = MemoryDepot::new(alloc, vec![in alloc; 3]?);
+    let failing = [3].to_vec(alloc).expect(&rt, "no list");
+    let mut depot = MemoryDepot::new(alloc, failing);
     same(&rt, depot.get("a"), None);
-    depot.put(alloc, "a", b"one")?;
-    depot.put(alloc, "b", b"")?;
-    same(
-        &rt,
-        depot.put(alloc, "a", b"two").err(),
-        Some(PutFault::Failed),
-    );
-    same(&rt, depot.get("a").ok_or("no a")?, b"one".as_slice());
-    depot.put(alloc, "a", b"three")?;
-    same(&rt, depot.get("a").ok_or("no a")?, b"three".as_slice());
-    same(&rt, depot.get("b").ok_or("no b")?.len(), 0);
-    Ok(())
+    same(&rt, depot.put(alloc, "a", b"one"), Ok(()));
+    same(&rt, depot.put(alloc, "b", b""), Ok(()));
+    let refused = depot.put(alloc, "a", b"two");
+    same(&rt, refused, Err(PutFault::Failed));
+    same(&rt, depot.get("a"), Some(b"one".as_slice()));
+    same(&rt, depot.put(alloc, "a", b"three"), Ok(()));
+    same(&rt, depot.get("a"), Some(b"three".as_slice()));
+    same(&rt, depot.get("b"), Some(b"".as_slice()));
 }
 
 #[test]
-fn sink_fails_as_listed(rt: HostRuntime) -> Result<(), Fail> {
+fn sink_fails_as_listed(rt: HostRuntime) {
     let alloc = rt.alloc();
-    let mut sink = MemorySink::new(alloc, vec![in alloc; 2]?);
-    sink.write(alloc, b"ab")?;
-    same(&rt, sink.write(alloc, b"c").err(), Some(PutFault::Failed));
-    sink.write(alloc, b"d")?;
+    let failing = [2].to_vec(alloc).expect(&rt, "no list");
+    let mut sink = MemorySink::new(alloc, failing);
+    same(&rt, sink.write(alloc, b"ab"), Ok(()));
+    same(&rt, sink.write(alloc, b"c"), Err(PutFault::Failed));
+    same(&rt, sink.write(alloc, b"d"), Ok(()));
     same(&rt, sink.bytes(), b"abd".as_slice());
     FreePace.before_draw(0);
-    Ok(())
+}
+
+// A library of a.
+fn sure(rt: &(impl Abort + AllocGlobal)) -> SureLibrary {
+    let mut files = Vec::new(rt.alloc());
+    add_file(rt, &mut files, "a", b"two");
+    SureLibrary::new(rt.alloc(), files)
 }
 
 #[test]
-fn sure_library_has_every_name(rt: HostRuntime) -> Result<(), Fail> {
-    let alloc = rt.alloc();
-    let bytes = b"two".to_vec(alloc)?;
-    let mut library = SureLibrary::new(alloc, vec![in alloc; (named(alloc, "a")?, bytes)]?);
-    same(
-        &rt,
-        library.fetch(alloc, "a")?.as_slice(),
-        b"two".as_slice(),
-    );
-    same(&rt, library.fetch(alloc, "b")?.len(), 0);
-    same(
-        &rt,
-        library.fetch(alloc, "a")?.as_slice(),
-        b"two".as_slice(),
-    );
-    Ok(())
+fn sure_library_has_every_name(rt: HostRuntime) {
+    let mut library = sure(&rt);
+    same_file(&rt, &mut library, "a", b"two");
+    same_file(&rt, &mut library, "b", b"");
+    same_file(&rt, &mut library, "a", b"two");
 }
 
 #[test]
-fn sure_depot_takes_every_put(rt: HostRuntime) -> Result<(), Fail> {
+fn sure_depot_takes_every_put(rt: HostRuntime) {
     let alloc = rt.alloc();
     let mut depot = SureDepot::new(alloc);
     same(&rt, depot.get("a"), None);
-    depot.put(alloc, "a", b"one")?;
-    depot.put(alloc, "b", b"")?;
-    depot.put(alloc, "a", b"three")?;
-    same(&rt, depot.get("a").ok_or("no a")?, b"three".as_slice());
-    same(&rt, depot.get("b").ok_or("no b")?.len(), 0);
+    same(&rt, depot.put(alloc, "a", b"one"), Ok(()));
+    same(&rt, depot.put(alloc, "b", b""), Ok(()));
+    same(&rt, depot.put(alloc, "a", b"three"), Ok(()));
+    same(&rt, depot.get("a"), Some(b"three".as_slice()));
+    same(&rt, depot.get("b"), Some(b"".as_slice()));
     same(&rt, depot.get("c"), None);
-    Ok(())
 }
 
 #[test]
-fn sure_sink_takes_every_write(rt: HostRuntime) -> Result<(), Fail> {
+fn sure_sink_takes_every_write(rt: HostRuntime) {
     let alloc = rt.alloc();
     let mut sink = SureSink::new(alloc);
     same(&rt, sink.bytes().len(), 0);
-    sink.write(alloc, b"ab")?;
-    sink.write(alloc, b"c")?;
+    same(&rt, sink.write(alloc, b"ab"), Ok(()));
+    same(&rt, sink.write(alloc, b"c"), Ok(()));
     same(&rt, sink.bytes(), b"abc".as_slice());
-    Ok(())
 }
 
 #[test]
-fn real_files_are_written_and_read(rt: HostRuntime) -> Result<(), Fail> {
+fn real_files_are_written_and_read(rt: HostRuntime) {
     let alloc = rt.alloc();
     let mut depot = FileDepot::new(&rt, alloc);
     let mut library = FileLibrary::new(&rt, alloc);
-    depot.put(alloc, "fx_outside_test.bin", b"longer than the next")?;
-    depot.put(alloc, "fx_outside_test.bin", b"\x00\xff")?;
-    same(
-        &rt,
-        library.fetch(alloc, "fx_outside_test.bin")?.as_slice(),
-        b"\x00\xff".as_slice(),
-    );
-    same(
-        &rt,
-        library.fetch(alloc, "no_such_folder/file").err(),
-        Some(FetchFault::Failed),
-    );
-    same(
-        &rt,
-        library.fetch(alloc, ".").err(),
-        Some(FetchFault::Failed),
-    );
-    same(
-        &rt,
-        depot.put(alloc, "no_such_folder/file", b"x").err(),
-        Some(PutFault::Failed),
-    );
-    same(
-        &rt,
-        depot.put(alloc, "/dev/full", b"x").err(),
-        Some(PutFault::Failed),
-    );
-    Ok(())
+    let name = "fx_outside_test.bin";
+    same(&rt, depot.put(alloc, name, b"longer than the next"), Ok(()));
+    same(&rt, depot.put(alloc, name, b"\x00\xff"), Ok(()));
+    same_file(&rt, &mut library, name, b"\x00\xff");
+    fails(&rt, &mut library, "no_such_folder/file");
+    fails(&rt, &mut library, ".");
+    let refused = depot.put(alloc, "no_such_folder/file", b"x");
+    same(&rt, refused, Err(PutFault::Failed));
+    let full = depot.put(alloc, "/dev/full", b"x");
+    same(&rt, full, Err(PutFault::Failed));
 }
 
 #[test]
-fn a_stream_takes_all_bytes_or_fails(rt: HostRuntime) -> Result<(), Fail> {
+fn a_stream_takes_all_bytes_or_fails(rt: HostRuntime) {
     let alloc = rt.alloc();
     let name = "fx_outside_stream.bin";
-    let mut stream = StdSink::new(fs::create(&rt, name)?);
-    stream.write(alloc, b"")?;
-    stream.write(alloc, b"two ")?;
-    stream.write(alloc, b"writes\n")?;
-    let read = FileLibrary::new(&rt, alloc).fetch(alloc, name)?;
-    same(&rt, read.as_slice(), b"two writes\n".as_slice());
-    let full = StdSink::new(fs::create(&rt, "/dev/full")?).write(alloc, b"x");
-    same(&rt, full.err(), Some(PutFault::Failed));
-    StdSink::new(rt.stdout()).write(alloc, b"")?;
-    Ok(())
+    let file = fs::create(&rt, name).expect(&rt, name);
+    let mut stream = StdSink::new(file);
+    same(&rt, stream.write(alloc, b""), Ok(()));
+    same(&rt, stream.write(alloc, b"two "), Ok(()));
+    same(&rt, stream.write(alloc, b"writes\n"), Ok(()));
+    let mut library = FileLibrary::new(&rt, alloc);
+    same_file(&rt, &mut library, name, b"two writes\n");
+    let file = fs::create(&rt, "/dev/full").expect(&rt, "/dev/full");
+    let full = StdSink::new(file).write(alloc, b"x");
+    same(&rt, full, Err(PutFault::Failed));
+    same(&rt, StdSink::new(rt.stdout()).write(alloc, b""), Ok(()));
 }
 
 // A file of the system's own says that it has no bytes, and gives some.
 #[test]
-fn a_file_is_read_whole_whatever_length_it_says(rt: HostRuntime) -> Result<(), Fail> {
+fn a_file_is_read_whole_whatever_length_it_says(rt: HostRuntime) {
     let alloc = rt.alloc();
-    let read = FileLibrary::new(&rt, alloc).fetch(alloc, "/proc/version")?;
+    let name = "/proc/version";
+    let read = FileLibrary::new(&rt, alloc)
+        .fetch(alloc, name)
+        .expect(&rt, name);
     same(&rt, read.starts_with(b"Linux version"), true);
-    Ok(())
 }
 
 #[test]
-fn a_file_is_read_up_to_the_longest(rt: HostRuntime) -> Result<(), Fail> {
+fn a_file_is_read_up_to_the_longest(rt: HostRuntime) {
     let alloc = rt.alloc();
-    FileDepot::new(&rt, alloc).put(alloc, "fx_outside_limit.bin", b"abc")?;
+    let put = FileDepot::new(&rt, alloc).put(alloc, "fx_outside_limit.bin", b"abc");
+    same(&rt, put, Ok(()));
     for (longest, wanted) in [
         (3, Ok(3)),
         (4, Ok(3)),
@@ -193,5 +180,4 @@ fn a_file_is_read_up_to_the_longest(rt: HostRuntime) -> Result<(), Fail> {
         let read = FileLibrary::within(&rt, alloc, longest).fetch(alloc, "fx_outside_limit.bin");
         same_at(&rt, &longest, read.map(|bytes| bytes.len()), wanted);
     }
-    Ok(())
 }

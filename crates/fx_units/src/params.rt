@@ -5,7 +5,7 @@ use crate::same::{same, same_at};
 use fx_base::{Fix, Name, Names};
 use fx_params::{Param, ParamDef, ParamFault, ParamKind, ParamValue};
 use std::alloc::{AllocError, Global};
-use std::test::Fail;
+use std::process::Abort;
 
 // A definition from -20 to 20 that starts with 7.
 fn small(alloc: Global, kind: ParamKind) -> Result<ParamDef, AllocError>
@@ -40,62 +40,85 @@ fn size(alloc: Global) -> Result<ParamDef, AllocError>
 }
 
 // What a value becomes, without keys and at a key.
-fn divided(alloc: Global, def: ParamDef, value: i64, by: u32) -> Result<(i64, i64), Fail>
+fn divided(rt: &(impl Abort + AllocGlobal), def: ParamDef, value: i64, by: u32) -> (i64, i64)
     requires low { def.least ≤ℤ def.start }
     requires high { def.start ≤ℤ def.greatest }
     requires top { pos 0 ≤ℤ def.greatest }
 {
-    let mut param = Param::new(alloc, def)?;
-    param.set_value(ParamValue::Int(value))?;
-    param.set_key(alloc, 3, ParamValue::Int(value))?;
+    let mut param = Param::new(rt.alloc(), def).expect(rt, "no parameter");
+    param
+        .set_value(ParamValue::Int(value))
+        .expect(rt, "no value");
+    param
+        .set_key(rt.alloc(), 3, ParamValue::Int(value))
+        .expect(rt, "no key");
     param.divide(by.max(1));
-    Ok((param.plain(), param.value_at(3)))
+    (param.plain(), param.value_at(3))
 }
 
+fn set_key(rt: &(impl Abort + AllocGlobal), param: &mut Param, frame: i16, value: ParamValue) {
+    param
+        .set_key(rt.alloc(), i64::from(frame), value)
+        .expect(rt, "no key");
+}
+
+// A parameter from -20 to 20 that starts with 7.
+fn param(rt: &(impl Abort + AllocGlobal), kind: ParamKind) -> Param {
+    let def = small(rt.alloc(), kind).expect(rt, "no definition");
+    Param::new(rt.alloc(), def).expect(rt, "no parameter")
+}
+
+// Values, what they are divided by, and what they become.
+const HALVES: &[(i64, u32, i64)] = &[
+    (7, 2, 4),
+    (1, 2, 1),
+    (5, 1, 5),
+    (20, 8, 3),
+    (11, 8, 1),
+    (-1, 2, 0),
+    (-3, 2, -1),
+    (-5, 4, -1),
+    (-7, 4, -2),
+    (-20, 8, -2),
+];
+
 #[test]
-fn divides_to_the_nearest_and_halves_up(rt: HostRuntime) -> Result<(), Fail> {
-    let alloc = rt.alloc();
-    for (value, by, wanted) in [
-        (7, 2, 4),
-        (1, 2, 1),
-        (5, 1, 5),
-        (20, 8, 3),
-        (11, 8, 1),
-        (-1, 2, 0),
-        (-3, 2, -1),
-        (-5, 4, -1),
-        (-7, 4, -2),
-        (-20, 8, -2),
-    ] {
-        let had = divided(alloc, small(alloc, ParamKind::Int)?, value, by)?;
+fn divides_to_the_nearest_and_halves_up(rt: HostRuntime) {
+    for &(value, by, wanted) in HALVES {
+        let def = small(rt.alloc(), ParamKind::Int).expect(&rt, "no definition");
+        let had = divided(&rt, def, value, by);
         same_at(&rt, &value, had, (wanted, wanted));
     }
-    Ok(())
 }
 
+// The same, of a size.
+const SIZES: &[(i64, u32, i64)] = &[(3, 8, 1), (1, 2, 1), (1, 4, 1), (6, 4, 2)];
+
 #[test]
-fn divides_to_the_least_at_least(rt: HostRuntime) -> Result<(), Fail> {
-    let alloc = rt.alloc();
-    for (value, by, wanted) in [(3, 8, 1), (1, 2, 1), (1, 4, 1), (6, 4, 2)] {
-        let had = divided(alloc, size(alloc)?, value, by)?;
+fn divides_to_the_least_at_least(rt: HostRuntime) {
+    for &(value, by, wanted) in SIZES {
+        let def = size(rt.alloc()).expect(&rt, "no definition");
+        let had = divided(&rt, def, value, by);
         same_at(&rt, &value, had, (wanted, wanted));
     }
-    Ok(())
 }
 
+// Frames, and the values there between two keys and in steps.
+const BETWEEN: &[(i64, i64, i64)] = &[
+    (9, 0, 0),
+    (10, 0, 0),
+    (11, -4, 0),
+    (12, -7, 0),
+    (13, -10, -10),
+    (14, -10, -10),
+];
+
 #[test]
-fn falls_between_two_keys(rt: HostRuntime) -> Result<(), Fail> {
-    let mut param = Param::new(rt.alloc(), small(rt.alloc(), ParamKind::Int)?)?;
-    param.set_key(rt.alloc(), 13, ParamValue::Int(-10))?;
-    param.set_key(rt.alloc(), 10, ParamValue::Int(0))?;
-    for (frame, linear, stepped) in [
-        (9, 0, 0),
-        (10, 0, 0),
-        (11, -4, 0),
-        (12, -7, 0),
-        (13, -10, -10),
-        (14, -10, -10),
-    ] {
+fn falls_between_two_keys(rt: HostRuntime) {
+    let mut param = param(&rt, ParamKind::Int);
+    set_key(&rt, &mut param, 13, ParamValue::Int(-10));
+    set_key(&rt, &mut param, 10, ParamValue::Int(0));
+    for &(frame, linear, stepped) in BETWEEN {
         param.set_step(false);
         same(&rt, param.value_at(frame), linear);
         param.set_step(true);
@@ -110,11 +133,10 @@ fn falls_between_two_keys(rt: HostRuntime) -> Result<(), Fail> {
     same(&rt, param.key_time(0), Ok(10));
     same(&rt, param.key_time(1), Ok(13));
     same(&rt, param.value_at(11), 0);
-    Ok(())
 }
 
 #[test]
-fn follows_keys_of_every_kind(rt: HostRuntime) -> Result<(), Fail> {
+fn follows_keys_of_every_kind(rt: HostRuntime) {
     let unit = ParamValue::Fix(Fix { raw: 1 });
     let below = ParamValue::Fix(Fix { raw: -1 });
     for (kind, first, second, values) in [
@@ -138,111 +160,134 @@ fn follows_keys_of_every_kind(rt: HostRuntime) -> Result<(), Fail> {
             [4, 4, 4, 4, 4, 9, 9],
         ),
     ] {
-        let mut param = Param::new(rt.alloc(), small(rt.alloc(), kind)?)?;
-        param.set_key(rt.alloc(), -3, first)?;
-        param.set_key(rt.alloc(), 1, second)?;
+        let mut param = param(&rt, kind);
+        set_key(&rt, &mut param, -3, first);
+        set_key(&rt, &mut param, 1, second);
         for (frame, value) in (-4..3).zip(values) {
             same(&rt, param.value_at(frame), value);
         }
     }
-    Ok(())
 }
 
+// Frames from one end to the other, and the values there.
+const ALL_THE_WAY: &[(i64, i64)] = &[
+    (-1073741824, i64::MIN),
+    (-1073741823, -9223372028264841217),
+    (0, -1),
+    (1073741823, 9223372028264841215),
+    (1073741824, i64::MAX),
+];
+
 #[test]
-fn goes_all_the_way(rt: HostRuntime) -> Result<(), Fail> {
-    let mut def = small(rt.alloc(), ParamKind::Int)?;
+fn goes_all_the_way(rt: HostRuntime) {
+    let mut def = small(rt.alloc(), ParamKind::Int).expect(&rt, "no definition");
     def.least = i64::MIN;
     def.greatest = i64::MAX;
-    let mut param = Param::new(rt.alloc(), def)?;
-    param.set_key(rt.alloc(), -1073741824, ParamValue::Int(i64::MIN))?;
-    param.set_key(rt.alloc(), 1073741824, ParamValue::Int(i64::MAX))?;
-    for (frame, value) in [
-        (-1073741824, i64::MIN),
-        (-1073741823, -9223372028264841217),
-        (0, -1),
-        (1073741823, 9223372028264841215),
-        (1073741824, i64::MAX),
-    ] {
+    let mut param = Param::new(rt.alloc(), def).expect(&rt, "no parameter");
+    let first = param.set_key(rt.alloc(), -1073741824, ParamValue::Int(i64::MIN));
+    same(&rt, first, Ok(()));
+    let last = param.set_key(rt.alloc(), 1073741824, ParamValue::Int(i64::MAX));
+    same(&rt, last, Ok(()));
+    for &(frame, value) in ALL_THE_WAY {
         same(&rt, param.value_at(frame), value);
     }
-    Ok(())
 }
 
 #[test]
-fn sets_and_deletes(rt: HostRuntime) -> Result<(), Fail> {
-    let mut param = Param::new(rt.alloc(), small(rt.alloc(), ParamKind::Choice)?)?;
-    same(&rt, param.def().name.text(), "amount");
+fn sets_and_deletes(rt: HostRuntime) {
+    let mut param = param(&rt, ParamKind::Choice);
+    sets(&rt, &mut param);
+    deletes(&rt, &mut param);
+}
+
+fn sets(rt: &impl Abort, param: &mut Param) {
+    same(rt, param.def().name.text(), "amount");
     same(
-        &rt,
+        rt,
         (param.plain(), param.is_step(), param.key_count()),
         (7, false, 0),
     );
-    same(&rt, param.value_at(5), 7);
-    same(&rt, param.set_value(ParamValue::Choice(20)), Ok(()));
+    same(rt, param.value_at(5), 7);
+    same(rt, param.set_value(ParamValue::Choice(20)), Ok(()));
     same(
-        &rt,
+        rt,
         param.set_value(ParamValue::Choice(21)),
         Err(ParamFault::OutOfRange),
     );
     same(
-        &rt,
+        rt,
         param.set_value(ParamValue::Int(21)),
         Err(ParamFault::WrongKind),
     );
-    same(&rt, param.plain(), 20);
+    same(rt, param.plain(), 20);
     param.set_step(true);
     assert!(rt; param.is_step());
+}
 
-    for (frame, place, count) in [(4, 3, 1), (2, 5, 2), (4, 6, 2), (9, 1, 3)] {
-        param.set_key(rt.alloc(), frame, ParamValue::Choice(place))?;
-        same(&rt, param.key_count(), count);
-        same(&rt, param.value_at(frame), i64::from(place));
+// Frames, the choices that are set there, and how many keys there are then.
+const CHOICES: &[(i16, u32, u32)] = &[(4, 3, 1), (2, 5, 2), (4, 6, 2), (9, 1, 3)];
+
+fn deletes(rt: &(impl Abort + AllocGlobal), param: &mut Param) {
+    for &(frame, place, count) in CHOICES {
+        set_key(rt, param, frame, ParamValue::Choice(place));
+        same(rt, param.key_count(), count);
+        same(rt, param.value_at(i64::from(frame)), i64::from(place));
     }
-    same(&rt, param.key_index(9), Ok(2));
-    same(&rt, param.delete_key(4), Ok(()));
-    same(&rt, param.delete_key(4), Err(ParamFault::NoSuchKey));
-    same(&rt, param.key_index(9), Ok(1));
-    same(&rt, param.value_at(8), 5);
+    same(rt, param.key_index(9), Ok(2));
+    same(rt, param.delete_key(4), Ok(()));
+    same(rt, param.delete_key(4), Err(ParamFault::NoSuchKey));
+    same(rt, param.key_index(9), Ok(1));
+    same(rt, param.value_at(8), 5);
     param.delete_all();
-    same(&rt, param.key_count(), 0);
-    same(&rt, param.value_at(8), 20);
-    Ok(())
+    same(rt, param.key_count(), 0);
+    same(rt, param.value_at(8), 20);
 }
 
 #[test]
-fn defines_each_kind(rt: HostRuntime) -> Result<(), Fail> {
+fn defines_each_kind(rt: HostRuntime) {
     let alloc = rt.alloc();
     let (low, high) = (Fix { raw: -1 }, Fix { raw: 65536 });
-    let whole = ParamDef::int(alloc, "radius", 0, 64, 4)?;
-    let number = ParamDef::fix(alloc, "amount", low, high, Fix { raw: 7 })?;
-    let flag = ParamDef::flag(alloc, "invert", true)?;
-    let choice = ParamDef::choice(alloc, "mode", &["over", "plus"], 1)?;
-    for (def, name, kind, range, start, texts) in [
-        (&whole, "radius", ParamKind::Int, (0, 64), 4, 0),
-        (&number, "amount", ParamKind::Fix, (-1, 65536), 7, 0),
-        (&flag, "invert", ParamKind::Bool, (0, 1), 1, 0),
-        (&choice, "mode", ParamKind::Choice, (0, 1), 1, 2),
-    ] {
-        same(&rt, def.name.text(), name);
-        same(&rt, def.kind, kind);
-        same(&rt, (def.least, def.greatest), range);
-        same(&rt, (def.start, def.choices.items().len()), (start, texts));
-    }
-    same(
-        &rt,
-        choice.choices.items().get(1).map(|text| text.text()),
-        Some("plus"),
-    );
-    same(&rt, choice.taken(ParamValue::Choice(1)), Ok(1));
-    same(
-        &rt,
-        choice.taken(ParamValue::Choice(2)),
-        Err(ParamFault::OutOfRange),
-    );
+    let whole = ParamDef::int(alloc, "radius", 0, 64, 4).expect(&rt, "no number");
+    defines(&rt, &whole, "radius", ParamKind::Int, (0, 64), (4, 0));
+    let number = ParamDef::fix(alloc, "amount", low, high, Fix { raw: 7 }).expect(&rt, "no fix");
+    defines(&rt, &number, "amount", ParamKind::Fix, (-1, 65536), (7, 0));
+    let flag = ParamDef::flag(alloc, "invert", true).expect(&rt, "no flag");
+    defines(&rt, &flag, "invert", ParamKind::Bool, (0, 1), (1, 0));
     same(
         &rt,
         flag.taken(ParamValue::Int(1)),
         Err(ParamFault::WrongKind),
     );
-    Ok(())
+    defines_a_choice(&rt);
+}
+
+// Its name, its kind, its range, and with what it starts and how many texts it has.
+fn defines(
+    rt: &impl Abort,
+    def: &ParamDef,
+    name: &str,
+    kind: ParamKind,
+    range: (i64, i64),
+    start: (i64, usize),
+) {
+    same(rt, def.name.text(), name);
+    same(rt, def.kind, kind);
+    same(rt, (def.least, def.greatest), range);
+    same(rt, (def.start, def.choices.items().len()), start);
+}
+
+fn defines_a_choice(rt: &(impl Abort + AllocGlobal)) {
+    let choice = ParamDef::choice(rt.alloc(), "mode", &["over", "plus"], 1).expect(rt, "no choice");
+    defines(rt, &choice, "mode", ParamKind::Choice, (0, 1), (1, 2));
+    same(
+        rt,
+        choice.choices.items().get(1).map(|text| text.text()),
+        Some("plus"),
+    );
+    same(rt, choice.taken(ParamValue::Choice(1)), Ok(1));
+    same(
+        rt,
+        choice.taken(ParamValue::Choice(2)),
+        Err(ParamFault::OutOfRange),
+    );
 }

@@ -1,15 +1,15 @@
-ghost use Rattle.std.specs.Prelude.{◌≡◌, ◌+◌, ◌%◌, ◌^◌, [], IfOk, vec_len};
+ghost use Rattle.std.specs.Prelude.{◌≡◌, ◌≤◌, ◌+◌, ◌%◌, ◌^◌, [], IfOk, length, vec_len};
 
 use crate::same::same;
 use fx_base::Memory;
 use fx_outside::{FreePace, Pace};
-use fx_pool::{Draw, DrawSeat, ItemJob, Job, work, work_items};
+use fx_pool::{Draw, DrawSeat, ItemJob, Job, Worked, WorkedItems, work, work_items};
 use std::alloc::{AllocError, Global};
+use std::process::Abort;
 use std::rt::Clock;
 use std::sync::Wait;
 use std::sync::atomic::{AtomicBool, AtomicU64, Ordering};
-use std::test::Fail;
-use std::thread;
+use std::thread::{self, Threads};
 
 // Notes each number in the seat, which weighs as much as it has, and answers it.
 struct Notes;
@@ -206,14 +206,13 @@ fn empty_seats(alloc: Global, count: usize) -> Result<Vec<Vec<u64>>, AllocError>
 }
 
 #[test]
-fn each_number_is_drawn_once(rt: HostRuntime) -> Result<(), Fail> {
+fn each_number_is_drawn_once(rt: HostRuntime) {
     let alloc = rt.alloc();
-    let (draw, mut first) = Draw::new(alloc, 3)?;
-    let mut second = draw.split(alloc, &mut first)?;
+    let (draw, mut first) = Draw::new(alloc, 3).expect(&rt, "no draw");
+    let mut second = draw.split(alloc, &mut first).expect(&rt, "no second seat");
     same(&rt, draw.next(&mut first), Some(0));
     same(&rt, draw.next(&mut second), Some(1));
     draw.join(&mut first, second);
-    Ok(())
 }
 
 // Draws all that is left.
@@ -231,44 +230,72 @@ fn draw_out(alloc: Global, draw: &Draw, seat: &mut DrawSeat) -> Result<Vec<u64>,
 }
 
 #[test]
-fn none_comes_past_the_count(rt: HostRuntime) -> Result<(), Fail> {
+fn none_comes_past_the_count(rt: HostRuntime) {
     let alloc = rt.alloc();
-    let (draw, mut seat) = Draw::new(alloc, 3)?;
-    let numbers = draw_out(alloc, &draw, &mut seat)?;
+    let (draw, mut seat) = Draw::new(alloc, 3).expect(&rt, "no draw");
+    let numbers = draw_out(alloc, &draw, &mut seat).expect(&rt, "no numbers");
     same(&rt, numbers.as_slice(), [0, 1, 2].as_slice());
-    let (draw, mut seat) = Draw::new(alloc, 0)?;
+    let (draw, mut seat) = Draw::new(alloc, 0).expect(&rt, "no draw");
     same(&rt, draw.next(&mut seat), None);
-    Ok(())
+}
+
+// Notes the numbers below this one, by so many workers.
+fn noted<R: Threads + Wait + Clock + Sync + Abort + AllocGlobal, P: Pace>(
+    rt: &R,
+    pace: &P,
+    count: u64,
+    workers: usize,
+) -> Worked<Vec<u64>, u64>
+    requires count { count ≤ 2 ^ 32 }
+    requires workers { (1 ≤ workers) × (workers ≤ 64) }
+{
+    let seats = empty_seats(rt.alloc(), workers).expect(rt, "no seats");
+    match work(rt, rt.alloc(), pace, count, seats, &Notes) {
+        Ok(worked) => worked,
+        Err(_refused) => panic!(rt; "no memory"),
+    }
+}
+
+// Adds their indices to the items, by so many workers.
+fn added<R: Threads + Wait + Clock + Sync + Abort + AllocGlobal, P: Pace>(
+    rt: &R,
+    pace: &P,
+    items: &[u64],
+    workers: usize,
+) -> WorkedItems<Vec<u64>, u64, u64>
+    requires items { length items.now ≤ 2 ^ 32 }
+    requires workers { (1 ≤ workers) × (workers ≤ 64) }
+{
+    let seats = empty_seats(rt.alloc(), workers).expect(rt, "no seats");
+    let items = items.to_vec(rt.alloc()).expect(rt, "no items");
+    match work_items(rt, rt.alloc(), pace, items, seats, &AddsIndex) {
+        Ok(worked) => worked,
+        Err(_refused) => panic!(rt; "no memory"),
+    }
 }
 
 #[test]
-fn three_numbers_have_their_outs(rt: HostRuntime) -> Result<(), Fail> {
-    let alloc = rt.alloc();
-    let seats = empty_seats(alloc, 8)?;
-    let worked = work(&rt, alloc, &FreePace, 3, seats, &Notes).map_err(|refused| refused.1)?;
+fn three_numbers_have_their_outs(rt: HostRuntime) {
+    let worked = noted(&rt, &FreePace, 3, 8);
     same(
         &rt,
         worked.outs.as_slice(),
         [(0, 0), (1, 1), (2, 2)].as_slice(),
     );
     same(&rt, worked.seats.len(), 8);
-    Ok(())
 }
 
 #[test]
-fn no_number_has_no_out(rt: HostRuntime) -> Result<(), Fail> {
-    let alloc = rt.alloc();
-    let seats = empty_seats(alloc, 8)?;
-    let worked = work(&rt, alloc, &FreePace, 0, seats, &Notes).map_err(|refused| refused.1)?;
+fn no_number_has_no_out(rt: HostRuntime) {
+    let worked = noted(&rt, &FreePace, 0, 8);
     same(&rt, worked.outs.len(), 0);
     same(&rt, worked.seats.len(), 8);
-    Ok(())
 }
 
 #[test]
-fn want_of_memory_hands_the_seats_back(rt: HostRuntime) -> Result<(), Fail> {
+fn want_of_memory_hands_the_seats_back(rt: HostRuntime) {
     let alloc = rt.alloc();
-    let seats = empty_seats(alloc, 4)?;
+    let seats = empty_seats(alloc, 4).expect(&rt, "no seats");
     let job = FailsFirst {
         called: AtomicBool::new(false),
     };
@@ -276,78 +303,50 @@ fn want_of_memory_hands_the_seats_back(rt: HostRuntime) -> Result<(), Fail> {
         Ok(_worked) => assert!(rt; false, "memory was wanting"),
         Err((seats, _memory)) => same(&rt, seats.len(), 4),
     }
-    Ok(())
 }
 
 #[test]
-fn each_item_has_one_turn(rt: HostRuntime) -> Result<(), Fail> {
-    let alloc = rt.alloc();
-    let items = vec![in alloc; 10u64, 20, 30]?;
-    let seats = empty_seats(alloc, 8)?;
-    let worked = work_items(&rt, alloc, &FreePace, items, seats, &AddsIndex).map_err(
-        |refused| refused.1,
-    )?;
+fn each_item_has_one_turn(rt: HostRuntime) {
+    let worked = added(&rt, &FreePace, &[10, 20, 30], 8);
     same(&rt, worked.items.as_slice(), [10, 21, 32].as_slice());
     same(&rt, worked.outs.as_slice(), [10, 20, 30].as_slice());
     same(&rt, worked.seats.len(), 8);
-    Ok(())
 }
 
 #[test]
-fn no_item_has_no_turn(rt: HostRuntime) -> Result<(), Fail> {
-    let alloc = rt.alloc();
-    let seats = empty_seats(alloc, 8)?;
-    let worked = work_items(&rt, alloc, &FreePace, Vec::new(alloc), seats, &AddsIndex).map_err(
-        |refused| refused.1,
-    )?;
+fn no_item_has_no_turn(rt: HostRuntime) {
+    let worked = added(&rt, &FreePace, &[], 8);
     same(&rt, worked.items.len(), 0);
     same(&rt, worked.outs.len(), 0);
-    Ok(())
 }
 
 #[test]
-fn workers_run_beside_each_other(rt: HostRuntime) -> Result<(), Fail> {
-    let alloc = rt.alloc();
+fn workers_run_beside_each_other(rt: HostRuntime) {
     let pace = HoldPace::new();
-    let seats = empty_seats(alloc, 2)?;
-    let worked = work(&rt, alloc, &pace, 3, seats, &Notes).map_err(|refused| refused.1)?;
+    let worked = noted(&rt, &pace, 3, 2);
     same(
         &rt,
         worked.outs.as_slice(),
         [(0, 0), (1, 1), (2, 2)].as_slice(),
     );
     assert!(rt; pace.held_both());
-    Ok(())
 }
 
 #[test]
-fn workers_on_items_run_beside_each_other(rt: HostRuntime) -> Result<(), Fail> {
-    let alloc = rt.alloc();
+fn workers_on_items_run_beside_each_other(rt: HostRuntime) {
     let pace = HoldPace::new();
-    let items = vec![in alloc; 10u64, 20, 30]?;
-    let seats = empty_seats(alloc, 2)?;
-    let worked = work_items(&rt, alloc, &pace, items, seats, &AddsIndex).map_err(
-        |refused| refused.1,
-    )?;
+    let worked = added(&rt, &pace, &[10, 20, 30], 2);
     same(&rt, worked.items.as_slice(), [10, 21, 32].as_slice());
     assert!(rt; pace.held_both());
-    Ok(())
 }
 
 // Three workers draw twenty numbers, and then twenty items.
 #[test]
-fn pace_is_asked_before_each_draw(rt: HostRuntime) -> Result<(), Fail> {
-    let alloc = rt.alloc();
-    let pace = CountPace::of(alloc, 3)?;
-    let seats = empty_seats(alloc, 3)?;
-    let worked = work(&rt, alloc, &pace, 20, seats, &Notes).map_err(|refused| refused.1)?;
+fn pace_is_asked_before_each_draw(rt: HostRuntime) {
+    let pace = CountPace::of(rt.alloc(), 3).expect(&rt, "no pace");
+    let worked = noted(&rt, &pace, 20, 3);
     assert!(rt; pace.was_asked(worked.seats.as_slice()));
-    let pace = CountPace::of(alloc, 3)?;
-    let seats = empty_seats(alloc, 3)?;
-    let items = vec![in alloc; 5u64; 20]?;
-    let worked = work_items(&rt, alloc, &pace, items, seats, &AddsIndex).map_err(
-        |refused| refused.1,
-    )?;
+    let pace = CountPace::of(rt.alloc(), 3).expect(&rt, "no pace");
+    let worked = added(&rt, &pace, &[5; 20], 3);
     assert!(rt; pace.was_asked(worked.seats.as_slice()));
-    Ok(())
 }

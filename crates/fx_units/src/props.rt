@@ -1,5 +1,5 @@
 //! Rows worked by hand: refusals that leave the set as it was, and each call once with ample memory.
-ghost use Rattle.std.specs.Prelude.{◌≡◌, [], ◌∷◌, codes, IfOk};
+ghost use Rattle.std.specs.Prelude.{◌≡◌, [], ◌∷◌, ◌++◌, codes, IfOk};
 ghost use Rattle.fx_props.specs.declared.value.PropKind.TheVariants as kind;
 ghost use Rattle.fx_props.specs.Property.{IsLawfulDef};
 ghost use Rattle.fx_props.specs.Entries.{AreBlank, HasValues, ShowsFlag, ShowsFrames, ShowsRegion, ShowsText, ShowsTexts, ShowsWindow};
@@ -13,12 +13,20 @@ use fx_props::{
     write_frames, write_interest, write_region,
 };
 use std::alloc::{AllocError, Global};
-use std::test::Fail;
+use std::process::Abort;
 
 fn name(alloc: Global, text: &str) -> Result<Name, AllocError>
     ensures { IfOk result (λ name. name ≡ text.now) }
 {
     Ok(Name::of(String::from_str(alloc, text)?))
+}
+
+// Adds the name of a text to these.
+fn push_name(rt: &(impl Abort + AllocGlobal), names: &mut Vec<Name>, text: &str)
+    ensures { names.new.items ≡ names.old.items ++ text.now ∷ [] }
+{
+    let name = name(rt.alloc(), text).expect(rt, "no name");
+    names.push(name).expect(rt, "no name");
 }
 
 // The time: one fixed-point number, 5 at the start.
@@ -36,22 +44,22 @@ fn time(alloc: Global) -> Result<PropDef, AllocError>
 }
 
 // The context: at most one of four texts.
-fn context(alloc: Global) -> Result<PropDef, AllocError>
-    ensures name { IfOk result (λ def. def.name ≡ codes "OfxImageEffectPropContext") }
-    ensures lawful { IfOk result (λ def. IsLawfulDef def) }
+fn context(rt: &(impl Abort + AllocGlobal)) -> PropDef
+    ensures name { result.name ≡ codes "OfxImageEffectPropContext" }
+    ensures lawful { IsLawfulDef result }
 {
-    let mut allowed = Vec::new(alloc);
-    allowed.push(name(alloc, "OfxImageEffectContextGenerator")?)?;
-    allowed.push(name(alloc, "OfxImageEffectContextFilter")?)?;
-    allowed.push(name(alloc, "OfxImageEffectContextTransition")?)?;
-    allowed.push(name(alloc, "OfxImageEffectContextGeneral")?)?;
-    Ok(PropDef {
-        name: name(alloc, "OfxImageEffectPropContext")?,
+    let mut allowed = Vec::new(rt.alloc());
+    push_name(rt, &mut allowed, "OfxImageEffectContextGenerator");
+    push_name(rt, &mut allowed, "OfxImageEffectContextFilter");
+    push_name(rt, &mut allowed, "OfxImageEffectContextTransition");
+    push_name(rt, &mut allowed, "OfxImageEffectContextGeneral");
+    PropDef {
+        name: name(rt.alloc(), "OfxImageEffectPropContext").expect(rt, "no name"),
         kind: PropKind::Text,
         most: 1,
         allowed: Names::of(allowed),
-        start: PropList::of(Vec::new(alloc)),
-    })
+        start: PropList::of(Vec::new(rt.alloc())),
+    }
 }
 
 // The window: four ints, none at the start.
@@ -68,17 +76,20 @@ fn window(alloc: Global) -> Result<PropDef, AllocError>
     })
 }
 
-fn set(alloc: Global) -> Result<PropSet, Fail> {
+fn set(rt: &(impl Abort + AllocGlobal)) -> PropSet {
+    let alloc = rt.alloc();
     let mut defs = Vec::new(alloc);
-    defs.push(time(alloc)?)?;
-    defs.push(context(alloc)?)?;
-    defs.push(window(alloc)?)?;
-    Ok(PropSet::new(alloc, defs)?)
+    defs.push(time(alloc).expect(rt, "no time"))
+        .expect(rt, "no time");
+    defs.push(context(rt)).expect(rt, "no context");
+    defs.push(window(alloc).expect(rt, "no window"))
+        .expect(rt, "no window");
+    PropSet::new(alloc, defs).expect(rt, "no set")
 }
 
 #[test]
-fn refuses_and_stays(rt: HostRuntime) -> Result<(), Fail> {
-    let mut set = set(rt.alloc())?;
+fn refuses_and_stays(rt: HostRuntime) {
+    let mut set = set(&rt);
     let five = Fix::of_whole(5);
     same(
         &rt,
@@ -124,30 +135,37 @@ fn refuses_and_stays(rt: HostRuntime) -> Result<(), Fail> {
         set.dimension("OfxPropLabel"),
         Err(PropFault::ErrUnknown),
     );
-    Ok(())
 }
 
 #[test]
-fn keeps_texts_and_ints(rt: HostRuntime) -> Result<(), Fail> {
-    let mut set = set(rt.alloc())?;
+fn keeps_texts_and_ints(rt: HostRuntime) {
+    keeps_texts(&rt);
+    keeps_ints(&rt);
+}
+
+fn keeps_texts(rt: &(impl Abort + AllocGlobal)) {
+    let mut set = set(rt);
     let context = "OfxImageEffectPropContext";
-    same(&rt, set.get_text(context, 0), Err(PropFault::ErrBadIndex));
+    same(rt, set.get_text(context, 0), Err(PropFault::ErrBadIndex));
     for text in [
         "OfxImageEffectContextFilter",
         "OfxImageEffectContextGeneral",
     ] {
-        set.set_text(rt.alloc(), context, 0, text)?;
-        same(&rt, set.get_text(context, 0).ok().unwrap_or(""), text);
-        same(&rt, set.dimension(context), Ok(1));
+        same(rt, set.set_text(rt.alloc(), context, 0, text), Ok(()));
+        same(rt, set.get_text(context, 0).ok().unwrap_or(""), text);
+        same(rt, set.dimension(context), Ok(1));
     }
     same(
-        &rt,
+        rt,
         set.set_text(rt.alloc(), context, 1, "OfxImageEffectContextFilter"),
         Err(PropFault::ErrBadIndex),
     );
-    set.reset(rt.alloc(), context)?;
-    same(&rt, set.dimension(context), Ok(0));
+    same(rt, set.reset(rt.alloc(), context), Ok(()));
+    same(rt, set.dimension(context), Ok(0));
+}
 
+fn keeps_ints(rt: &(impl Abort + AllocGlobal)) {
+    let mut set = set(rt);
     let window = "OfxImageEffectPropRenderWindow";
     for (index, value, answer) in [
         (1, 9, Err(PropFault::ErrBadIndex)),
@@ -160,82 +178,90 @@ fn keeps_texts_and_ints(rt: HostRuntime) -> Result<(), Fail> {
         (5, 50, Err(PropFault::ErrBadIndex)),
     ] {
         same_at(
-            &rt,
+            rt,
             &index,
             set.set_int(rt.alloc(), window, index, value),
             answer,
         );
     }
     for (index, value) in [(0, -1), (1, 20), (2, 30), (3, 40)] {
-        same_at(&rt, &index, set.get_int(window, index), Ok(value));
+        same_at(rt, &index, set.get_int(window, index), Ok(value));
     }
     same(
-        &rt,
+        rt,
         set.set_fix(rt.alloc(), window, 0, Fix::of_whole(1)),
         Err(PropFault::ErrUnknown),
     );
-    Ok(())
 }
 
 #[test]
-fn gives_its_values_away(rt: HostRuntime) -> Result<(), Fail> {
-    let list = PropList::of(vec![in rt.alloc(); PropValue::Int(3), PropValue::Int(4)]?);
+fn gives_its_values_away(rt: HostRuntime) {
+    let values = vec![in rt.alloc(); PropValue::Int(3), PropValue::Int(4)];
+    let list = PropList::of(values.expect(&rt, "no values"));
     same(&rt, list.items().len(), 2);
     same(&rt, list.into_items().len(), 2);
-    Ok(())
 }
 
 // Blank properties of this prefix for the clips A and B.
-fn two_clips(alloc: Global, prefix: &str) -> Result<PropSet, Memory>
-    ensures { IfOk result (λ set. AreBlank set prefix.now kind.Fix (codes "A" ∷ codes "B" ∷ [])) }
+fn two_clips(rt: &(impl Abort + AllocGlobal), prefix: &str) -> PropSet
+    ensures { AreBlank result prefix.now kind.Fix (codes "A" ∷ codes "B" ∷ []) }
 {
-    let mut clips = Vec::new(alloc);
-    clips.push(name(alloc, "A")?)?;
-    clips.push(name(alloc, "B")?)?;
-    clip_set_of_blanks(alloc, prefix, PropKind::Fix, &Names::of(clips))
+    let mut clips = Vec::new(rt.alloc());
+    push_name(rt, &mut clips, "A");
+    push_name(rt, &mut clips, "B");
+    clip_set_of_blanks(rt.alloc(), prefix, PropKind::Fix, &Names::of(clips)).expect(rt, "no clips")
+}
+
+fn shows(rt: &impl Abort, set: &PropSet, name: &str, raws: &[i64; 4]) {
+    for (index, raw) in [(0, raws[0]), (1, raws[1]), (2, raws[2]), (3, raws[3])] {
+        same_at(
+            rt,
+            &(&name, &index),
+            set.get_fix(name, index),
+            Ok(Fix { raw }),
+        );
+    }
 }
 
 #[test]
-fn regions_and_frames_are_written(rt: HostRuntime) -> Result<(), Fail> {
-    let alloc = rt.alloc();
-    let mut interest = two_clips(alloc, CLIP_REGION)?;
+fn regions_and_frames_are_written(rt: HostRuntime) {
+    regions_are_written(&rt);
+    frames_are_written(&rt);
+    a_region_is_written(&rt);
+}
+
+fn regions_are_written(rt: &(impl Abort + AllocGlobal)) {
+    let mut interest = two_clips(rt, CLIP_REGION);
     let regions = [Rect::of(-1, 0, 10, 20), Rect::of(0, 0, 0, 0)];
-    write_interest(alloc, &mut interest, &["A", "B"], &regions)?;
-    let mut frames = two_clips(alloc, CLIP_FRAMES)?;
+    let written = write_interest(rt.alloc(), &mut interest, &["A", "B"], &regions);
+    same(rt, written, Ok(()));
+    let first = [-65536, 0, 655360, 1310720];
+    shows(rt, &interest, "OfxImageClipPropRoI_A", &first);
+    shows(rt, &interest, "OfxImageClipPropRoI_B", &[0, 0, 0, 0]);
+}
+
+fn frames_are_written(rt: &(impl Abort + AllocGlobal)) {
+    let mut frames = two_clips(rt, CLIP_FRAMES);
     let spans: [&[(i64, i64)]; 2] = [&[(-2, 5), (7, 7)], &[(0, 1)]];
-    write_frames(alloc, &mut frames, &["A", "B"], &spans)?;
-    let def = blank(alloc, "OfxImageEffectPropRegionOfDefinition", PropKind::Fix)?;
-    let mut region = PropSet::new(alloc, vec![in alloc; def]?)?;
-    write_region(alloc, &mut region, REGION, Rect::of(1, 2, 640, 360))?;
-    for (set, name, raws) in [
-        (
-            &interest,
-            "OfxImageClipPropRoI_A",
-            [-65536, 0, 655360, 1310720],
-        ),
-        (&interest, "OfxImageClipPropRoI_B", [0, 0, 0, 0]),
-        (
-            &frames,
-            "OfxImageClipPropFrameRange_A",
-            [-131072, 327680, 458752, 458752],
-        ),
-        (
-            &region,
-            "OfxImageEffectPropRegionOfDefinition",
-            [65536, 131072, 41943040, 23592960],
-        ),
-    ] {
-        for (index, raw) in [(0, raws[0]), (1, raws[1]), (2, raws[2]), (3, raws[3])] {
-            same_at(
-                &rt,
-                &(&name, &index),
-                set.get_fix(name, index),
-                Ok(Fix { raw }),
-            );
-        }
-    }
-    same(&rt, frames.dimension("OfxImageClipPropFrameRange_B"), Ok(2));
-    Ok(())
+    let written = write_frames(rt.alloc(), &mut frames, &["A", "B"], &spans);
+    same(rt, written, Ok(()));
+    let first = [-131072, 327680, 458752, 458752];
+    shows(rt, &frames, "OfxImageClipPropFrameRange_A", &first);
+    same(rt, frames.dimension("OfxImageClipPropFrameRange_B"), Ok(2));
+}
+
+fn a_region_is_written(rt: &(impl Abort + AllocGlobal)) {
+    let alloc = rt.alloc();
+    let def = blank(alloc, "OfxImageEffectPropRegionOfDefinition", PropKind::Fix).expect(
+        rt,
+        "no region",
+    );
+    let defs = vec![in alloc; def].expect(rt, "no region");
+    let mut region = PropSet::new(alloc, defs).expect(rt, "no set");
+    let written = write_region(alloc, &mut region, REGION, Rect::of(1, 2, 640, 360));
+    same(rt, written, Ok(()));
+    let bounds = [65536, 131072, 41943040, 23592960];
+    shows(rt, &region, "OfxImageEffectPropRegionOfDefinition", &bounds);
 }
 
 // A set of one property.
@@ -311,25 +337,35 @@ fn frames_set(alloc: Global) -> Result<PropSet, Memory>
 }
 
 #[test]
-fn what_stands_in_a_set_is_read(rt: HostRuntime) -> Result<(), Fail> {
+fn what_stands_in_a_set_is_read(rt: HostRuntime) {
     let alloc = rt.alloc();
-    same(&rt, text_at(&text_set(alloc)?, NAME), "Mask");
-    assert!(rt; flag_at(&flag_set(alloc)?, TILES));
-    let window = window_at(&window_set(alloc)?, WINDOW);
-    same(&rt, window, Rect::of(-1, 2, 30, 40));
-    let region = region_at(&region_set(alloc)?, REGION);
-    same(&rt, region, Rect::of(-2, 0, 3, 1));
-    Ok(())
+    let text = text_set(alloc).expect(&rt, "no text");
+    same(&rt, text_at(&text, NAME), "Mask");
+    let flag = flag_set(alloc).expect(&rt, "no flag");
+    assert!(rt; flag_at(&flag, TILES));
+    let window = window_set(alloc).expect(&rt, "no window");
+    same(&rt, window_at(&window, WINDOW), Rect::of(-1, 2, 30, 40));
+    let region = region_set(alloc).expect(&rt, "no region");
+    same(&rt, region_at(&region, REGION), Rect::of(-2, 0, 3, 1));
 }
 
 #[test]
-fn lists_in_a_set_are_read(rt: HostRuntime) -> Result<(), Fail> {
-    let alloc = rt.alloc();
-    let contexts = texts_at(alloc, &texts_set(alloc)?, CONTEXTS)?.into_items();
-    same(&rt, contexts.len(), 2);
-    same(&rt, contexts[0].text(), "OfxImageEffectContextFilter");
-    same(&rt, contexts[1].text(), "OfxImageEffectContextGeneral");
-    let frames = frames_at(alloc, &frames_set(alloc)?, SEQUENCE)?;
-    same(&rt, frames.as_slice(), [(-4, 5)].as_slice());
-    Ok(())
+fn lists_in_a_set_are_read(rt: HostRuntime) {
+    texts_are_read(&rt);
+    frames_are_read(&rt);
+}
+
+fn texts_are_read(rt: &(impl Abort + AllocGlobal)) {
+    let set = texts_set(rt.alloc()).expect(rt, "no texts");
+    let contexts = texts_at(rt.alloc(), &set, CONTEXTS).expect(rt, "no contexts");
+    let contexts = contexts.into_items();
+    same(rt, contexts.len(), 2);
+    same(rt, contexts[0].text(), "OfxImageEffectContextFilter");
+    same(rt, contexts[1].text(), "OfxImageEffectContextGeneral");
+}
+
+fn frames_are_read(rt: &(impl Abort + AllocGlobal)) {
+    let set = frames_set(rt.alloc()).expect(rt, "no frames");
+    let frames = frames_at(rt.alloc(), &set, SEQUENCE).expect(rt, "no frames");
+    same(rt, frames.as_slice(), [(-4, 5)].as_slice());
 }

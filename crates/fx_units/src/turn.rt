@@ -9,7 +9,6 @@ use std::alloc::Global;
 use std::rt::Clock;
 use std::sync::Wait;
 use std::sync::atomic::{AtomicU64, Ordering};
-use std::test::Fail;
 use std::time::Duration;
 use std::{io, thread};
 
@@ -62,17 +61,20 @@ impl Fits<u32> for Count {
 }
 
 #[test]
-fn one_value_is_taken_and_given(rt: HostRuntime) -> Result<(), Fail> {
+fn one_value_is_taken_and_given(rt: HostRuntime) {
     let alloc = rt.alloc();
-    let values = vec![in alloc; Number { value: 7 }]?;
-    let (turns, mut seat) = Turns::new(alloc, 5u32, values).map_err(|e| e.1)?;
+    let values = vec![in alloc; Number { value: 7 }].expect(&rt, "no values");
+    let Ok((turns, mut seat)) = Turns::new(alloc, 5u32, values) else {
+        panic!(rt; "no turns")
+    };
     let mut held = turns.take(&rt, &mut seat, 0);
     same(&rt, held.value().value, 7);
     *held.value_mut() = Number { value: 8 };
     turns.give(&mut seat, held);
-    let values = turns.close(alloc, seat).map_err(|e| e.2)?;
+    let Ok(values) = turns.close(alloc, seat) else {
+        panic!(rt; "no values")
+    };
     same(&rt, values.as_slice(), [Number { value: 8 }].as_slice());
-    Ok(())
 }
 
 // Takes the value of a slot, adds one to it, and answers what it was.
@@ -96,27 +98,33 @@ fn add_one<R: Wait + Clock>(
 
 // No clause says which value stands in which slot: `new`, `renew` and `close` keep them in their order.
 #[test]
-fn values_keep_their_slots(rt: HostRuntime) -> Result<(), Fail> {
+fn values_keep_their_slots(rt: HostRuntime) {
     let alloc = rt.alloc();
     let values = vec![in alloc;
         Number { value: 10 },
         Number { value: 20 },
         Number { value: 30 },
-    ]?;
-    let (turns, mut seat) = Turns::new(alloc, 5u32, values).map_err(|e| e.1)?;
+    ]
+    .expect(&rt, "no values");
+    let Ok((turns, mut seat)) = Turns::new(alloc, 5u32, values) else {
+        panic!(rt; "no turns")
+    };
     same(&rt, add_one(&rt, &turns, &mut seat, 0), 10);
     same(&rt, add_one(&rt, &turns, &mut seat, 1), 20);
-    let (turns, mut seat) = turns.renew(alloc, seat, 6).map_err(|e| e.3)?;
+    let Ok((turns, mut seat)) = turns.renew(alloc, seat, 6) else {
+        panic!(rt; "no turns")
+    };
     same(&rt, add_one(&rt, &turns, &mut seat, 0), 11);
     same(&rt, add_one(&rt, &turns, &mut seat, 2), 30);
-    let values = turns.close(alloc, seat).map_err(|e| e.2)?;
+    let Ok(values) = turns.close(alloc, seat) else {
+        panic!(rt; "no values")
+    };
     let want = [
         Number { value: 12 },
         Number { value: 21 },
         Number { value: 31 },
     ];
     same(&rt, values.as_slice(), want.as_slice());
-    Ok(())
 }
 
 // Adds one to the first value, so many times.
@@ -139,21 +147,24 @@ fn add<R: Wait + Clock>(
 }
 
 #[test]
-fn two_threads_take_turns(rt: HostRuntime) -> Result<(), Fail> {
+fn two_threads_take_turns(rt: HostRuntime) {
     let alloc = rt.alloc();
-    let values = vec![in alloc; Count { times: 0 }]?;
-    let (turns, mut first) = Turns::new(alloc, 5u32, values).map_err(|e| e.1)?;
-    let second = turns.split(alloc, &mut first)?;
+    let values = vec![in alloc; Count { times: 0 }].expect(&rt, "no values");
+    let Ok((turns, mut first)) = Turns::new(alloc, 5u32, values) else {
+        panic!(rt; "no turns")
+    };
+    let second = turns.split(alloc, &mut first).expect(&rt, "no second seat");
     let (mut first, second) = thread::join(
         &rt,
         || add(&rt, &turns, first, 1000),
         || add(&rt, &turns, second, 1000),
     );
     turns.join(&mut first, second);
-    let values = turns.close(alloc, first).map_err(|e| e.2)?;
+    let Ok(values) = turns.close(alloc, first) else {
+        panic!(rt; "no values")
+    };
     same(&rt, values.len(), 1);
     same(&rt, values[0].times, 2000);
-    Ok(())
 }
 
 // So many seats, each split from the first.
@@ -193,17 +204,20 @@ fn join_all(
 }
 
 #[test]
-fn eight_threads_take_turns(rt: HostRuntime) -> Result<(), Fail> {
+fn eight_threads_take_turns(rt: HostRuntime) {
     let alloc = rt.alloc();
-    let values = vec![in alloc; Count { times: 0 }]?;
-    let (turns, mut first) = Turns::new(alloc, 5u32, values).map_err(|e| e.1)?;
-    let seats = split_off(alloc, &turns, &mut first, 8)?;
-    let seats = thread::map_vec(&rt, seats, &|seat| add(&rt, &turns, seat, 1000))?;
-    join_all(&turns, &mut first, seats);
-    let values = turns.close(alloc, first).map_err(|e| e.2)?;
+    let values = vec![in alloc; Count { times: 0 }].expect(&rt, "no values");
+    let Ok((turns, mut first)) = Turns::new(alloc, 5u32, values) else {
+        panic!(rt; "no turns")
+    };
+    let seats = split_off(alloc, &turns, &mut first, 8).expect(&rt, "no seats");
+    let seats = thread::map_vec(&rt, seats, &|seat| add(&rt, &turns, seat, 1000));
+    join_all(&turns, &mut first, seats.expect(&rt, "no seats"));
+    let Ok(values) = turns.close(alloc, first) else {
+        panic!(rt; "no values")
+    };
     same(&rt, values.len(), 1);
     same(&rt, values[0].times, 8000);
-    Ok(())
 }
 
 // A clock that stands still: it counts the sleeps and keeps how long the last was to be, in microseconds.
@@ -231,7 +245,7 @@ impl Clock for Sleeps {
 
 // No clause sees how long a thread waits.
 #[test]
-fn who_waits_yields_and_then_sleeps(rt: HostRuntime) -> Result<(), Fail> {
+fn who_waits_yields_and_then_sleeps(rt: HostRuntime) {
     let clock = Sleeps {
         count: AtomicU64::new(0),
         last: AtomicU64::new(0),
@@ -247,5 +261,4 @@ fn who_waits_yields_and_then_sleeps(rt: HostRuntime) -> Result<(), Fail> {
         same(&rt, clock.last.load(Ordering::SeqCst), wanted);
     }
     same(&rt, clock.count.load(Ordering::SeqCst), 8);
-    Ok(())
 }
