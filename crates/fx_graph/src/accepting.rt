@@ -1,5 +1,7 @@
 //! From a raw graph to a graph, node by node.
-ghost use Rattle.std.specs.Prelude.{◌≡◌, ◌≤◌, ◌<◌, true, [], length, map, position, None, Some, Ok, IfOk, IfErr, OnOk, codes};
+ghost use Rattle.std.specs.Prelude.{◌≡◌, ◌≤◌, ◌<◌, ◌++◌, ◌∷◌, ℕ, List, true, [], length, map, position, if◌then◌else◌};
+ghost use Rattle.std.specs.Prelude.{None, Some, Ok, IfOk, IfErr, OnOk, codes};
+ghost use Rattle.std.specs.BTreeMap.{get_by_text};
 ghost use Rattle.std.specs.Str.{bytes_eq};
 ghost use Rattle.fx_base.specs.declared.limits.TheConstants.{MOST_NODES};
 ghost use Rattle.fx_text.specs.Answers.{Refuses};
@@ -17,7 +19,7 @@ use crate::graph::Graph;
 use crate::node::{Node, Work};
 use crate::places::{add, place};
 use crate::refuse::{refuse, refuse_at};
-use fx_base::{Name, Pattern, Rect};
+use fx_base::{Memory, Name, Pattern, Rect};
 use fx_effect::Catalogue;
 use fx_pixel::{Components, Depth};
 use fx_text::{GraphCode, GraphFault, RawGraph, RawNode, RawProject, RawWork};
@@ -42,6 +44,24 @@ pub fn accept<E: Catalogue + Drop>(alloc: Global, raw: RawGraph) -> Result<Graph
       nodes = map shown g.nodes.items;
     })) }
     ensures refused { Refuses result (graph_of E.find E.meaning raw) }
+{
+    accept_graph(alloc, &raw)
+}
+
+// The graph that a raw graph stands for, which is the caller's to let go.
+fn accept_graph<E: Catalogue + Drop>(alloc: Global, raw: &RawGraph) -> Result<Graph<E>, GraphFault>
+    ensures accepted { IfOk result (λ g. graph_of E.find E.meaning raw.now ≡ Ok (record {
+      project = g.project;
+      depth = g.depth;
+      components = g.components;
+      output = g.output;
+      file = g.file;
+      format = g.format;
+      first = g.first;
+      last = g.last;
+      nodes = map shown g.nodes.items;
+    })) }
+    ensures refused { Refuses result (graph_of E.find E.meaning raw.now) }
 {
     let project = raw.project;
     let form = (project.depth, project.components);
@@ -84,10 +104,27 @@ fn accept_nodes<E: Catalogue + Drop>(
     let mut nodes = Vec::new(alloc);
     for raw in raws {
         let node = accept_node(alloc, project, &places, &nodes, raw)?;
-        add(alloc, &mut places, node.name.text(), nodes.len() as u32)?;
-        nodes.push(node)?;
+        put_node(alloc, &mut places, &mut nodes, node)?;
     }
     Ok(nodes)
+}
+
+// Puts a node behind the others, and its place under its name.
+fn put_node<E: Drop>(
+    alloc: Global,
+    places: &mut BTreeMap<String, u32>,
+    nodes: &mut Vec<Node<E>>,
+    node: Node<E>,
+) -> Result<(), Memory>
+    requires { length nodes.old.items < MOST_NODES }
+    ensures place { let here = length nodes.old.items in
+        OnOk result ((n : List ℕ) → get_by_text places.new n
+        ≡ (if bytes_eq node.name n then Some here else get_by_text places.old n)) }
+    ensures node { OnOk result (nodes.new.items ≡ nodes.old.items ++ node ∷ []) }
+{
+    add(alloc, places, node.name.text(), nodes.len() as u32)?;
+    nodes.push(node)?;
+    Ok(())
 }
 
 fn accept_node<E: Catalogue + Drop>(

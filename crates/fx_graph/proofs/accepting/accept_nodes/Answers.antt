@@ -44,14 +44,14 @@ loop-raw-preserved g c =
     let within : i < length raws = omega arith in
     let more = rest_is (nodes_of find meaning project nodes) raws i raw within c.raw-item.is in
     let here = step_ok find meaning project nodes raw (drop (i + 1) raws) node made in
-    let place_is : c.len.result ≡ length (names_of nodes) = let long : length (names_of nodes) ≡ length c.loop-raw.nodes.items = length-map nodes (λ n. n.name) ∙ length-map c.loop-raw.nodes.items shown in omega (arith, long) in
-    let added : (n : List ℕ) → get_by_text c.add.new.places n ≡ cond (bytes_eq node.name n) (Some (length (names_of nodes))) (get_by_text c.loop-raw.places n) = λ n. rw (c.text.ensures, place_is) at c.in_ok-add.ensures.added n in
-    let pushed : map shown c.push.new.self.items ≡ nodes ++ node ∷ [] = ap (map shown) c.in_ok-push.ensures.items ∙ map-append shown c.loop-raw.nodes.items (c.in_ok-node.node ∷ []) in
+    let long : length (names_of nodes) ≡ length c.loop-raw.nodes.items = length-map nodes (λ n. n.name) ∙ length-map c.loop-raw.nodes.items shown in
+    let added : (n : List ℕ) → get_by_text c.put_node.new.places n ≡ cond (bytes_eq node.name n) (Some (length (names_of nodes))) (get_by_text c.loop-raw.places n) = λ n. subst (λ k. get_by_text c.put_node.new.places n ≡ cond (bytes_eq node.name n) (Some k) (get_by_text c.loop-raw.places n)) (sym long) (c.in_ok-put_node.ensures.place n) in
+    let pushed : map shown c.put_node.new.nodes.items ≡ nodes ++ node ∷ [] = ap (map shown) c.in_ok-put_node.ensures.node ∙ map-append shown c.loop-raw.nodes.items (c.in_ok-node.node ∷ []) in
     record {
       whole = c.loop-raw.invariant.whole ∙ more ∙ here ∙ ap (λ ns. nodes_of find meaning project ns (drop (i + 1) raws)) (sym pushed);
-      index = subst (IsIndex c.add.new.places) (sym (ap names_of pushed ∙ map-append (λ n. n.name) nodes (node ∷ []))) (index_push c.loop-raw.places c.add.new.places (names_of nodes) node.name c.loop-raw.invariant.index fresh added);
+      index = subst (IsIndex c.put_node.new.places) (sym (ap names_of pushed ∙ map-append (λ n. n.name) nodes (node ∷ []))) (index_push c.loop-raw.places c.put_node.new.places (names_of nodes) node.name c.loop-raw.invariant.index fresh added);
       kept = subst (AreNodes meaning project) (sym pushed) (nodes_pushed meaning project nodes node c.loop-raw.invariant.kept (rw c.deref.ensures.value at c.in_ok-node.ensures.kept));
-      count = let more : length c.push.new.self.items ≡ length c.loop-raw.nodes.items + 1 = ap length c.in_ok-push.ensures.items ∙ length-append c.loop-raw.nodes.items (c.in_ok-node.node ∷ []) in more ∙ ap (λ n. n + 1) c.loop-raw.invariant.count;
+      count = let more : length c.put_node.new.nodes.items ≡ length c.loop-raw.nodes.items + 1 = ap length c.in_ok-put_node.ensures.node ∙ length-append c.loop-raw.nodes.items (c.in_ok-node.node ∷ []) in more ∙ ap (λ n. n + 1) c.loop-raw.invariant.count;
     }
 
 pub returns-clause-ok : goal.returns-clause-ok

@@ -9,7 +9,7 @@ use Rattle.fx_graph.specs.Shown.{shown, names_of}
 use Rattle.fx_graph.specs.Nodes.{place_of, nodes_of}
 use Rattle.fx_graph.specs.Graphs.{extent, form, is_output, graph_of}
 use Rattle.fx_graph.proofs.Graphing.{refuses, graph_is, node_refused, file_refused, extent_is, extent_project, range_is}
-use Rattle.fx_graph.proofs.accepting.accept.Goals as goal
+use Rattle.fx_graph.proofs.accepting.accept_graph.Goals as goal
 
 pub returns-in_err-output-clause-refused : goal.returns-in_err-output-clause-refused
 returns-in_err-output-clause-refused g c =
@@ -17,7 +17,7 @@ returns-in_err-output-clause-refused g c =
     let meaning = g.E.ImageEffect.meaning in
     let own : Project = record { width = c.project.inside.width; height = c.project.inside.height; depth = c.project.inside.depth; components = c.project.inside.components } in
     let raw : RawGraph = record { format = c.raw.inside.format; project = own; output = c.raw.inside.output; first = c.raw.inside.first; last = c.raw.inside.last; groups = c.raw.inside.groups; nodes = c.raw.inside.nodes; takes = c.raw.inside.takes } in
-    let raw_is : raw ≡ c.args.raw = ap (λ (p : Project). record raw { project = p }) c.project.view_is ∙ c.raw.view_is in
+    let raw_is : raw ≡ c.args.raw.now = ap (λ (p : Project). record raw { project = p }) c.project.view_is ∙ c.raw.view_is in
     let nodes = map shown c.in_ok-nodes.nodes.items in
     let made : nodes_of find meaning (form own) [] c.raw.inside.nodes ≡ Ok nodes = subst (λ rs. nodes_of find meaning (form own) [] rs ≡ Ok nodes) c.items.ensures.value c.in_ok-nodes.ensures.ok in
     let e = c.in_err-output.field-0.0 in
@@ -31,7 +31,7 @@ returns-in_err-file-clause-refused g c =
     let meaning = g.E.ImageEffect.meaning in
     let own : Project = record { width = c.project.inside.width; height = c.project.inside.height; depth = c.project.inside.depth; components = c.project.inside.components } in
     let raw : RawGraph = record { format = c.raw.inside.format; project = own; output = c.raw.inside.output; first = c.raw.inside.first; last = c.raw.inside.last; groups = c.raw.inside.groups; nodes = c.raw.inside.nodes; takes = c.raw.inside.takes } in
-    let raw_is : raw ≡ c.args.raw = ap (λ (p : Project). record raw { project = p }) c.project.view_is ∙ c.raw.view_is in
+    let raw_is : raw ≡ c.args.raw.now = ap (λ (p : Project). record raw { project = p }) c.project.view_is ∙ c.raw.view_is in
     let nodes = map shown c.in_ok-nodes.nodes.items in
     let made : nodes_of find meaning (form own) [] c.raw.inside.nodes ≡ Ok nodes = subst (λ rs. nodes_of find meaning (form own) [] rs ≡ Ok nodes) c.items.ensures.value c.in_ok-nodes.ensures.ok in
     let found : place_of (names_of nodes) c.raw.inside.output.node ≡ Some c.in_ok-output.output = rw (c.deref.ensures.value, c.text.ensures) at c.in_ok-output.ensures.ok in
@@ -56,7 +56,7 @@ returns-clause-accepted g c =
     let meaning = g.E.ImageEffect.meaning in
     let own : Project = record { width = c.project.inside.width; height = c.project.inside.height; depth = c.project.inside.depth; components = c.project.inside.components } in
     let raw : RawGraph = record { format = c.raw.inside.format; project = own; output = c.raw.inside.output; first = c.raw.inside.first; last = c.raw.inside.last; groups = c.raw.inside.groups; nodes = c.raw.inside.nodes; takes = c.raw.inside.takes } in
-    let raw_is : raw ≡ c.args.raw = ap (λ (p : Project). record raw { project = p }) c.project.view_is ∙ c.raw.view_is in
+    let raw_is : raw ≡ c.args.raw.now = ap (λ (p : Project). record raw { project = p }) c.project.view_is ∙ c.raw.view_is in
     let nodes = map shown c.in_ok-nodes.nodes.items in
     let made : nodes_of find meaning (form own) [] c.raw.inside.nodes ≡ Ok nodes = subst (λ rs. nodes_of find meaning (form own) [] rs ≡ Ok nodes) c.items.ensures.value c.in_ok-nodes.ensures.ok in
     let found : place_of (names_of nodes) c.raw.inside.output.node ≡ Some c.in_ok-output.output = rw (c.deref.ensures.value, c.text.ensures) at c.in_ok-output.ensures.ok in
