@@ -1,5 +1,5 @@
 //! Files of source frames, when moments use them, and what is told of frames and faults.
-ghost use Rattle.std.specs.Prelude.{◌≡◌, IfOk};
+ghost use Rattle.std.specs.Prelude.{◌≡◌};
 
 use fx_base::Name;
 use fx_outside::MemoryLibrary;
@@ -7,6 +7,7 @@ use fx_pam::PamFault;
 use fx_pixel::Pixel;
 use fx_seq::{SeqFault, SourceFrame, Use, Wanted};
 use std::alloc::{AllocError, Global};
+use std::process::Abort;
 
 // One pixel of r, g, b and a, each one byte: 4 bytes.
 const BYTE: &[u8] = b"P7\nWIDTH 1\nHEIGHT 1\nDEPTH 4\nMAXVAL 255\nENDHDR\n\x01\x02\x03\x04";
@@ -35,34 +36,58 @@ pub(crate) fn named(alloc: Global, text: &str) -> Result<Name, AllocError> {
 }
 
 // A library of the files byte, short and cut, whose fetches with these numbers fail.
-pub(crate) fn library(alloc: Global, failing: &[u64]) -> Result<MemoryLibrary, AllocError> {
-    let mut files = Vec::new(alloc);
-    for (name, bytes) in [("byte", BYTE), ("short", SHORT), ("cut", CUT)] {
-        files.push((named(alloc, name)?, bytes.to_vec(alloc)?))?;
-    }
-    Ok(MemoryLibrary::new(alloc, files, failing.to_vec(alloc)?))
+pub(crate) fn library(rt: &(impl Abort + AllocGlobal), failing: &[u64]) -> MemoryLibrary {
+    let mut files = Vec::new(rt.alloc());
+    add_file(rt, &mut files, "byte", BYTE);
+    add_file(rt, &mut files, "short", SHORT);
+    add_file(rt, &mut files, "cut", CUT);
+    let failing = failing.to_vec(rt.alloc()).expect(rt, "no list");
+    MemoryLibrary::new(rt.alloc(), files, failing)
+}
+
+fn add_file(
+    rt: &(impl Abort + AllocGlobal),
+    files: &mut Vec<(Name, Vec<u8>)>,
+    name: &str,
+    bytes: &[u8],
+) {
+    let name = named(rt.alloc(), name).expect(rt, "no name");
+    let bytes = bytes.to_vec(rt.alloc()).expect(rt, "no bytes");
+    files.push((name, bytes)).expect(rt, "no file");
 }
 
 // A frame of a node in this file, and the first and the last moment that use it.
 pub(crate) fn used(
-    alloc: Global,
+    rt: &(impl Abort + AllocGlobal),
     place: (u32, i64),
     name: &str,
     moments: (u64, u64),
-) -> Result<Use, AllocError>
-    ensures place { IfOk result (λ u. (u.wanted.node ≡ place.0) × (u.wanted.frame ≡ place.1)) }
-    ensures moments { IfOk result (λ u. (u.from ≡ moments.0) × (u.until ≡ moments.1)) }
+) -> Use
+    ensures place { (result.wanted.node ≡ place.0) × (result.wanted.frame ≡ place.1) }
+    ensures moments { (result.from ≡ moments.0) × (result.until ≡ moments.1) }
 {
     let wanted = Wanted {
         node: place.0,
         frame: place.1,
-        name: named(alloc, name)?,
+        name: named(rt.alloc(), name).expect(rt, "no name"),
     };
-    Ok(Use {
+    Use {
         wanted,
         from: moments.0,
         until: moments.1,
-    })
+    }
+}
+
+// Adds what is used of a frame.
+pub(crate) fn add_used(
+    rt: &(impl Abort + AllocGlobal),
+    uses: &mut Vec<Use>,
+    place: (u32, i64),
+    name: &str,
+    moments: (u64, u64),
+) {
+    let more = used(rt, place, name, moments);
+    uses.push(more).expect(rt, "no memory");
 }
 
 // The node, the frame and the bytes of each.

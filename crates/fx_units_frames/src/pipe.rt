@@ -2,7 +2,7 @@
 ghost use Rattle.std.specs.Prelude.{◌≡◌, ◌≤◌};
 ghost use Rattle.fx_pipe.specs.Reads.{IsSchedule, kept_size};
 
-use crate::files::{Cause, library, named, told, told_frames, used};
+use crate::files::{Cause, add_used, library, named, told, told_frames};
 use crate::same::same_at;
 use fx_outside::{MemoryDepot, MemoryLibrary};
 use fx_pam::PamFault;
@@ -10,35 +10,34 @@ use fx_pipe::{Line, Made, PutStop, Reader, Schedule, put_block, read_on};
 use fx_seq::{SeqFault, SourceFrame, Use};
 use std::alloc::{AllocError, Global};
 use std::collections::VecDeque;
-use std::test::Fail;
+use std::process::Abort;
 
 // What three moments use: a frame that all of them use, and one more each of the second and the third.
-fn three_moments(alloc: Global, names: (&str, &str, &str)) -> Result<Vec<Use>, AllocError> {
-    let uses = vec![in alloc;
-        used(alloc, (3, -1), names.0, (0, 2))?,
-        used(alloc, (1, 2), names.1, (1, 1))?,
-        used(alloc, (3, 0), names.2, (2, 2))?,
-    ]?;
-    Ok(uses)
+fn three_moments(rt: &(impl Abort + AllocGlobal), names: (&str, &str, &str)) -> Vec<Use> {
+    let mut uses = Vec::new(rt.alloc());
+    add_used(rt, &mut uses, (3, -1), names.0, (0, 2));
+    add_used(rt, &mut uses, (1, 2), names.1, (1, 1));
+    add_used(rt, &mut uses, (3, 0), names.2, (2, 2));
+    uses
 }
 
 // The frames of the moments that a block reads.
 fn block(
-    alloc: Global,
+    rt: &(impl Abort + AllocGlobal),
     library: &mut MemoryLibrary,
     schedule: &Schedule<'_>,
     reader: &mut Reader,
     fault: &mut Option<SeqFault>,
-) -> Result<String, AllocError>
+) -> String
     requires schedule { IsSchedule schedule.now }
     requires next { reader.old.next ≤ schedule.now.moments }
     requires few { kept_size schedule.now.uses.now reader.old.next reader.old.kept.items ≤ schedule.now.limit }
     ensures next { reader.new.next ≤ schedule.now.moments }
     ensures few { kept_size schedule.now.uses.now reader.new.next reader.new.kept.items ≤ schedule.now.limit }
 {
-    let mut fetched = VecDeque::new(alloc);
-    read_on(alloc, library, schedule, reader, fault, &mut fetched);
-    told_block(alloc, &fetched)
+    let mut fetched = VecDeque::new(rt.alloc());
+    read_on(rt.alloc(), library, schedule, reader, fault, &mut fetched);
+    told_block(rt.alloc(), &fetched).expect(rt, "no text")
 }
 
 fn told_block(alloc: Global, block: &VecDeque<Vec<SourceFrame>>) -> Result<String, AllocError> {
@@ -142,11 +141,10 @@ const BLOCKS: &[BlockRow] = &[
 ];
 
 #[test]
-fn a_block_is_read_up_to_a_fault(rt: HostRuntime) -> Result<(), Fail> {
-    let alloc = rt.alloc();
+fn a_block_is_read_up_to_a_fault(rt: HostRuntime) {
     for (names, failing, limit, ahead, (first, second)) in BLOCKS {
-        let mut library = library(alloc, failing)?;
-        let uses = three_moments(alloc, *names)?;
+        let mut library = library(&rt, failing);
+        let uses = three_moments(&rt, *names);
         let schedule = Schedule {
             uses: &uses,
             moments: 3,
@@ -154,16 +152,16 @@ fn a_block_is_read_up_to_a_fault(rt: HostRuntime) -> Result<(), Fail> {
             most_side: 8192,
             ahead: *ahead,
         };
-        let mut reader = Reader::new(alloc);
+        let mut reader = Reader::new(rt.alloc());
         let mut fault = None;
-        let text = block(alloc, &mut library, &schedule, &mut reader, &mut fault)?;
+        let text = block(&rt, &mut library, &schedule, &mut reader, &mut fault);
         same_at(
             &rt,
             &(names, ahead),
             (text.as_str(), reader.next, told_fault(&fault)),
             *first,
         );
-        let text = block(alloc, &mut library, &schedule, &mut reader, &mut fault)?;
+        let text = block(&rt, &mut library, &schedule, &mut reader, &mut fault);
         same_at(
             &rt,
             &(names, ahead),
@@ -171,14 +169,15 @@ fn a_block_is_read_up_to_a_fault(rt: HostRuntime) -> Result<(), Fail> {
             *second,
         );
     }
-    Ok(())
 }
 
-fn made(alloc: Global, name: &str, bytes: &[u8]) -> Result<Made, AllocError> {
-    Ok(Made {
-        name: named(alloc, name)?,
-        bytes: bytes.to_vec(alloc)?,
-    })
+// Adds a file to a block.
+fn add_made(rt: &(impl Abort + AllocGlobal), block: &mut VecDeque<Made>, name: &str, bytes: &[u8]) {
+    let made = Made {
+        name: named(rt.alloc(), name).expect(rt, "no name"),
+        bytes: bytes.to_vec(rt.alloc()).expect(rt, "no bytes"),
+    };
+    block.push_back(made).expect(rt, "no file");
 }
 
 // The name whose put failed: none where all were put.
@@ -214,46 +213,55 @@ fn lengths(alloc: Global, spare: &VecDeque<Vec<u8>>) -> Result<Vec<usize>, Alloc
     Ok(lengths)
 }
 
+// The files a, b and a again.
+fn three_files(rt: &(impl Abort + AllocGlobal)) -> VecDeque<Made> {
+    let mut block = VecDeque::new(rt.alloc());
+    add_made(rt, &mut block, "a", b"first");
+    add_made(rt, &mut block, "b", b"2");
+    add_made(rt, &mut block, "a", b"third");
+    block
+}
+
 #[test]
-fn files_are_put_up_to_one_that_fails(rt: HostRuntime) -> Result<(), Fail> {
+fn files_are_put_up_to_one_that_fails(rt: HostRuntime) {
     let alloc = rt.alloc();
     for (failing, name, a, b, bytes, left) in PUTS {
-        let mut depot = MemoryDepot::new(alloc, failing.to_vec(alloc)?);
-        let mut block = VecDeque::new(alloc);
-        block.push_back(made(alloc, "a", b"first")?)?;
-        block.push_back(made(alloc, "b", b"2")?)?;
-        block.push_back(made(alloc, "a", b"third")?)?;
+        let failing_puts = failing.to_vec(alloc).expect(&rt, "no list");
+        let mut depot = MemoryDepot::new(alloc, failing_puts);
+        let mut block = three_files(&rt);
         let mut spare = VecDeque::new(alloc);
         let put = put_block(alloc, &mut depot, &mut block, &mut spare);
         same_at(&rt, failing, (failed(&put), block.len()), (*name, *left));
         same_at(&rt, failing, (depot.get("a"), depot.get("b")), (*a, *b));
-        same_at(&rt, failing, lengths(alloc, &spare)?.as_slice(), *bytes);
+        let lengths = lengths(alloc, &spare).expect(&rt, "no lengths");
+        same_at(&rt, failing, lengths.as_slice(), *bytes);
     }
-    Ok(())
 }
 
 // A line where a block of so many moments was read and one of so many was made, up to this next moment.
 fn line(
-    alloc: Global,
+    rt: &(impl Abort + AllocGlobal),
     fault: Option<SeqFault>,
     next: u64,
     fetched: u32,
     files: u32,
-) -> Result<Line, AllocError> {
-    let mut line = Line::new(alloc);
+) -> Line {
+    let mut line = Line::new(rt.alloc());
     line.fault = fault;
     line.reader.next = next;
     for _ in 0..fetched {
-        line.fetched.push_back(Vec::new(alloc))?;
+        line.fetched
+            .push_back(Vec::new(rt.alloc()))
+            .expect(rt, "no moment");
     }
     for _ in 0..files {
-        line.made.push_back(made(alloc, "a", b"")?)?;
+        add_made(rt, &mut line.made, "a", b"");
     }
-    Ok(line)
+    line
 }
 
 #[test]
-fn a_line_of_three_moments_ends(rt: HostRuntime) -> Result<(), Fail> {
+fn a_line_of_three_moments_ends(rt: HostRuntime) {
     let alloc = rt.alloc();
     let large = "Source(TooLarge(1, 2, 12))";
     // The fault, the next moment, how many moments were read and made; whether the line is over and wants memory, and
@@ -293,11 +301,11 @@ fn a_line_of_three_moments_ends(rt: HostRuntime) -> Result<(), Fail> {
         ),
     ];
     for (fault, next, (fetched, files), states, expected) in table {
-        let mut line = line(alloc, fault, next, fetched, files)?;
+        let mut line = line(&rt, fault, next, fetched, files);
         let row = (next, fetched, files);
         same_at(&rt, &row, (line.is_over(3), line.wants_memory()), states);
         let end = line.end();
-        let text = format!(in alloc; "{end:?}")?;
+        let text = format!(in alloc; "{end:?}").expect(&rt, "no text");
         same_at(
             &rt,
             &row,
@@ -305,5 +313,4 @@ fn a_line_of_three_moments_ends(rt: HostRuntime) -> Result<(), Fail> {
             (expected, true),
         );
     }
-    Ok(())
 }

@@ -1,18 +1,16 @@
 //! What a pipeline puts and how it ends: as the plain order does, in which the frames of each moment are read, its file
 //! is made, and the file is put before the next.
-ghost use Rattle.std.specs.Prelude.{◌≡◌, ◌≤◌, ◌^◌, IfOk};
+ghost use Rattle.std.specs.Prelude.{◌≡◌, ◌≤◌, ◌^◌};
 
-use crate::files::{Cause, library, told, used};
+use crate::files::{Cause, add_used, library, told};
 use crate::same::same_at;
 use crate::toys::{CountedLibrary, ListedDepot, Meeting, Teller};
 use fx_outside::MemoryDepot;
 use fx_pipe::{PipeEnd, pipe};
 use fx_seq::Use;
-use std::alloc::{AllocError, Global};
 use std::process::Abort;
 use std::rt::Clock;
 use std::sync::Wait;
-use std::test::Fail;
 use std::thread::Threads;
 
 // The frames that are used, with their files, and the first and the last moment of each. Two moments are the first to
@@ -77,31 +75,34 @@ struct Outcome {
     depot: MemoryDepot,
 }
 
-fn uses(alloc: Global) -> Result<Vec<Use>, AllocError> {
-    let mut uses = Vec::new(alloc);
+fn uses(rt: &(impl Abort + AllocGlobal)) -> Vec<Use> {
+    let mut uses = Vec::new(rt.alloc());
     for (place, name, moments) in FRAMES {
-        uses.push(used(alloc, *place, name, *moments)?)?;
+        add_used(rt, &mut uses, *place, name, *moments);
     }
-    Ok(uses)
+    uses
 }
 
-fn ran<R: Threads + Wait + Clock + Sync>(
-    rt: &R,
-    alloc: Global,
-    row: Row,
-) -> Result<Outcome, AllocError>
+// A depot whose put with this number fails.
+fn depot(rt: &(impl Abort + AllocGlobal), failing: u64) -> MemoryDepot {
+    let failing = vec![in rt.alloc(); failing].expect(rt, "no list");
+    MemoryDepot::new(rt.alloc(), failing)
+}
+
+fn ran<R: Threads + Wait + Clock + Sync + Abort + AllocGlobal>(rt: &R, row: Row) -> Outcome
     requires limit { row.limit ≤ 2 ^ 62 }
 {
+    let alloc = rt.alloc();
     let meeting = Meeting::new();
-    let uses = uses(alloc)?;
+    let uses = uses(rt);
     let mut library = CountedLibrary {
-        library: library(alloc, &[row.fetch])?,
+        library: library(rt, &[row.fetch]),
         fetches: 0,
         late: "",
         meeting: &meeting,
     };
     let mut depot = ListedDepot {
-        depot: MemoryDepot::new(alloc, vec![in alloc; row.put]?),
+        depot: depot(rt, row.put),
         names: String::new(alloc),
         late: "",
         meeting: &meeting,
@@ -126,34 +127,26 @@ fn ran<R: Threads + Wait + Clock + Sync>(
         row.ahead,
         &mut stage,
     );
-    Ok(Outcome {
+    Outcome {
         end,
         names: depot.names,
         fetches: library.fetches,
         depot: depot.depot,
-    })
+    }
 }
 
 // The depot was asked to put so many first files, and has so many.
-fn puts_are<R: Abort>(
-    rt: &R,
-    alloc: Global,
-    row: &Row,
-    outcome: &Outcome,
-    asked: u64,
-    put: u64,
-) -> Result<(), AllocError> {
-    let mut names = String::new(alloc);
+fn puts_are(rt: &(impl Abort + AllocGlobal), row: &Row, outcome: &Outcome, asked: u64, put: u64) {
+    let mut names = String::new(rt.alloc());
     for ((name, text), at) in FILES.iter().zip(0..) {
         if at < asked {
-            names.push_str(name)?;
-            names.push(' ')?;
+            names.push_str(name).expect(rt, "no memory");
+            names.push(' ').expect(rt, "no memory");
         }
         let bytes = (at < put).then_some(text.as_bytes());
         same_at(rt, row, outcome.depot.get(name), bytes);
     }
     same_at(rt, row, outcome.names.as_str(), names.as_str());
-    Ok(())
 }
 
 // The frame whose fetch fails: none where all that are due are fetched.
@@ -188,8 +181,7 @@ fn fetches(row: &Row, stop: Stop<'_>) -> u64 {
 }
 
 #[test]
-fn it_ends_as_the_plain_order_does(rt: HostRuntime) -> Result<(), Fail> {
-    let alloc = rt.alloc();
+fn it_ends_as_the_plain_order_does(rt: HostRuntime) {
     // Blocks of 1 to 4 moments, 0 to 6 moments, none or one of 5 fetches that fails, none or one of 6 puts.
     for number in 0..4 * 7 * 6 * 7 {
         let row = Row {
@@ -200,17 +192,16 @@ fn it_ends_as_the_plain_order_does(rt: HostRuntime) -> Result<(), Fail> {
             limit: MOST,
             end: None,
         };
-        let outcome = ran(&rt, alloc, row)?;
+        let outcome = ran(&rt, row);
         let (wanted, put) = plain(&row);
         same_at(&rt, &row, told_end(&outcome.end), wanted);
         if let Stop::Put(_) = wanted {
-            puts_are(&rt, alloc, &row, &outcome, put.saturating_add(1), put)?;
+            puts_are(&rt, &row, &outcome, put.saturating_add(1), put);
         } else {
-            puts_are(&rt, alloc, &row, &outcome, put, put)?;
+            puts_are(&rt, &row, &outcome, put, put);
             same_at(&rt, &row, outcome.fetches, fetches(&row, wanted));
         }
     }
-    Ok(())
 }
 
 // How many bytes may be held, the frame that has too many with those before it, and how many files are put.
@@ -223,8 +214,7 @@ const LIMITS: &[(u64, Option<(u32, i64, u64)>, u64)] = &[
 ];
 
 #[test]
-fn frames_are_held_up_to_a_limit(rt: HostRuntime) -> Result<(), Fail> {
-    let alloc = rt.alloc();
+fn frames_are_held_up_to_a_limit(rt: HostRuntime) {
     for ahead in 1..5 {
         for (limit, large, put) in LIMITS {
             let row = Row {
@@ -243,12 +233,11 @@ fn frames_are_held_up_to_a_limit(rt: HostRuntime) -> Result<(), Fail> {
                     Cause::TooLarge(*sum),
                 ))),
             };
-            let outcome = ran(&rt, alloc, row)?;
+            let outcome = ran(&rt, row);
             same_at(&rt, &row, told_end(&outcome.end), wanted);
-            puts_are(&rt, alloc, &row, &outcome, *put, *put)?;
+            puts_are(&rt, &row, &outcome, *put, *put);
         }
     }
-    Ok(())
 }
 
 // How many moments a block has, at which moment memory is wanting, and which put fails; the end, and how many files are
@@ -265,8 +254,7 @@ const WANTING: &[(u32, u64, u64, Stop<'static>, u64, u64)] = &[
 ];
 
 #[test]
-fn it_ends_with_the_round_where_memory_is_wanting(rt: HostRuntime) -> Result<(), Fail> {
-    let alloc = rt.alloc();
+fn it_ends_with_the_round_where_memory_is_wanting(rt: HostRuntime) {
     for (ahead, moment, failing, wanted, asked, put) in WANTING {
         let row = Row {
             ahead: *ahead,
@@ -276,24 +264,24 @@ fn it_ends_with_the_round_where_memory_is_wanting(rt: HostRuntime) -> Result<(),
             limit: MOST,
             end: Some(*moment),
         };
-        let outcome = ran(&rt, alloc, row)?;
+        let outcome = ran(&rt, row);
         same_at(&rt, &row, told_end(&outcome.end), *wanted);
-        puts_are(&rt, alloc, &row, &outcome, *asked, *put)?;
+        puts_are(&rt, &row, &outcome, *asked, *put);
     }
-    Ok(())
 }
 
 // The file of the third block's first moment is fetched while one of the second is made and one of the first is put:
 // each waits for the others.
 #[test]
-fn the_parts_of_a_round_meet(rt: HostRuntime) -> Result<(), Fail> {
+fn the_parts_of_a_round_meet(rt: HostRuntime) {
     let alloc = rt.alloc();
     for ahead in 1..5 {
         let meeting = Meeting::new();
         let late = 2 * u64::from(ahead);
-        let uses = vec![in alloc; used(alloc, (0, 0), "byte", (late, late))?]?;
+        let mut uses = Vec::new(alloc);
+        add_used(&rt, &mut uses, (0, 0), "byte", (late, late));
         let mut library = CountedLibrary {
-            library: library(alloc, &[])?,
+            library: library(&rt, &[]),
             fetches: 0,
             late: "byte",
             meeting: &meeting,
@@ -327,5 +315,4 @@ fn the_parts_of_a_round_meet(rt: HostRuntime) -> Result<(), Fail> {
         );
         same_at(&rt, &ahead, told_end(&end), Stop::Done);
     }
-    Ok(())
 }
