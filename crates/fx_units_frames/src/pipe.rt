@@ -21,15 +21,14 @@ fn three_moments(rt: &(impl Abort + AllocGlobal), names: (&str, &str, &str)) -> 
     uses
 }
 
-// A block reads the frames of these moments, and leaves what stands beside them.
-fn leaves(
+// The frames of the moments that a block reads.
+fn block(
     rt: &(impl Abort + AllocGlobal),
     library: &mut MemoryLibrary,
     schedule: &Schedule<'_>,
     reader: &mut Reader,
     fault: &mut Option<SeqFault>,
-    left: Left,
-)
+) -> String
     requires schedule { IsSchedule schedule.now }
     requires next { reader.old.next ≤ schedule.now.moments }
     requires few { kept_size schedule.now.uses.now reader.old.next reader.old.kept.items ≤ schedule.now.limit }
@@ -38,9 +37,7 @@ fn leaves(
 {
     let mut fetched = VecDeque::new(rt.alloc());
     read_on(rt.alloc(), library, schedule, reader, fault, &mut fetched);
-    let text = told_block(rt.alloc(), &fetched).expect(rt, "no text");
-    let found = (text.as_str(), reader.next, told_fault(fault));
-    same_at(rt, &schedule.ahead, found, left);
+    told_block(rt.alloc(), &fetched).expect(rt, "no text")
 }
 
 fn told_block(alloc: Global, block: &VecDeque<Vec<SourceFrame>>) -> Result<String, AllocError> {
@@ -157,20 +154,18 @@ fn a_block_is_read_up_to_a_fault(rt: HostRuntime) {
         };
         let mut reader = Reader::new(rt.alloc());
         let mut fault = None;
-        leaves(
+        let text = block(&rt, &mut library, &schedule, &mut reader, &mut fault);
+        same_at(
             &rt,
-            &mut library,
-            &schedule,
-            &mut reader,
-            &mut fault,
+            &(names, ahead),
+            (text.as_str(), reader.next, told_fault(&fault)),
             *first,
         );
-        leaves(
+        let text = block(&rt, &mut library, &schedule, &mut reader, &mut fault);
+        same_at(
             &rt,
-            &mut library,
-            &schedule,
-            &mut reader,
-            &mut fault,
+            &(names, ahead),
+            (text.as_str(), reader.next, told_fault(&fault)),
             *second,
         );
     }
