@@ -1,9 +1,7 @@
 //! Groups and takes of a graph file.
 use crate::same::{same, same_at};
-use crate::text::{changed_in, repeated, told};
+use crate::text::{changed_in, repeated, tells};
 use fx_text::{GraphFault, RawScalar, RawValue, RawWork, migrated, names_rise, read_graph};
-use std::alloc::AllocError;
-use std::test::Fail;
 
 // A graph with a group, a use of it, and a take.
 const GROUPED: &str =
@@ -142,14 +140,11 @@ const CHANGES: &[(&str, &str, &str)] = &[
 ];
 
 #[test]
-fn each_change_of_groups_and_takes_is_told(rt: HostRuntime) -> Result<(), AllocError> {
-    let alloc = rt.alloc();
+fn each_change_of_groups_and_takes_is_told(rt: HostRuntime) {
     for (old, new, wanted) in CHANGES {
-        let text = changed_in(alloc, GROUPED, old, new)?;
-        let answer = told(alloc, text.as_bytes())?;
-        same_at(&rt, &(old, new), answer.as_str(), *wanted);
+        let text = changed_in(rt.alloc(), GROUPED, old, new).expect(&rt, "no text");
+        tells(&rt, &(old, new), text.as_bytes(), wanted);
     }
-    Ok(())
 }
 
 // Lists at both ends of their lengths: what is replaced, the item, how many of it, and what is then read.
@@ -213,21 +208,18 @@ const LENGTHS: &[(&str, &str, u32, &str)] = &[
 ];
 
 #[test]
-fn lists_of_groups_and_takes_have_limits(rt: HostRuntime) -> Result<(), AllocError> {
-    let alloc = rt.alloc();
+fn lists_of_groups_and_takes_have_limits(rt: HostRuntime) {
     for (old, item, count, wanted) in LENGTHS {
-        let list = repeated(alloc, "[", item, *count, "]")?;
-        let text = changed_in(alloc, GROUPED, old, list.as_str())?;
-        let answer = told(alloc, text.as_bytes())?;
-        same_at(&rt, &(item, count), answer.as_str(), *wanted);
+        let list = repeated(rt.alloc(), "[", item, *count, "]").expect(&rt, "no list");
+        let text = changed_in(rt.alloc(), GROUPED, old, list.as_str()).expect(&rt, "no text");
+        tells(&rt, &(item, count), text.as_bytes(), wanted);
     }
-    Ok(())
 }
 
 #[test]
-fn groups_and_takes_are_read(rt: HostRuntime) -> Result<(), Fail> {
+fn groups_and_takes_are_read(rt: HostRuntime) {
     let alloc = rt.alloc();
-    let mut graph = read_graph(alloc, GROUPED.as_bytes(), 256, 4096)?;
+    let mut graph = read_graph(alloc, GROUPED.as_bytes(), 256, 4096).expect(&rt, "no graph");
     names_rise(&graph);
     same(&rt, graph.format, 2);
     for group in graph.groups.items() {
@@ -263,7 +255,6 @@ fn groups_and_takes_are_read(rt: HostRuntime) -> Result<(), Fail> {
             );
         }
     }
-    Ok(())
 }
 
 // A graph's bytes, and its text in format 2: members in the order of their names, with no blanks.
@@ -277,10 +268,10 @@ const MIGRATED: &[(&str, &str)] = &[
 ];
 
 #[test]
-fn migrated_text_is_compact(rt: HostRuntime) -> Result<(), Fail> {
+fn migrated_text_is_compact(rt: HostRuntime) {
     let alloc = rt.alloc();
     for (text, wanted) in MIGRATED {
-        let answer = migrated(alloc, text.as_bytes())?;
+        let answer = migrated(alloc, text.as_bytes()).expect(&rt, "no text");
         same_at(&rt, text, answer.as_str(), *wanted);
     }
     let refused = match migrated(alloc, b"{") {
@@ -291,5 +282,4 @@ fn migrated_text_is_compact(rt: HostRuntime) -> Result<(), Fail> {
         },
     };
     same(&rt, refused, true);
-    Ok(())
 }

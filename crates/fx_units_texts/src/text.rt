@@ -5,7 +5,8 @@ use fx_text::{
     printed_graph_reads_back, read_graph,
 };
 use std::alloc::{AllocError, Global};
-use std::test::Fail;
+use std::fmt::Debug;
+use std::process::Abort;
 
 // The first graph that a newcomer sees: one solid.
 const FIRST: &str =
@@ -33,6 +34,17 @@ pub(crate) fn told(alloc: Global, bytes: &[u8]) -> Result<String, AllocError> {
             format!(in alloc; "G{number} {text}")
         }
     }
+}
+
+// What is read of bytes is this. The row is of a table.
+pub(crate) fn tells<L: Debug>(
+    rt: &(impl Abort + AllocGlobal),
+    row: &L,
+    bytes: &[u8],
+    wanted: &str,
+) {
+    let answer = told(rt.alloc(), bytes).expect(rt, "no answer");
+    same_at(rt, row, answer.as_str(), wanted);
 }
 
 // A graph, with a text of it replaced.
@@ -310,14 +322,11 @@ const CHANGES: &[(&str, &str, &str)] = &[
 ];
 
 #[test]
-fn each_member_is_read_or_refused(rt: HostRuntime) -> Result<(), AllocError> {
-    let alloc = rt.alloc();
+fn each_member_is_read_or_refused(rt: HostRuntime) {
     for (old, new, wanted) in CHANGES {
-        let text = changed(alloc, old, new)?;
-        let answer = told(alloc, text.as_bytes())?;
-        same_at(&rt, &new, answer.as_str(), *wanted);
+        let text = changed(rt.alloc(), old, new).expect(&rt, "no text");
+        tells(&rt, &new, text.as_bytes(), wanted);
     }
-    Ok(())
 }
 
 // Whether a value of the whole graph is what stands there.
@@ -334,8 +343,8 @@ fn is_given(value: &RawValue) -> bool {
 }
 
 #[test]
-fn a_whole_graph_is_read(rt: HostRuntime) -> Result<(), Fail> {
-    let graph = read_graph(rt.alloc(), WHOLE.as_bytes(), 256, 4096)?;
+fn a_whole_graph_is_read(rt: HostRuntime) {
+    let graph = read_graph(rt.alloc(), WHOLE.as_bytes(), 256, 4096).expect(&rt, "no graph");
     names_rise(&graph);
     same(&rt, (graph.format, graph.first, graph.last), (1, 7, 9));
     same(&rt, (graph.project.width, graph.project.height), (4, 2));
@@ -383,7 +392,6 @@ fn a_whole_graph_is_read(rt: HostRuntime) -> Result<(), Fail> {
             RawWork::GroupUse { group, .. } => same(&rt, group.text(), ""),
         }
     }
-    Ok(())
 }
 
 // Two faults in one file: which one counts.
@@ -410,81 +418,87 @@ const ORDER: &[(&str, &str)] = &[
 ];
 
 #[test]
-fn the_first_fault_counts(rt: HostRuntime) -> Result<(), AllocError> {
-    let alloc = rt.alloc();
+fn the_first_fault_counts(rt: HostRuntime) {
     for (text, wanted) in ORDER {
-        let answer = told(alloc, text.as_bytes())?;
-        same_at(&rt, &text, answer.as_str(), *wanted);
+        tells(&rt, &text, text.as_bytes(), wanted);
     }
     let bytes = FIRST.as_bytes();
     for end in 0..bytes.len() {
-        let answer = told(alloc, &bytes[..end])?;
-        same_at(&rt, &end, answer.as_str(), "G1 ");
+        tells(&rt, &end, &bytes[..end], "G1 ");
     }
     printed_graph_reads_back();
-    Ok(())
 }
 
 // Lists at both ends of their lengths, and names at theirs.
 #[test]
-fn lengths_have_limits(rt: HostRuntime) -> Result<(), AllocError> {
-    let alloc = rt.alloc();
-    let name = format!(in alloc; "\"name\":\"{SHORT}\"")?;
-    let longer = format!(in alloc; "\"name\":\"{SHORT}4\"")?;
-    for (name, wanted) in [(name, "2"), (longer, "G3 nodes[0].name")] {
-        let text = changed(alloc, "\"name\":\"s\"", name.as_str())?;
-        let answer = told(alloc, text.as_bytes())?;
-        same(&rt, answer.as_str(), wanted);
+fn lengths_have_limits(rt: HostRuntime) {
+    names_have_limits(&rt);
+    nodes_have_limits(&rt);
+    keys_have_limits(&rt);
+}
+
+fn names_have_limits(rt: &(impl Abort + AllocGlobal)) {
+    for (end, wanted) in [("", "2"), ("4", "G3 nodes[0].name")] {
+        let name = format!(in rt.alloc(); "\"name\":\"{SHORT}{end}\"").expect(rt, "no name");
+        let text = changed(rt.alloc(), "\"name\":\"s\"", name.as_str()).expect(rt, "no text");
+        tells(rt, &end, text.as_bytes(), wanted);
     }
+}
+
+// A node, how many of it stand in a graph, and what is then read.
+const NODES: &[(&str, u32, &str)] = &[
+    (r#"{"name":"n","effect":"e"}"#, 0, "G3 nodes"),
+    (r#"{"name":"n","effect":"e"}"#, 1, "1"),
+    (r#"{"name":"n","effect":"e"}"#, 256, "256"),
+    (r#"{"name":"n","effect":"e"}"#, 257, "G3 nodes"),
+    ("1", 257, "G3 nodes"),
+];
+
+fn nodes_have_limits(rt: &(impl Abort + AllocGlobal)) {
     let (before, _) = FIRST.split_once("[{").unwrap_or(("", ""));
-    for (item, count, wanted) in [
-        (r#"{"name":"n","effect":"e"}"#, 0, "G3 nodes"),
-        (r#"{"name":"n","effect":"e"}"#, 1, "1"),
-        (r#"{"name":"n","effect":"e"}"#, 256, "256"),
-        (r#"{"name":"n","effect":"e"}"#, 257, "G3 nodes"),
-        ("1", 257, "G3 nodes"),
-    ] {
-        let nodes = repeated(alloc, "[", item, count, "]}")?;
-        let text = format!(in alloc; "{before}{nodes}")?;
-        let answer = told(alloc, text.as_bytes())?;
-        same_at(&rt, &(&count, &item), answer.as_str(), wanted);
+    for (item, count, wanted) in NODES {
+        let nodes = repeated(rt.alloc(), "[", item, *count, "]}").expect(rt, "no nodes");
+        let text = format!(in rt.alloc(); "{before}{nodes}").expect(rt, "no text");
+        tells(rt, &(count, item), text.as_bytes(), wanted);
     }
-    for (item, count, wanted) in [
-        ("[0,1]", 1000, "2"),
-        ("[0,1]", 1001, "G3 nodes[1].params.rx"),
-        ("1", 1001, "G3 nodes[1].params.rx"),
-    ] {
-        let keys = repeated(alloc, "[", item, count, "]")?;
-        let text = changed(alloc, r#"[[-5,1],[6,"0.5"]]"#, keys.as_str())?;
-        let answer = told(alloc, text.as_bytes())?;
-        same_at(&rt, &count, answer.as_str(), wanted);
+}
+
+// The same, of the keys of a parameter.
+const KEYS: &[(&str, u32, &str)] = &[
+    ("[0,1]", 1000, "2"),
+    ("[0,1]", 1001, "G3 nodes[1].params.rx"),
+    ("1", 1001, "G3 nodes[1].params.rx"),
+];
+
+fn keys_have_limits(rt: &(impl Abort + AllocGlobal)) {
+    for (item, count, wanted) in KEYS {
+        let keys = repeated(rt.alloc(), "[", item, *count, "]").expect(rt, "no keys");
+        let text = changed(rt.alloc(), r#"[[-5,1],[6,"0.5"]]"#, keys.as_str()).expect(
+            rt, "no text",
+        );
+        tells(rt, &count, text.as_bytes(), wanted);
     }
-    Ok(())
+}
+
+fn add(rt: &impl Abort, text: &mut String, bracket: &str, count: u32) {
+    for _ in 0..count {
+        text.push_str(bracket).expect(rt, "no memory");
+    }
 }
 
 // A value of JSON that nests so deep, in the place of a parameter's.
 #[test]
-fn deep_values_are_no_json(rt: HostRuntime) -> Result<(), AllocError> {
-    let alloc = rt.alloc();
+fn deep_values_are_no_json(rt: HostRuntime) {
     // The value stands in the graph, its nodes, a node and the parameters: four deep.
     for (depth, wanted) in [(123, "G2 nodes[1].params.on"), (124, "G1 ")] {
-        let mut value = String::new(alloc);
-        for _ in 0..depth {
-            value.push_str("[")?;
-        }
-        for _ in 0..depth {
-            value.push_str("]")?;
-        }
-        let value = format!(in alloc; "\"on\":{value}")?;
-        let text = changed(alloc, "\"on\":false", value.as_str())?;
-        let answer = told(alloc, text.as_bytes())?;
-        same_at(&rt, &depth, answer.as_str(), wanted);
+        let mut value = String::new(rt.alloc());
+        add(&rt, &mut value, "[", depth);
+        add(&rt, &mut value, "]", depth);
+        let value = format!(in rt.alloc(); "\"on\":{value}").expect(&rt, "no value");
+        let text = changed(rt.alloc(), "\"on\":false", value.as_str()).expect(&rt, "no text");
+        tells(&rt, &depth, text.as_bytes(), wanted);
     }
-    let mut open = String::new(alloc);
-    for _ in 0..1000 {
-        open.push_str("[")?;
-    }
-    let answer = told(alloc, open.as_bytes())?;
-    same(&rt, answer.as_str(), "G1 ");
-    Ok(())
+    let mut open = String::new(rt.alloc());
+    add(&rt, &mut open, "[", 1000);
+    tells(&rt, &1000, open.as_bytes(), "G1 ");
 }

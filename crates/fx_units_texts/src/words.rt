@@ -1,5 +1,5 @@
 use crate::same::{same, same_at};
-use fx_base::{Memory, Name, Rect};
+use fx_base::{Name, Rect};
 use fx_pam::PamField;
 use fx_text::{GraphCode, GraphPath};
 use fx_words::{
@@ -7,6 +7,7 @@ use fx_words::{
     fault_text, options_in_any_order, read_words, report_text,
 };
 use std::alloc::{AllocError, Global};
+use std::process::Abort;
 
 // What a line's words order: the mode and the numbers, or that they are no use of the command.
 fn ordered(alloc: Global, line: &str) -> Result<String, AllocError> {
@@ -197,28 +198,27 @@ const LINES: &[(&str, &str)] = &[
 ];
 
 #[test]
-fn words_are_an_order_or_usage(rt: HostRuntime) -> Result<(), AllocError> {
+fn words_are_an_order_or_usage(rt: HostRuntime) {
     let alloc = rt.alloc();
     for (line, wanted) in LINES {
-        let order = ordered(alloc, line)?;
+        let order = ordered(alloc, line).expect(&rt, "no order");
         same_at(&rt, &line, order.as_str(), *wanted);
     }
     let none: Vec<String> = Vec::new(alloc);
     assert!(rt; matches!(read_words(alloc, none.as_slice()), Err(WordFault::Usage)));
     options_in_any_order();
-    Ok(())
 }
 
 // A line behind what was there.
-fn line(alloc: Global, fault: &RunFault) -> Result<Vec<u8>, Memory> {
-    let mut out = Vec::new(alloc);
-    out.push(b'>')?;
-    fault_text(alloc, fault, &mut out)?;
-    Ok(out)
+fn told_as(rt: &(impl Abort + AllocGlobal), fault: &RunFault, wanted: &[u8]) {
+    let mut out = Vec::new(rt.alloc());
+    out.push(b'>').expect(rt, "no memory");
+    fault_text(rt.alloc(), fault, &mut out).expect(rt, "no line");
+    same(rt, out.as_slice(), wanted);
 }
 
-fn name(alloc: Global, text: &str) -> Result<Name, AllocError> {
-    Ok(Name::of(String::from_str(alloc, text)?))
+fn text(rt: &(impl Abort + AllocGlobal), text: &str) -> String {
+    String::from_str(rt.alloc(), text).expect(rt, "no memory")
 }
 
 // Each code with a path, and without one.
@@ -268,14 +268,11 @@ const CODES: &[(GraphCode, &str, &[u8])] = &[
 ];
 
 #[test]
-fn graph_faults_are_told(rt: HostRuntime) -> Result<(), Memory> {
-    let alloc = rt.alloc();
+fn graph_faults_are_told(rt: HostRuntime) {
     for (code, path, wanted) in CODES {
-        let path = GraphPath::of(String::from_str(alloc, path)?);
-        let told = line(alloc, &RunFault::Graph(*code, path))?;
-        same(&rt, told.as_slice(), *wanted);
+        let path = GraphPath::of(text(&rt, path));
+        told_as(&rt, &RunFault::Graph(*code, path), wanted);
     }
-    Ok(())
 }
 
 const FRAMES: &[(FrameFault, &[u8])] = &[
@@ -309,45 +306,36 @@ const FRAMES: &[(FrameFault, &[u8])] = &[
 ];
 
 #[test]
-fn frame_faults_are_told(rt: HostRuntime) -> Result<(), Memory> {
-    let alloc = rt.alloc();
+fn frame_faults_are_told(rt: HostRuntime) {
     for (fault, wanted) in FRAMES {
-        let node = name(alloc, "s")?;
-        let told = line(alloc, &RunFault::Frame(node, -3, *fault))?;
-        same(&rt, told.as_slice(), *wanted);
+        let node = Name::of(text(&rt, "s"));
+        told_as(&rt, &RunFault::Frame(node, -3, *fault), wanted);
     }
-    Ok(())
 }
 
 #[test]
-fn other_faults_are_told(rt: HostRuntime) -> Result<(), Memory> {
-    let alloc = rt.alloc();
-    let usage = line(alloc, &RunFault::Usage)?;
-    let wanted =
+fn other_faults_are_told(rt: HostRuntime) {
+    let usage =
         b">usage: ofxr MODE GRAPH [--first N] [--last N] [--tile N] [--cache N] [--workers N] [--ahead N] [--scale N]\n";
-    same(&rt, usage.as_slice(), wanted.as_slice());
-    let read = line(alloc, &RunFault::Read(name(alloc, "g.json")?))?;
-    same(&rt, read.as_slice(), b">ofxr: read: g.json\n".as_slice());
-    let write = line(alloc, &RunFault::Write(name(alloc, "o0.pam")?))?;
-    same(&rt, write.as_slice(), b">ofxr: write: o0.pam\n".as_slice());
-    let memory = line(alloc, &RunFault::Memory)?;
-    same(&rt, memory.as_slice(), b">ofxr: memory\n".as_slice());
-    let report = line(alloc, &RunFault::Report)?;
-    same(&rt, report.as_slice(), b">ofxr: report\n".as_slice());
-    Ok(())
+    told_as(&rt, &RunFault::Usage, usage);
+    let read = RunFault::Read(Name::of(text(&rt, "g.json")));
+    told_as(&rt, &read, b">ofxr: read: g.json\n");
+    let write = RunFault::Write(Name::of(text(&rt, "o0.pam")));
+    told_as(&rt, &write, b">ofxr: write: o0.pam\n");
+    told_as(&rt, &RunFault::Memory, b">ofxr: memory\n");
+    told_as(&rt, &RunFault::Report, b">ofxr: report\n");
 }
 
 // A report behind what was there.
-fn report_told(alloc: Global, report: &Report) -> Result<Vec<u8>, Memory> {
-    let mut out = Vec::new(alloc);
-    out.push(b'>')?;
-    report_text(alloc, report, &mut out)?;
-    Ok(out)
+fn reported_as(rt: &(impl Abort + AllocGlobal), report: &Report, wanted: &[u8]) {
+    let mut out = Vec::new(rt.alloc());
+    out.push(b'>').expect(rt, "no memory");
+    report_text(rt.alloc(), report, &mut out).expect(rt, "no report");
+    same(rt, out.as_slice(), wanted);
 }
 
 #[test]
-fn reports_are_lines(rt: HostRuntime) -> Result<(), Memory> {
-    let alloc = rt.alloc();
+fn reports_are_lines(rt: HostRuntime) {
     let render = Report::Render {
         frames: 2,
         tiles: 1020,
@@ -358,41 +346,27 @@ fn reports_are_lines(rt: HostRuntime) -> Result<(), Memory> {
         hits: 6,
     };
     let wanted = b">frames 2\ntiles 1020 void 3 passed 4 asked 1013\nlanded 1018 hits 6\n";
-    same(
-        &rt,
-        report_told(alloc, &render)?.as_slice(),
-        wanted.as_slice(),
-    );
+    reported_as(&rt, &render, wanted);
     let check = Report::Check {
         nodes: 12,
         frames: 24,
         wanted: 23,
     };
     let wanted = b">nodes 12\nframes 24\nwanted 23\n";
-    same(
-        &rt,
-        report_told(alloc, &check)?.as_slice(),
-        wanted.as_slice(),
-    );
+    reported_as(&rt, &check, wanted);
     let bench = Report::Bench {
         frames: 4,
         size: 1229076,
         sum: 18446744073709551615,
     };
     let wanted = b">frames 4\nbytes 1229076\nsum 18446744073709551615\n";
-    same(
-        &rt,
-        report_told(alloc, &bench)?.as_slice(),
-        wanted.as_slice(),
-    );
-    let migrate = report_told(alloc, &Report::Migrate { nodes: 1024 })?;
-    same(&rt, migrate.as_slice(), b">nodes 1024\n".as_slice());
-    Ok(())
+    reported_as(&rt, &bench, wanted);
+    let migrate = Report::Migrate { nodes: 1024 };
+    reported_as(&rt, &migrate, b">nodes 1024\n");
 }
 
 #[test]
-fn reports_of_takes_are_lines(rt: HostRuntime) -> Result<(), Memory> {
-    let alloc = rt.alloc();
+fn reports_of_takes_are_lines(rt: HostRuntime) {
     let two = Report::Takes {
         takes: 2,
         frames: 2,
@@ -404,7 +378,7 @@ fn reports_of_takes_are_lines(rt: HostRuntime) -> Result<(), Memory> {
         hits: 0,
     };
     let wanted = b">takes 2\nframes 2\ntiles 2 void 0 passed 0 asked 2\nlanded 2 hits 0\n";
-    same(&rt, report_told(alloc, &two)?.as_slice(), wanted.as_slice());
+    reported_as(&rt, &two, wanted);
     let many = Report::Takes {
         takes: 65,
         frames: 6500000,
@@ -417,31 +391,27 @@ fn reports_of_takes_are_lines(rt: HostRuntime) -> Result<(), Memory> {
     };
     let wanted =
         b">takes 65\nframes 6500000\ntiles 6500000 void 1 passed 2 asked 6499997\nlanded 100000 hits 6399997\n";
-    same(
-        &rt,
-        report_told(alloc, &many)?.as_slice(),
-        wanted.as_slice(),
-    );
-    Ok(())
+    reported_as(&rt, &many, wanted);
 }
 
-fn plan_told(alloc: Global, frames: Vec<PlanFrame>) -> Result<Vec<u8>, Memory> {
+fn planned_as(rt: &(impl Abort + AllocGlobal), frames: Vec<PlanFrame>, wanted: &[u8]) {
     let frames = PlanFrames::of(frames);
-    report_told(alloc, &Report::Plan { frames })
+    reported_as(rt, &Report::Plan { frames }, wanted);
 }
 
 #[test]
-fn a_plan_of_nothing_is_told(rt: HostRuntime) -> Result<(), Memory> {
-    let alloc = rt.alloc();
-    let told = plan_told(alloc, Vec::new(alloc))?;
-    same(&rt, told.as_slice(), b">frames 0\n".as_slice());
-    let entries = PlanLines::of(Vec::new(alloc));
-    let mut frames = Vec::new(alloc);
-    frames.push(PlanFrame { frame: 0, entries })?;
-    let told = plan_told(alloc, frames)?;
-    let wanted = b">frames 1\nframe 0 entries 0\n".as_slice();
-    same(&rt, told.as_slice(), wanted);
-    Ok(())
+fn a_plan_of_nothing_is_told(rt: HostRuntime) {
+    planned_as(&rt, Vec::new(rt.alloc()), b">frames 0\n");
+    let entries = PlanLines::of(Vec::new(rt.alloc()));
+    let mut frames = Vec::new(rt.alloc());
+    add_frame(&rt, &mut frames, 0, entries);
+    planned_as(&rt, frames, b">frames 1\nframe 0 entries 0\n");
+}
+
+fn add_frame(rt: &impl Abort, frames: &mut Vec<PlanFrame>, frame: u64, entries: PlanLines) {
+    frames
+        .push(PlanFrame { frame, entries })
+        .expect(rt, "no frame");
 }
 
 fn entry(node: u32, frame: i64, x1: i64, y1: i64, x2: i64, y2: i64) -> PlanLine {
@@ -454,27 +424,25 @@ fn entry(node: u32, frame: i64, x1: i64, y1: i64, x2: i64, y2: i64) -> PlanLine 
 }
 
 #[test]
-fn plans_are_told(rt: HostRuntime) -> Result<(), Memory> {
-    let alloc = rt.alloc();
-    let mut first = Vec::new(alloc);
-    first.push(entry(0, -1, -64, 0, 0, 64))?;
-    first.push(entry(0, 8, 0, -128, 64, -64))?;
-    first.push(entry(1023, 7, -9, -8, 7, 6))?;
-    let mut second = Vec::new(alloc);
-    second.push(entry(4, 999999, 64, 128, 128, 192))?;
-    let entries = PlanLines::of(first);
-    same(&rt, entries.items().len(), 3);
-    let mut frames = Vec::new(alloc);
-    frames.push(PlanFrame { frame: 7, entries })?;
-    let entries = PlanLines::of(PlanLines::of(second).into_items());
-    frames.push(PlanFrame {
-        frame: 999999,
-        entries,
-    })?;
+fn plans_are_told(rt: HostRuntime) {
+    let first = [
+        entry(0, -1, -64, 0, 0, 64),
+        entry(0, 8, 0, -128, 64, -64),
+        entry(1023, 7, -9, -8, 7, 6),
+    ];
+    let first = lines(&rt, &first);
+    same(&rt, first.items().len(), 3);
+    let second = lines(&rt, &[entry(4, 999999, 64, 128, 128, 192)]);
+    let second = PlanLines::of(second.into_items());
+    let mut frames = Vec::new(rt.alloc());
+    add_frame(&rt, &mut frames, 7, first);
+    add_frame(&rt, &mut frames, 999999, second);
     let frames = PlanFrames::of(frames).into_items();
-    let told = plan_told(alloc, frames)?;
     let wanted =
         b">frames 2\nframe 7 entries 3\n0 -1 -64 0 0 64\n0 8 0 -128 64 -64\n1023 7 -9 -8 7 6\nframe 999999 entries 1\n4 999999 64 128 128 192\n";
-    same(&rt, told.as_slice(), wanted.as_slice());
-    Ok(())
+    planned_as(&rt, frames, wanted);
+}
+
+fn lines(rt: &(impl Abort + AllocGlobal), entries: &[PlanLine]) -> PlanLines {
+    PlanLines::of(entries.to_vec(rt.alloc()).expect(rt, "no lines"))
 }
