@@ -1,73 +1,64 @@
 ghost use Rattle.std.specs.Prelude.{◌≡◌, ◌<◌, None};
 
 use crate::same::same;
-use fx_base::Memory;
 use fx_gate::{GateSeat, Gates};
-use std::alloc::Global;
+use std::process::Abort;
 use std::rt::Clock;
 use std::sync::Wait;
-use std::test::Fail;
-use std::thread;
+use std::thread::{self, Threads};
 
-#[test]
-fn a_gate_is_held_and_released(rt: HostRuntime) -> Result<(), Fail> {
-    let alloc = rt.alloc();
-    let (gates, mut seat) = Gates::new(alloc, 4)?;
-    let mut hold = gates.hold(&rt, &mut seat, 3);
-    same(&rt, hold.gate(), Some(3));
-    let made = hold.workspace().room(alloc, 2);
-    let kept = made.is_ok() && hold.workspace().cells.len() == 2;
-    gates.release(&mut seat, hold);
-    assert!(rt; kept);
-    assert!(rt; gates.close(alloc, seat).is_ok());
-    Ok(())
-}
-
-#[test]
-fn room_keeps_the_old_cells(rt: HostRuntime) -> Result<(), Fail> {
-    let alloc = rt.alloc();
-    let mut hold = Gates::free(alloc);
-    same(&rt, hold.gate(), None);
-    let workspace = hold.workspace();
-    workspace.room(alloc, 2)?;
-    workspace.cells.clear();
-    workspace.cells.push(7)?;
-    workspace.room(alloc, 3)?;
-    workspace.room(alloc, 1)?;
-    same(&rt, workspace.cells.as_slice(), [7, 0, 0].as_slice());
-    Ok(())
-}
-
-#[test]
-fn room_keeps_the_old_bytes(rt: HostRuntime) -> Result<(), Fail> {
-    let alloc = rt.alloc();
-    let mut hold = Gates::free(alloc);
-    let workspace = hold.workspace();
-    workspace.byte_room(alloc, 1)?;
-    workspace.bytes.clear();
-    workspace.bytes.push(7)?;
-    workspace.byte_room(alloc, 3)?;
-    workspace.byte_room(alloc, 1)?;
-    same(&rt, workspace.bytes.as_slice(), [7, 0, 0].as_slice());
-    same(&rt, workspace.cells.len(), 0);
-    Ok(())
-}
-
-// One cell in the workspace of a gate.
-fn make_room<R: Wait + Clock>(
+// Holds a gate, makes room for so many cells in its workspace, and releases it.
+fn make_room<R: Wait + Clock + Abort + AllocGlobal>(
     rt: &R,
-    alloc: Global,
     gates: &Gates,
     seat: &mut GateSeat,
     gate: u32,
-) -> Result<(), Memory>
+    cells: u32,
+)
     requires { (seat.old.row ≡ gates.now) × (seat.old.turn ≡ None) × (gate < gates.now.gates) }
     ensures { seat.new ≡ seat.old }
 {
     let mut hold = gates.hold(rt, seat, gate);
-    let made = hold.workspace().room(alloc, 1);
+    same(rt, hold.gate(), Some(gate));
+    let made = hold.workspace().room(rt.alloc(), cells);
+    let kept = made.is_ok() && hold.workspace().cells.len() == cells as usize;
     gates.release(seat, hold);
-    made
+    assert!(rt; kept);
+}
+
+#[test]
+fn a_gate_is_held_and_released(rt: HostRuntime) {
+    let (gates, mut seat) = Gates::new(rt.alloc(), 4).expect(&rt, "no gates");
+    make_room(&rt, &gates, &mut seat, 3, 2);
+    assert!(rt; gates.close(rt.alloc(), seat).is_ok());
+}
+
+#[test]
+fn room_keeps_the_old_cells(rt: HostRuntime) {
+    let alloc = rt.alloc();
+    let mut hold = Gates::free(alloc);
+    same(&rt, hold.gate(), None);
+    let workspace = hold.workspace();
+    workspace.room(alloc, 2).expect(&rt, "no room");
+    workspace.cells.clear();
+    workspace.cells.push(7).expect(&rt, "no cell");
+    workspace.room(alloc, 3).expect(&rt, "no room");
+    workspace.room(alloc, 1).expect(&rt, "no room");
+    same(&rt, workspace.cells.as_slice(), [7, 0, 0].as_slice());
+}
+
+#[test]
+fn room_keeps_the_old_bytes(rt: HostRuntime) {
+    let alloc = rt.alloc();
+    let mut hold = Gates::free(alloc);
+    let workspace = hold.workspace();
+    workspace.byte_room(alloc, 1).expect(&rt, "no room");
+    workspace.bytes.clear();
+    workspace.bytes.push(7).expect(&rt, "no byte");
+    workspace.byte_room(alloc, 3).expect(&rt, "no room");
+    workspace.byte_room(alloc, 1).expect(&rt, "no room");
+    same(&rt, workspace.bytes.as_slice(), [7, 0, 0].as_slice());
+    same(&rt, workspace.cells.len(), 0);
 }
 
 // Holds each gate in turn and counts in its first cell.
@@ -85,23 +76,45 @@ fn count<R: Wait + Clock>(rt: &R, gates: &Gates, mut seat: GateSeat, times: u32)
     seat
 }
 
-#[test]
-fn two_threads_hold_two_gates(rt: HostRuntime) -> Result<(), Fail> {
-    let alloc = rt.alloc();
-    let (gates, mut first) = Gates::new(alloc, 2)?;
-    make_room(&rt, alloc, &gates, &mut first, 0)?;
-    make_room(&rt, alloc, &gates, &mut first, 1)?;
-    let second = gates.split(alloc, &mut first)?;
+// Two threads count in both gates beside each other.
+fn both_count<R: Threads + Wait + Clock + Sync + Abort + AllocGlobal>(
+    rt: &R,
+    gates: &Gates,
+    mut first: GateSeat,
+) -> GateSeat
+    requires seat { (first.row ≡ gates.now) × (first.turn ≡ None) × (1 < first.parts) }
+    requires gates { 1 < gates.now.gates }
+    ensures { (result.row ≡ gates.now) × (result.turn ≡ None) × (result.parts ≡ first.parts) }
+{
+    let second = gates
+        .split(rt.alloc(), &mut first)
+        .expect(rt, "no second seat");
     let (mut first, second) = thread::join(
-        &rt,
-        || count(&rt, &gates, first, 1000),
-        || count(&rt, &gates, second, 1000),
+        rt,
+        || count(rt, gates, first, 1000),
+        || count(rt, gates, second, 1000),
     );
     gates.join(&mut first, second);
-    let mut hold = gates.hold(&rt, &mut first, 1);
+    first
+}
+
+// What the first cell of a gate is.
+fn first_cell<R: Wait + Clock>(rt: &R, gates: &Gates, seat: &mut GateSeat, gate: u32) -> Option<u64>
+    requires { (seat.old.row ≡ gates.now) × (seat.old.turn ≡ None) × (gate < gates.now.gates) }
+    ensures { seat.new ≡ seat.old }
+{
+    let mut hold = gates.hold(rt, seat, gate);
     let counted = hold.workspace().cells.first().copied();
-    gates.release(&mut first, hold);
-    same(&rt, counted, Some(1000));
-    gates.close(alloc, first).map_err(|e| e.2)?;
-    Ok(())
+    gates.release(seat, hold);
+    counted
+}
+
+#[test]
+fn two_threads_hold_two_gates(rt: HostRuntime) {
+    let (gates, mut seat) = Gates::new(rt.alloc(), 2).expect(&rt, "no gates");
+    make_room(&rt, &gates, &mut seat, 0, 1);
+    make_room(&rt, &gates, &mut seat, 1, 1);
+    let mut seat = both_count(&rt, &gates, seat);
+    same(&rt, first_cell(&rt, &gates, &mut seat, 1), Some(1000));
+    assert!(rt; gates.close(rt.alloc(), seat).is_ok());
 }

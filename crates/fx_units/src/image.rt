@@ -1,12 +1,12 @@
 ghost use Rattle.fx_image.specs.Stored.{SameFrame};
 
-use crate::same::same;
+use crate::same::{same, same_at, surely_same};
 use fx_base::Rect;
 use fx_image::laws::a_row_is_written;
 use fx_image::samples::{copy_pixels, pixel, pixel_size, sample, set_pixel, set_sample};
 use fx_image::{Image, Layout};
 use fx_pixel::{Components, Depth, Pixel};
-use std::test::Fail;
+use std::process::Abort;
 
 const GREY: Pixel = Pixel::Rgba {
     r: 258,
@@ -23,9 +23,11 @@ const CLEAR: Pixel = Pixel::Rgba {
 };
 
 #[test]
-fn pixels_are_put_and_read(rt: HostRuntime) -> Result<(), Fail> {
+fn pixels_are_put_and_read(rt: HostRuntime) {
     let rect = Rect::of(-1, 2, 2, 4);
-    let mut image = Image::new(rt.alloc(), rect, Depth::Short, Components::Rgba, 25)?;
+    let mut image = Image::new(rt.alloc(), rect, Depth::Short, Components::Rgba, 25).expect(
+        &rt, "no image",
+    );
     same(&rt, (image.rect(), image.row_bytes()), (rect, 25));
     same(
         &rt,
@@ -37,33 +39,41 @@ fn pixels_are_put_and_read(rt: HostRuntime) -> Result<(), Fail> {
     for (x, y) in [(0, 3), (1, 2), (-1, 2), (2, 3), (1, 4), (-2, 3), (1, 1)] {
         same(&rt, image.at(x, y), CLEAR);
     }
-    Ok(())
+}
+
+// The places of an image of Alpha, and what it shows there.
+fn shows(rt: &impl Abort, image: &Image, places: &[(i64, i64, u16)]) {
+    for &(x, y, a) in places {
+        same_at(rt, &(x, y), image.at(x, y), Pixel::Alpha { a });
+    }
 }
 
 #[test]
-fn an_image_is_made_of_its_rows(rt: HostRuntime) -> Result<(), Fail> {
+fn an_image_is_made_of_its_rows(rt: HostRuntime) {
     let alloc = rt.alloc();
-    let rows = [1u8, 2, 3, 4, 5, 6].to_vec(alloc)?;
+    let rows = [1u8, 2, 3, 4, 5, 6].to_vec(alloc).expect(&rt, "no rows");
     let rect = Rect::of(-1, 2, 1, 5);
-    let image = Image::of_rows(alloc, rect, Depth::Byte, Components::Alpha, rows)?;
+    let image = Image::of_rows(alloc, rect, Depth::Byte, Components::Alpha, rows).expect(
+        &rt, "no image",
+    );
     same(&rt, (image.rect(), image.row_bytes()), (rect, 2));
-    for (x, y, a) in [
+    let shown = [
         (-1, 2, 1),
         (0, 2, 2),
         (-1, 3, 3),
         (0, 4, 6),
         (1, 2, 0),
         (0, 5, 0),
-    ] {
-        same(&rt, image.at(x, y), Pixel::Alpha { a });
-    }
-    Ok(())
+    ];
+    shows(&rt, &image, &shown);
 }
 
 #[test]
-fn views_are_read_by_rows(rt: HostRuntime) -> Result<(), Fail> {
+fn views_are_read_by_rows(rt: HostRuntime) {
     let rect = Rect::of(0, 0, 2, 1);
-    let mut image = Image::new(rt.alloc(), rect, Depth::Short, Components::Rgba, 16)?;
+    let mut image = Image::new(rt.alloc(), rect, Depth::Short, Components::Rgba, 16).expect(
+        &rt, "no image",
+    );
     image.put(1, 0, GREY);
     let view = image.view(Rect::of(1, 0, 2, 1));
     same(&rt, view.rect(), Rect::of(1, 0, 2, 1));
@@ -74,7 +84,6 @@ fn views_are_read_by_rows(rt: HostRuntime) -> Result<(), Fail> {
     );
     same(&rt, (view.at(0, 0), view.at(1, 0)), (CLEAR, GREY));
     same(&rt, view.row(0), [1, 2, 1, 2, 1, 2, 1, 2].as_slice());
-    Ok(())
 }
 
 #[test]
@@ -98,14 +107,11 @@ fn pixels_are_copied_between_rows(rt: HostRuntime) {
 }
 
 #[test]
-fn parts_are_written_by_rows(rt: HostRuntime) -> Result<(), Fail> {
-    let mut image = Image::new(
-        rt.alloc(),
-        Rect::of(0, 0, 3, 2),
-        Depth::Short,
-        Components::Alpha,
-        8,
-    )?;
+fn parts_are_written_by_rows(rt: HostRuntime) {
+    let whole = Rect::of(0, 0, 3, 2);
+    let mut image = Image::new(rt.alloc(), whole, Depth::Short, Components::Alpha, 8).expect(
+        &rt, "no image",
+    );
     let mut part = image.part(Rect::of(1, 1, 3, 2));
     same(&rt, part.rect(), Rect::of(1, 1, 3, 2));
     same(
@@ -117,39 +123,36 @@ fn parts_are_written_by_rows(rt: HostRuntime) -> Result<(), Fail> {
     same(&rt, part.row_bytes(), 4);
     a_row_is_written();
     let row = part.row_mut(1);
-    same(&rt, row.len(), 4);
+    surely_same(&rt, row.len(), 4);
     row[0] = 1;
     row[1] = 2;
     part.put(2, 1, Pixel::Alpha { a: 65535 });
     same(&rt, part.at(1, 1), Pixel::Alpha { a: 258 });
     same(&rt, part.at(0, 1), Pixel::Alpha { a: 0 });
     let shown = [(0, 1, 0), (1, 1, 258), (2, 1, 65535), (1, 0, 0), (3, 1, 0)];
-    for (x, y, a) in shown {
-        same(&rt, image.at(x, y), Pixel::Alpha { a });
-    }
-    Ok(())
+    shows(&rt, &image, &shown);
 }
 
 #[test]
-fn a_tile_is_written_into_a_wider_part(rt: HostRuntime) -> Result<(), Fail> {
+fn a_tile_is_written_into_a_wider_part(rt: HostRuntime) {
     let whole = Rect::of(0, 0, 3, 2);
-    let mut image = Image::new(rt.alloc(), whole, Depth::Byte, Components::Alpha, 3)?;
+    let mut image = Image::new(rt.alloc(), whole, Depth::Byte, Components::Alpha, 3).expect(
+        &rt, "no image",
+    );
     let mut part = image.part(whole);
     let row = part.row_within_mut(Rect::of(1, 0, 3, 1), 0);
-    same(&rt, row.len(), 2);
+    surely_same(&rt, row.len(), 2);
     row[0] = 5;
     row[1] = 6;
-    for (x, y, a) in [
+    let shown = [
         (0, 0, 0),
         (1, 0, 5),
         (2, 0, 6),
         (0, 1, 0),
         (1, 1, 0),
         (2, 1, 0),
-    ] {
-        same(&rt, image.at(x, y), Pixel::Alpha { a });
-    }
-    Ok(())
+    ];
+    shows(&rt, &image, &shown);
 }
 
 // Writes a pixel of a band that has the place.
@@ -162,7 +165,7 @@ fn mark(band: &mut Image, x: i64, y: i64)
 }
 
 #[test]
-fn an_image_is_cut_into_bands(rt: HostRuntime) -> Result<(), Fail> {
+fn an_image_is_cut_into_bands(rt: HostRuntime) {
     let layout = Layout {
         rect: Rect::of(0, 0, 3, 5),
         depth: Depth::Byte,
@@ -170,23 +173,21 @@ fn an_image_is_cut_into_bands(rt: HostRuntime) -> Result<(), Fail> {
         row_bytes: 3,
         band_rows: 2,
     };
-    let image = Image::in_bands(rt.alloc(), &layout)?;
-    let mut bands = image.into_bands(rt.alloc())?;
-    same(&rt, bands.len(), 3);
+    let image = Image::in_bands(rt.alloc(), &layout).expect(&rt, "no image");
+    let mut bands = image.into_bands(rt.alloc()).expect(&rt, "no bands");
+    surely_same(&rt, bands.len(), 3);
     same(&rt, bands[0].rect(), Rect::of(0, 0, 3, 2));
     same(&rt, bands[1].rect(), Rect::of(0, 2, 3, 4));
     same(&rt, bands[2].rect(), Rect::of(0, 4, 3, 5));
     mark(&mut bands[1], 2, 3);
-    let image = Image::of_bands(rt.alloc(), &layout, bands)?;
-    for (x, y, a) in [
+    let image = Image::of_bands(rt.alloc(), &layout, bands).expect(&rt, "no image");
+    let shown = [
         (2, 3, 7),
         (1, 3, 0),
         (2, 2, 0),
         (2, 1, 0),
         (2, 4, 0),
         (0, 0, 0),
-    ] {
-        same(&rt, image.at(x, y), Pixel::Alpha { a });
-    }
-    Ok(())
+    ];
+    shows(&rt, &image, &shown);
 }

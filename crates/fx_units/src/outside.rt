@@ -54,30 +54,52 @@ fn library_fails_as_listed(rt: HostRuntime) {
     same_file(&rt, &mut library, "a", b"two");
 }
 
+// A name, the bytes that are put under it, and the answer.
+type Put = (&'static str, &'static [u8], Result<(), PutFault>);
+
+fn puts(rt: &(impl Abort + AllocGlobal), depot: &mut impl Depot, rows: &[Put]) {
+    for &(name, bytes, wanted) in rows {
+        same_at(rt, &name, depot.put(rt.alloc(), name, bytes), wanted);
+    }
+}
+
+const ONE_IS_REFUSED: &[Put] = &[
+    ("a", b"one", Ok(())),
+    ("b", b"", Ok(())),
+    ("a", b"two", Err(PutFault::Failed)),
+];
+
 #[test]
 fn depot_fails_as_listed(rt: HostRuntime) {
-    let alloc = rt.alloc();
-    let failing = [3].to_vec(alloc).expect(&rt, "no list");
-    let mut depot = MemoryDepot::new(alloc, failing);
+    let failing = [3].to_vec(rt.alloc()).expect(&rt, "no list");
+    let mut depot = MemoryDepot::new(rt.alloc(), failing);
     same(&rt, depot.get("a"), None);
-    same(&rt, depot.put(alloc, "a", b"one"), Ok(()));
-    same(&rt, depot.put(alloc, "b", b""), Ok(()));
-    let refused = depot.put(alloc, "a", b"two");
-    same(&rt, refused, Err(PutFault::Failed));
+    puts(&rt, &mut depot, ONE_IS_REFUSED);
     same(&rt, depot.get("a"), Some(b"one".as_slice()));
-    same(&rt, depot.put(alloc, "a", b"three"), Ok(()));
+    puts(&rt, &mut depot, &[("a", b"three", Ok(()))]);
     same(&rt, depot.get("a"), Some(b"three".as_slice()));
     same(&rt, depot.get("b"), Some(b"".as_slice()));
 }
 
+// Bytes that are written, and the answer.
+type Written = (&'static [u8], Result<(), PutFault>);
+
+fn writes(rt: &(impl Abort + AllocGlobal), sink: &mut impl Sink, rows: &[Written]) {
+    for &(bytes, wanted) in rows {
+        same_at(rt, &bytes, sink.write(rt.alloc(), bytes), wanted);
+    }
+}
+
 #[test]
 fn sink_fails_as_listed(rt: HostRuntime) {
-    let alloc = rt.alloc();
-    let failing = [2].to_vec(alloc).expect(&rt, "no list");
-    let mut sink = MemorySink::new(alloc, failing);
-    same(&rt, sink.write(alloc, b"ab"), Ok(()));
-    same(&rt, sink.write(alloc, b"c"), Err(PutFault::Failed));
-    same(&rt, sink.write(alloc, b"d"), Ok(()));
+    let failing = [2].to_vec(rt.alloc()).expect(&rt, "no list");
+    let mut sink = MemorySink::new(rt.alloc(), failing);
+    let rows = [
+        (b"ab".as_slice(), Ok(())),
+        (b"c".as_slice(), Err(PutFault::Failed)),
+        (b"d".as_slice(), Ok(())),
+    ];
+    writes(&rt, &mut sink, &rows);
     same(&rt, sink.bytes(), b"abd".as_slice());
     FreePace.before_draw(0);
 }
@@ -97,14 +119,17 @@ fn sure_library_has_every_name(rt: HostRuntime) {
     same_file(&rt, &mut library, "a", b"two");
 }
 
+const THREE_PUTS: &[Put] = &[
+    ("a", b"one", Ok(())),
+    ("b", b"", Ok(())),
+    ("a", b"three", Ok(())),
+];
+
 #[test]
 fn sure_depot_takes_every_put(rt: HostRuntime) {
-    let alloc = rt.alloc();
-    let mut depot = SureDepot::new(alloc);
+    let mut depot = SureDepot::new(rt.alloc());
     same(&rt, depot.get("a"), None);
-    same(&rt, depot.put(alloc, "a", b"one"), Ok(()));
-    same(&rt, depot.put(alloc, "b", b""), Ok(()));
-    same(&rt, depot.put(alloc, "a", b"three"), Ok(()));
+    puts(&rt, &mut depot, THREE_PUTS);
     same(&rt, depot.get("a"), Some(b"three".as_slice()));
     same(&rt, depot.get("b"), Some(b"".as_slice()));
     same(&rt, depot.get("c"), None);
@@ -112,46 +137,50 @@ fn sure_depot_takes_every_put(rt: HostRuntime) {
 
 #[test]
 fn sure_sink_takes_every_write(rt: HostRuntime) {
-    let alloc = rt.alloc();
-    let mut sink = SureSink::new(alloc);
+    let mut sink = SureSink::new(rt.alloc());
     same(&rt, sink.bytes().len(), 0);
-    same(&rt, sink.write(alloc, b"ab"), Ok(()));
-    same(&rt, sink.write(alloc, b"c"), Ok(()));
+    let rows = [(b"ab".as_slice(), Ok(())), (b"c".as_slice(), Ok(()))];
+    writes(&rt, &mut sink, &rows);
     same(&rt, sink.bytes(), b"abc".as_slice());
 }
 
+const REAL: &str = "fx_outside_test.bin";
+
+// The second is the shorter one.
+const PUT_TWICE: &[Put] = &[
+    (REAL, b"longer than the next", Ok(())),
+    (REAL, b"\x00\xff", Ok(())),
+];
+
+const NOT_PUT: &[Put] = &[
+    ("no_such_folder/file", b"x", Err(PutFault::Failed)),
+    ("/dev/full", b"x", Err(PutFault::Failed)),
+];
+
 #[test]
 fn real_files_are_written_and_read(rt: HostRuntime) {
-    let alloc = rt.alloc();
-    let mut depot = FileDepot::new(&rt, alloc);
-    let mut library = FileLibrary::new(&rt, alloc);
-    let name = "fx_outside_test.bin";
-    same(&rt, depot.put(alloc, name, b"longer than the next"), Ok(()));
-    same(&rt, depot.put(alloc, name, b"\x00\xff"), Ok(()));
-    same_file(&rt, &mut library, name, b"\x00\xff");
+    let mut depot = FileDepot::new(&rt, rt.alloc());
+    let mut library = FileLibrary::new(&rt, rt.alloc());
+    puts(&rt, &mut depot, PUT_TWICE);
+    same_file(&rt, &mut library, REAL, b"\x00\xff");
     fails(&rt, &mut library, "no_such_folder/file");
     fails(&rt, &mut library, ".");
-    let refused = depot.put(alloc, "no_such_folder/file", b"x");
-    same(&rt, refused, Err(PutFault::Failed));
-    let full = depot.put(alloc, "/dev/full", b"x");
-    same(&rt, full, Err(PutFault::Failed));
+    puts(&rt, &mut depot, NOT_PUT);
 }
+
+const STREAM: &str = "fx_outside_stream.bin";
+
+const TWO_WRITES: &[Written] = &[(b"", Ok(())), (b"two ", Ok(())), (b"writes\n", Ok(()))];
 
 #[test]
 fn a_stream_takes_all_bytes_or_fails(rt: HostRuntime) {
-    let alloc = rt.alloc();
-    let name = "fx_outside_stream.bin";
-    let file = fs::create(&rt, name).expect(&rt, name);
-    let mut stream = StdSink::new(file);
-    same(&rt, stream.write(alloc, b""), Ok(()));
-    same(&rt, stream.write(alloc, b"two "), Ok(()));
-    same(&rt, stream.write(alloc, b"writes\n"), Ok(()));
-    let mut library = FileLibrary::new(&rt, alloc);
-    same_file(&rt, &mut library, name, b"two writes\n");
-    let file = fs::create(&rt, "/dev/full").expect(&rt, "/dev/full");
-    let full = StdSink::new(file).write(alloc, b"x");
-    same(&rt, full, Err(PutFault::Failed));
-    same(&rt, StdSink::new(rt.stdout()).write(alloc, b""), Ok(()));
+    let mut stream = StdSink::new(fs::create(&rt, STREAM).expect(&rt, STREAM));
+    writes(&rt, &mut stream, TWO_WRITES);
+    let mut library = FileLibrary::new(&rt, rt.alloc());
+    same_file(&rt, &mut library, STREAM, b"two writes\n");
+    let mut full = StdSink::new(fs::create(&rt, "/dev/full").expect(&rt, "/dev/full"));
+    writes(&rt, &mut full, &[(b"x", Err(PutFault::Failed))]);
+    writes(&rt, &mut StdSink::new(rt.stdout()), &[(b"", Ok(()))]);
 }
 
 // A file of the system's own says that it has no bytes, and gives some.
@@ -165,19 +194,27 @@ fn a_file_is_read_whole_whatever_length_it_says(rt: HostRuntime) {
     same(&rt, read.starts_with(b"Linux version"), true);
 }
 
+// The most bytes that are read, and how many of three are.
+const LIMITS: &[(u32, Result<usize, FetchFault>)] = &[
+    (3, Ok(3)),
+    (4, Ok(3)),
+    (u32::MAX, Ok(3)),
+    (2, Err(FetchFault::Failed)),
+    (0, Err(FetchFault::Failed)),
+];
+
+const LIMITED: &str = "fx_outside_limit.bin";
+
 #[test]
 fn a_file_is_read_up_to_the_longest(rt: HostRuntime) {
-    let alloc = rt.alloc();
-    let put = FileDepot::new(&rt, alloc).put(alloc, "fx_outside_limit.bin", b"abc");
-    same(&rt, put, Ok(()));
-    for (longest, wanted) in [
-        (3, Ok(3)),
-        (4, Ok(3)),
-        (u32::MAX, Ok(3)),
-        (2, Err(FetchFault::Failed)),
-        (0, Err(FetchFault::Failed)),
-    ] {
-        let read = FileLibrary::within(&rt, alloc, longest).fetch(alloc, "fx_outside_limit.bin");
-        same_at(&rt, &longest, read.map(|bytes| bytes.len()), wanted);
+    let mut depot = FileDepot::new(&rt, rt.alloc());
+    puts(&rt, &mut depot, &[(LIMITED, b"abc", Ok(()))]);
+    for &(longest, wanted) in LIMITS {
+        let mut library = FileLibrary::within(&rt, rt.alloc(), longest);
+        let read = match library.fetch(rt.alloc(), LIMITED) {
+            Ok(bytes) => Ok(bytes.len()),
+            Err(fault) => Err(fault),
+        };
+        same_at(&rt, &longest, read, wanted);
     }
 }

@@ -4,10 +4,9 @@ use fx_image::Image;
 use fx_pam::laws::{one_or_the_other, reads_back};
 use fx_pam::{PamFault, PamField, read, write};
 use fx_pixel::{Components, Depth, Format, Pixel};
-use std::test::Fail;
 
 // A file of two pixels in one row, and their samples. What follows the raster is left unread.
-const ROWS: [(&[u8], [u16; 4], [u16; 4]); 5] = [
+const ROWS: &[(&[u8], [u16; 4], [u16; 4])] = &[
     (
         b"P7\n# note\nMAXVAL 100\n\nDEPTH 1\nHEIGHT 1\nWIDTH 2\nTUPLTYPE GRAYSCALE\nENDHDR\n\x32\x64P7\nWIDTH 1\n",
         [128, 128, 128, 255],
@@ -36,46 +35,28 @@ const ROWS: [(&[u8], [u16; 4], [u16; 4]); 5] = [
 ];
 
 #[test]
-fn pixels_are_read(rt: HostRuntime) -> Result<(), Fail> {
-    for (bytes, left, right) in ROWS {
-        let image = read(rt.alloc(), bytes, 2)?;
-        let [r, g, b, a] = left;
-        same(&rt, image.at(0, 0), Pixel::Rgba { r, g, b, a });
-        let [r, g, b, a] = right;
-        same(&rt, image.at(1, 0), Pixel::Rgba { r, g, b, a });
+fn pixels_are_read(rt: HostRuntime) {
+    for &(bytes, left, right) in ROWS {
+        let image = read(rt.alloc(), bytes, 2).expect(&rt, "no image");
+        same(&rt, image.at(0, 0), pixel(left));
+        same(&rt, image.at(1, 0), pixel(right));
     }
-    Ok(())
+}
+
+fn pixel([r, g, b, a]: [u16; 4]) -> Pixel {
+    Pixel::Rgba { r, g, b, a }
 }
 
 #[test]
-fn the_first_row_is_the_top(rt: HostRuntime) -> Result<(), Fail> {
+fn the_first_row_is_the_top(rt: HostRuntime) {
     let bytes = b"P7\nWIDTH 1\nHEIGHT 2\nDEPTH 1\nMAXVAL 255\nENDHDR\n\x01\x02";
-    let image = read(rt.alloc(), bytes, 2)?;
+    let image = read(rt.alloc(), bytes, 2).expect(&rt, "no image");
     let (top, bottom) = (image.at(0, 1), image.at(0, 0));
-    same(
-        &rt,
-        top,
-        Pixel::Rgba {
-            r: 1,
-            g: 1,
-            b: 1,
-            a: 255,
-        },
-    );
-    same(
-        &rt,
-        bottom,
-        Pixel::Rgba {
-            r: 2,
-            g: 2,
-            b: 2,
-            a: 255,
-        },
-    );
-    Ok(())
+    same(&rt, top, pixel([1, 1, 1, 255]));
+    same(&rt, bottom, pixel([2, 2, 2, 255]));
 }
 
-const FAULTS: [(&[u8], PamFault); 17] = [
+const FAULTS: &[(&[u8], PamFault)] = &[
     (b"", PamFault::NotPam),
     (b"P7", PamFault::NotPam),
     (b"P6\nWIDTH 1\n", PamFault::NotPam),
@@ -124,7 +105,7 @@ const FAULTS: [(&[u8], PamFault); 17] = [
 
 #[test]
 fn the_first_fault_is_told(rt: HostRuntime) {
-    for (bytes, fault) in FAULTS {
+    for &(bytes, fault) in FAULTS {
         same(&rt, read(rt.alloc(), bytes, 8192).err(), Some(fault));
     }
 }
@@ -134,32 +115,32 @@ const COLUMN: &[u8] =
     b"P7\nWIDTH 1\nHEIGHT 2\nDEPTH 4\nMAXVAL 65535\nENDHDR\n\0\x01\0\x02\0\x03\0\x04\x05\0\x06\0\x07\0\x08\0";
 
 #[test]
-fn rgba_is_written(rt: HostRuntime) -> Result<(), Fail> {
-    let image = read(rt.alloc(), COLUMN, 2)?;
-    let mut out = Vec::new(rt.alloc());
-    write(rt.alloc(), &image, Format::RgbAlpha, &mut out)?;
+fn rgba_is_written(rt: HostRuntime) {
+    let image = read(rt.alloc(), COLUMN, 2).expect(&rt, "no image");
     let all =
         b"P7\nWIDTH 1\nHEIGHT 2\nDEPTH 4\nMAXVAL 65535\nTUPLTYPE RGB_ALPHA\nENDHDR\n\0\x01\0\x02\0\x03\0\x04\x05\0\x06\0\x07\0\x08\0";
-    same(&rt, out.as_slice(), all.as_slice());
-    let before = out.len();
-    write(rt.alloc(), &image, Format::Rgb, &mut out)?;
     let colours =
         b"P7\nWIDTH 1\nHEIGHT 2\nDEPTH 3\nMAXVAL 65535\nTUPLTYPE RGB\nENDHDR\n\0\x01\0\x02\0\x03\x05\0\x06\0\x07\0";
+    let mut out = Vec::new(rt.alloc());
+    write(rt.alloc(), &image, Format::RgbAlpha, &mut out).expect(&rt, "no text");
+    same(&rt, out.as_slice(), all.as_slice());
+    let before = out.len();
+    write(rt.alloc(), &image, Format::Rgb, &mut out).expect(&rt, "no text");
     same(&rt, &out[before..], colours.as_slice());
     reads_back();
     one_or_the_other();
-    Ok(())
 }
 
 #[test]
-fn alpha_is_written(rt: HostRuntime) -> Result<(), Fail> {
+fn alpha_is_written(rt: HostRuntime) {
     let rect = Rect::of(-1, 0, 1, 1);
-    let mut image = Image::new(rt.alloc(), rect, Depth::Byte, Components::Alpha, 5)?;
+    let mut image = Image::new(rt.alloc(), rect, Depth::Byte, Components::Alpha, 5).expect(
+        &rt, "no image",
+    );
     image.put(-1, 0, Pixel::Alpha { a: 7 });
     image.put(0, 0, Pixel::Alpha { a: 255 });
     let mut out = Vec::new(rt.alloc());
-    write(rt.alloc(), &image, Format::Grayscale, &mut out)?;
+    write(rt.alloc(), &image, Format::Grayscale, &mut out).expect(&rt, "no text");
     let text = b"P7\nWIDTH 2\nHEIGHT 1\nDEPTH 1\nMAXVAL 255\nTUPLTYPE GRAYSCALE\nENDHDR\n\x07\xff";
     same(&rt, out.as_slice(), text.as_slice());
-    Ok(())
 }

@@ -135,37 +135,48 @@ fn falls_between_two_keys(rt: HostRuntime) {
     same(&rt, param.value_at(11), 0);
 }
 
+// A kind, the values at the keys -3 and 1, and those of the frames -4 to 2.
+const KINDS: &[(ParamKind, ParamValue, ParamValue, [i64; 7])] = &[
+    (
+        ParamKind::Int,
+        ParamValue::Int(5),
+        ParamValue::Int(0),
+        [5, 5, 3, 2, 1, 0, 0],
+    ),
+    (
+        ParamKind::Fix,
+        ParamValue::Fix(Fix { raw: -1 }),
+        ParamValue::Fix(Fix { raw: 1 }),
+        [-1, -1, -1, 0, 0, 1, 1],
+    ),
+    (
+        ParamKind::Bool,
+        ParamValue::Flag(true),
+        ParamValue::Flag(false),
+        [1, 1, 1, 1, 1, 0, 0],
+    ),
+    (
+        ParamKind::Choice,
+        ParamValue::Choice(4),
+        ParamValue::Choice(9),
+        [4, 4, 4, 4, 4, 9, 9],
+    ),
+];
+
 #[test]
 fn follows_keys_of_every_kind(rt: HostRuntime) {
-    let unit = ParamValue::Fix(Fix { raw: 1 });
-    let below = ParamValue::Fix(Fix { raw: -1 });
-    for (kind, first, second, values) in [
-        (
-            ParamKind::Int,
-            ParamValue::Int(5),
-            ParamValue::Int(0),
-            [5, 5, 3, 2, 1, 0, 0],
-        ),
-        (ParamKind::Fix, below, unit, [-1, -1, -1, 0, 0, 1, 1]),
-        (
-            ParamKind::Bool,
-            ParamValue::Flag(true),
-            ParamValue::Flag(false),
-            [1, 1, 1, 1, 1, 0, 0],
-        ),
-        (
-            ParamKind::Choice,
-            ParamValue::Choice(4),
-            ParamValue::Choice(9),
-            [4, 4, 4, 4, 4, 9, 9],
-        ),
-    ] {
-        let mut param = param(&rt, kind);
-        set_key(&rt, &mut param, -3, first);
-        set_key(&rt, &mut param, 1, second);
-        for (frame, value) in (-4..3).zip(values) {
-            same(&rt, param.value_at(frame), value);
-        }
+    for (kind, first, second, values) in KINDS {
+        let mut param = param(&rt, *kind);
+        set_key(&rt, &mut param, -3, *first);
+        set_key(&rt, &mut param, 1, *second);
+        follows(&rt, &param, values);
+    }
+}
+
+// The values of the frames from -4 on.
+fn follows(rt: &impl Abort, param: &Param, values: &[i64]) {
+    for (frame, &value) in (-4..).zip(values) {
+        same_at(rt, &frame, param.value_at(frame), value);
     }
 }
 
@@ -245,19 +256,8 @@ fn deletes(rt: &(impl Abort + AllocGlobal), param: &mut Param) {
 
 #[test]
 fn defines_each_kind(rt: HostRuntime) {
-    let alloc = rt.alloc();
-    let (low, high) = (Fix { raw: -1 }, Fix { raw: 65536 });
-    let whole = ParamDef::int(alloc, "radius", 0, 64, 4).expect(&rt, "no number");
-    defines(&rt, &whole, "radius", ParamKind::Int, (0, 64), (4, 0));
-    let number = ParamDef::fix(alloc, "amount", low, high, Fix { raw: 7 }).expect(&rt, "no fix");
-    defines(&rt, &number, "amount", ParamKind::Fix, (-1, 65536), (7, 0));
-    let flag = ParamDef::flag(alloc, "invert", true).expect(&rt, "no flag");
-    defines(&rt, &flag, "invert", ParamKind::Bool, (0, 1), (1, 0));
-    same(
-        &rt,
-        flag.taken(ParamValue::Int(1)),
-        Err(ParamFault::WrongKind),
-    );
+    defines_numbers(&rt);
+    defines_a_flag(&rt);
     defines_a_choice(&rt);
 }
 
@@ -276,14 +276,30 @@ fn defines(
     same(rt, (def.start, def.choices.items().len()), start);
 }
 
+fn defines_numbers(rt: &(impl Abort + AllocGlobal)) {
+    let whole = ParamDef::int(rt.alloc(), "radius", 0, 64, 4).expect(rt, "no number");
+    defines(rt, &whole, "radius", ParamKind::Int, (0, 64), (4, 0));
+    let (low, high) = (Fix { raw: -1 }, Fix { raw: 65536 });
+    let start = Fix { raw: 7 };
+    let number = ParamDef::fix(rt.alloc(), "amount", low, high, start).expect(rt, "no fix");
+    defines(rt, &number, "amount", ParamKind::Fix, (-1, 65536), (7, 0));
+}
+
+fn defines_a_flag(rt: &(impl Abort + AllocGlobal)) {
+    let flag = ParamDef::flag(rt.alloc(), "invert", true).expect(rt, "no flag");
+    defines(rt, &flag, "invert", ParamKind::Bool, (0, 1), (1, 0));
+    same(
+        rt,
+        flag.taken(ParamValue::Int(1)),
+        Err(ParamFault::WrongKind),
+    );
+}
+
 fn defines_a_choice(rt: &(impl Abort + AllocGlobal)) {
     let choice = ParamDef::choice(rt.alloc(), "mode", &["over", "plus"], 1).expect(rt, "no choice");
     defines(rt, &choice, "mode", ParamKind::Choice, (0, 1), (1, 2));
-    same(
-        rt,
-        choice.choices.items().get(1).map(|text| text.text()),
-        Some("plus"),
-    );
+    let second = choice.choices.items().get(1).expect(rt, "no text");
+    same(rt, second.text(), "plus");
     same(rt, choice.taken(ParamValue::Choice(1)), Ok(1));
     same(
         rt,

@@ -4,7 +4,7 @@ ghost use Rattle.fx_props.specs.declared.value.PropKind.TheVariants as kind;
 ghost use Rattle.fx_props.specs.Property.{IsLawfulDef};
 ghost use Rattle.fx_props.specs.Entries.{AreBlank, HasValues, ShowsFlag, ShowsFrames, ShowsRegion, ShowsText, ShowsTexts, ShowsWindow};
 
-use crate::same::{same, same_at};
+use crate::same::{same, same_at, surely_same};
 use fx_base::{Fix, Memory, Name, Names, Rect};
 use fx_props::names::{CLIP_FRAMES, CLIP_REGION, CONTEXTS, NAME, REGION, SEQUENCE, TILES, WINDOW};
 use fx_props::{
@@ -359,7 +359,7 @@ fn texts_are_read(rt: &(impl Abort + AllocGlobal)) {
     let set = texts_set(rt.alloc()).expect(rt, "no texts");
     let contexts = texts_at(rt.alloc(), &set, CONTEXTS).expect(rt, "no contexts");
     let contexts = contexts.into_items();
-    same(rt, contexts.len(), 2);
+    surely_same(rt, contexts.len(), 2);
     same(rt, contexts[0].text(), "OfxImageEffectContextFilter");
     same(rt, contexts[1].text(), "OfxImageEffectContextGeneral");
 }

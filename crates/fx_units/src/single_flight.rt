@@ -6,7 +6,7 @@ ghost use Rattle.std.specs.Map.{remove_entry};
 ghost use Rattle.fx_core.specs.Flight.{Stands};
 ghost use Rattle.fx_core.specs.Answer.{Joins, IsFreshFor};
 
-use crate::same::same;
+use crate::same::{same, surely_same};
 use fx_core::{Answer, Core, Flight, Permit, Totals, every_run};
 use std::process::Abort;
 use std::sync::Arc;
@@ -40,7 +40,7 @@ fn fly(rt: &(impl Abort + AllocGlobal), core: &mut Letters, letter: u8, number: 
 {
     match ask(rt, core, letter) {
         Answer::Fly(mut flight) => {
-            same(rt, flight.ticket.number, number);
+            surely_same(rt, flight.ticket.number, number);
             same(rt, flight.ticket.scene, 7);
             assert!(rt; !flight.ticket.stamped);
             flight.ticket.stamped = true;

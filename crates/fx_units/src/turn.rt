@@ -1,11 +1,12 @@
 ghost use Rattle.std.specs.Prelude.{◌≡◌, ◌+◌, ◌<◌, ◌≤◌, [], ◌∷◌, All, IfOk, None, vec_len};
 ghost use Rattle.std.proofs.Common.{arith, refl};
 ghost use Rattle.fx_turn.specs.Tallies.{zeros};
-ghost use Rattle.fx_turn.specs.Seats.{all_parts};
+ghost use Rattle.fx_turn.specs.Seats.{IsPlain, all_parts, first_seat};
 
-use crate::same::same;
+use crate::same::{same, surely_same};
 use fx_turn::{Fits, Memory, Pause, Seat, Turns};
 use std::alloc::Global;
+use std::process::Abort;
 use std::rt::Clock;
 use std::sync::Wait;
 use std::sync::atomic::{AtomicU64, Ordering};
@@ -60,20 +61,49 @@ impl Fits<u32> for Count {
     ghost still_fits = { λ _ _ _ _ _. tt };
 }
 
+// A row of these values, whose name is 5.
+fn start<V: Fits<u32> + Drop>(
+    rt: &(impl Abort + AllocGlobal),
+    values: Vec<V>,
+) -> (Turns<u32, V>, Seat<u32, V>)
+    requires some { 0 < vec_len values }
+    requires fit { All (V.fits 5) values.items }
+    requires plain { 1 < vec_len values → All (IsPlain V.tally V.claims) values.items }
+    ensures row { (result.0.slots ≡ vec_len values) × (result.0.name ≡ 5) }
+    ensures seat { result.1 ≡ first_seat V.tally V.claims result.0 values.items }
+{
+    match Turns::new(rt.alloc(), 5, values) {
+        Ok(made) => made,
+        Err(_) => panic!(rt; "no turns"),
+    }
+}
+
+// Ends a row, and answers its values.
+fn close<V: Fits<u32> + Drop>(
+    rt: &(impl Abort + AllocGlobal),
+    turns: Turns<u32, V>,
+    seat: Seat<u32, V>,
+) -> Vec<V>
+    requires row { seat.row ≡ turns }
+    requires all { seat.parts ≡ all_parts }
+    requires free { seat.turn ≡ None }
+    ensures { vec_len result ≡ turns.slots }
+{
+    match turns.close(rt.alloc(), seat) {
+        Ok(values) => values,
+        Err(_) => panic!(rt; "no values"),
+    }
+}
+
 #[test]
 fn one_value_is_taken_and_given(rt: HostRuntime) {
-    let alloc = rt.alloc();
-    let values = vec![in alloc; Number { value: 7 }].expect(&rt, "no values");
-    let Ok((turns, mut seat)) = Turns::new(alloc, 5u32, values) else {
-        panic!(rt; "no turns")
-    };
+    let values = vec![in rt.alloc(); Number { value: 7 }].expect(&rt, "no values");
+    let (turns, mut seat) = start(&rt, values);
     let mut held = turns.take(&rt, &mut seat, 0);
     same(&rt, held.value().value, 7);
     *held.value_mut() = Number { value: 8 };
     turns.give(&mut seat, held);
-    let Ok(values) = turns.close(alloc, seat) else {
-        panic!(rt; "no values")
-    };
+    let values = close(&rt, turns, seat);
     same(&rt, values.as_slice(), [Number { value: 8 }].as_slice());
 }
 
@@ -104,11 +134,8 @@ fn values_keep_their_slots(rt: HostRuntime) {
         Number { value: 10 },
         Number { value: 20 },
         Number { value: 30 },
-    ]
-    .expect(&rt, "no values");
-    let Ok((turns, mut seat)) = Turns::new(alloc, 5u32, values) else {
-        panic!(rt; "no turns")
-    };
+    ];
+    let (turns, mut seat) = start(&rt, values.expect(&rt, "no values"));
     same(&rt, add_one(&rt, &turns, &mut seat, 0), 10);
     same(&rt, add_one(&rt, &turns, &mut seat, 1), 20);
     let Ok((turns, mut seat)) = turns.renew(alloc, seat, 6) else {
@@ -116,9 +143,7 @@ fn values_keep_their_slots(rt: HostRuntime) {
     };
     same(&rt, add_one(&rt, &turns, &mut seat, 0), 11);
     same(&rt, add_one(&rt, &turns, &mut seat, 2), 30);
-    let Ok(values) = turns.close(alloc, seat) else {
-        panic!(rt; "no values")
-    };
+    let values = close(&rt, turns, seat);
     let want = [
         Number { value: 12 },
         Number { value: 21 },
@@ -146,25 +171,44 @@ fn add<R: Wait + Clock>(
     seat
 }
 
+// A row of one count.
+fn start_count(rt: &(impl Abort + AllocGlobal)) -> (Turns<u32, Count>, Seat<u32, Count>)
+    ensures row { (result.0.slots ≡ 1) × (result.1.row ≡ result.0) }
+    ensures seat { (result.1.parts ≡ all_parts) × (result.1.turn ≡ None) }
+{
+    let values = vec![in rt.alloc(); Count { times: 0 }].expect(rt, "no values");
+    start(rt, values)
+}
+
+// Ends a row of one count, which was added to so many times.
+fn close_count(
+    rt: &(impl Abort + AllocGlobal),
+    turns: Turns<u32, Count>,
+    seat: Seat<u32, Count>,
+    times: u64,
+)
+    requires row { seat.row ≡ turns }
+    requires all { seat.parts ≡ all_parts }
+    requires free { seat.turn ≡ None }
+{
+    let values = close(rt, turns, seat);
+    surely_same(rt, values.len(), 1);
+    same(rt, values[0].times, times);
+}
+
 #[test]
 fn two_threads_take_turns(rt: HostRuntime) {
-    let alloc = rt.alloc();
-    let values = vec![in alloc; Count { times: 0 }].expect(&rt, "no values");
-    let Ok((turns, mut first)) = Turns::new(alloc, 5u32, values) else {
-        panic!(rt; "no turns")
-    };
-    let second = turns.split(alloc, &mut first).expect(&rt, "no second seat");
+    let (turns, mut first) = start_count(&rt);
+    let second = turns
+        .split(rt.alloc(), &mut first)
+        .expect(&rt, "no second seat");
     let (mut first, second) = thread::join(
         &rt,
         || add(&rt, &turns, first, 1000),
         || add(&rt, &turns, second, 1000),
     );
     turns.join(&mut first, second);
-    let Ok(values) = turns.close(alloc, first) else {
-        panic!(rt; "no values")
-    };
-    same(&rt, values.len(), 1);
-    same(&rt, values[0].times, 2000);
+    close_count(&rt, turns, first, 2000);
 }
 
 // So many seats, each split from the first.
@@ -205,19 +249,11 @@ fn join_all(
 
 #[test]
 fn eight_threads_take_turns(rt: HostRuntime) {
-    let alloc = rt.alloc();
-    let values = vec![in alloc; Count { times: 0 }].expect(&rt, "no values");
-    let Ok((turns, mut first)) = Turns::new(alloc, 5u32, values) else {
-        panic!(rt; "no turns")
-    };
-    let seats = split_off(alloc, &turns, &mut first, 8).expect(&rt, "no seats");
+    let (turns, mut first) = start_count(&rt);
+    let seats = split_off(rt.alloc(), &turns, &mut first, 8).expect(&rt, "no seats");
     let seats = thread::map_vec(&rt, seats, &|seat| add(&rt, &turns, seat, 1000));
     join_all(&turns, &mut first, seats.expect(&rt, "no seats"));
-    let Ok(values) = turns.close(alloc, first) else {
-        panic!(rt; "no values")
-    };
-    same(&rt, values.len(), 1);
-    same(&rt, values[0].times, 8000);
+    close_count(&rt, turns, first, 8000);
 }
 
 // A clock that stands still: it counts the sleeps and keeps how long the last was to be, in microseconds.

@@ -4,7 +4,7 @@ ghost use Rattle.std.specs.Arc.{arc_value};
 ghost use Rattle.fx_core.specs.Answer.{IsFreshFor, Joins};
 ghost use Rattle.fx_turn.specs.Seats.{all_parts};
 
-use crate::same::same;
+use crate::same::{same, surely_same};
 use fx_core::{Answer, Flight, Permit, Totals};
 use fx_directory::{DirSeat, Directory, Suits};
 use std::process::Abort;
@@ -78,7 +78,7 @@ pub(crate) fn fly<R: Abort + Wait + Clock + AllocGlobal>(
 {
     match ask(rt, doubles, seat, key) {
         Answer::Fly(mut flight) => {
-            same(rt, flight.ticket.number, number);
+            surely_same(rt, flight.ticket.number, number);
             same(rt, flight.ticket.scene, 7);
             assert!(rt; !flight.ticket.stamped);
             flight.ticket.stamped = true;

@@ -11,7 +11,6 @@ use std::alloc::Global;
 use std::process::Abort;
 use std::rt::Clock;
 use std::sync::{Arc, Wait};
-use std::test::Fail;
 use std::thread::{self, Threads};
 
 // A seat, what was noted of it, and where its random numbers are.
@@ -101,41 +100,38 @@ fn visit<R: Wait + Clock>(
     noted.asks = noted.asks.wrapping_add(1);
 }
 
-// Asks for one of six keys at random, so many times. Of what it has to make it lands three of four.
+// How often each asks, and for one of how many keys from the first on. Of what it has to make it lands all, or three of
+// four.
+#[derive(Clone, Copy)]
+struct Asking {
+    times: u32,
+    first: u32,
+    keys: u32,
+    lands_all: bool,
+}
+
+// Asks at random.
 fn ask_at_random<R: Wait + Clock>(
     rt: &R,
     alloc: Global,
     doubles: &Doubles,
     mut asker: Asker,
-    times: u32,
+    asking: Asking,
 ) -> Asker
     requires { IsIdle doubles.now asker.seat }
     ensures { IsIdle doubles.now result.seat × (result.seat.parts ≡ asker.seat.parts) }
 {
-    for _ in 0..times {
+    for _ in 0..asking.times {
         asker.random = asker
             .random
             .wrapping_mul(1_664_525)
             .wrapping_add(1_013_904_223);
-        let key = asker.random / 65_536 % 6;
-        let lands = asker.random / 16_777_216 % 4 > 0;
+        let key = asking
+            .first
+            .wrapping_add(asker.random / 65_536 % asking.keys.max(1));
+        let lands = asking.lands_all || asker.random / 16_777_216 % 4 > 0;
         visit(rt, alloc, doubles, &mut asker, key, lands);
     }
-    asker
-}
-
-// Asks for one key once.
-fn ask_once<R: Wait + Clock>(
-    rt: &R,
-    alloc: Global,
-    doubles: &Doubles,
-    mut asker: Asker,
-    key: u32,
-) -> Asker
-    requires { IsIdle doubles.now asker.seat }
-    ensures { IsIdle doubles.now result.seat × (result.seat.parts ≡ asker.seat.parts) }
-{
-    visit(rt, alloc, doubles, &mut asker, key, true);
     asker
 }
 
@@ -185,30 +181,12 @@ fn join_all(doubles: &Doubles, first: &mut DoubleSeat, mut askers: Vec<Asker>) -
     sum
 }
 
-#[test]
-fn four_threads_ask_at_random(rt: HostRuntime) -> Result<(), Fail> {
-    let alloc = rt.alloc();
-    let (doubles, mut first) = start(&rt, 3);
-    let askers = split_off(alloc, &doubles, &mut first, 4)?;
-    let askers = thread::map_vec(
-        &rt,
-        askers,
-        &|asker| { ask_at_random(&rt, alloc, &doubles, asker, 250) },
-    )?;
-    let noted = join_all(&doubles, &mut first, askers);
-    let totals = close(&rt, doubles, first);
-    same(&rt, totals.asks, 1000);
-    let evicted = totals.landed.saturating_sub(3);
-    same(&rt, totals, Totals { evicted, ..noted });
-    Ok(())
-}
-
-// Each asks for a key once, all beside each other.
-fn all_ask_once<R: Threads + Wait + Clock + Sync + Abort + AllocGlobal>(
+// Each asks, all beside each other.
+fn all_ask<R: Threads + Wait + Clock + Sync + Abort + AllocGlobal>(
     rt: &R,
     doubles: &Doubles,
     askers: Vec<Asker>,
-    key: u32,
+    asking: Asking,
 ) -> Vec<Asker>
     requires { All (λ a. IsIdle doubles.now a.seat × (a.seat.parts ≡ 1)) askers.items }
     ensures askers { All (λ a. IsIdle doubles.now a.seat × (a.seat.parts ≡ 1)) result.items }
@@ -218,29 +196,57 @@ fn all_ask_once<R: Threads + Wait + Clock + Sync + Abort + AllocGlobal>(
     thread::map_vec(
         rt,
         askers,
-        &|asker| ask_once(rt, alloc, doubles, asker, key),
+        &|asker| ask_at_random(rt, alloc, doubles, asker, asking),
     )
     .expect(rt, "the askers")
 }
+
+// One of six keys.
+const AT_RANDOM: Asking = Asking {
+    times: 250,
+    first: 0,
+    keys: 6,
+    lands_all: false,
+};
+
+#[test]
+fn four_threads_ask_at_random(rt: HostRuntime) {
+    let (doubles, mut first) = start(&rt, 3);
+    let askers = split_off(rt.alloc(), &doubles, &mut first, 4).expect(&rt, "no askers");
+    let askers = all_ask(&rt, &doubles, askers, AT_RANDOM);
+    let noted = join_all(&doubles, &mut first, askers);
+    let totals = close(&rt, doubles, first);
+    same(&rt, totals.asks, 1000);
+    let evicted = totals.landed.saturating_sub(3);
+    same(&rt, totals, Totals { evicted, ..noted });
+}
+
+// For the one key 1.
+const ONCE: Asking = Asking {
+    times: 1,
+    first: 1,
+    keys: 1,
+    lands_all: true,
+};
 
 // The first seat flies for a key while each of so many threads asks for it, and once it has landed each asks
 // again. How often each answer comes doesn't depend on who comes first.
 fn one_flight_for_all<R: Threads + Wait + Clock + Sync + Abort + AllocGlobal>(
     rt: &R,
     count: u32,
-) -> Result<Totals, Memory> {
+) -> Totals {
     let (doubles, mut first) = start(rt, 1);
-    let askers = split_off(rt.alloc(), &doubles, &mut first, count)?;
+    let askers = split_off(rt.alloc(), &doubles, &mut first, count).expect(rt, "no askers");
     let flight = fly(rt, &doubles, &mut first, 1, 0);
-    let askers = all_ask_once(rt, &doubles, askers, 1);
+    let askers = all_ask(rt, &doubles, askers, ONCE);
     land(rt, &doubles, &mut first, flight);
-    let askers = all_ask_once(rt, &doubles, askers, 1);
+    let askers = all_ask(rt, &doubles, askers, ONCE);
     join_all(&doubles, &mut first, askers);
-    Ok(close(rt, doubles, first))
+    close(rt, doubles, first)
 }
 
 #[test]
-fn two_threads_have_one_flight(rt: HostRuntime) -> Result<(), Fail> {
+fn two_threads_have_one_flight(rt: HostRuntime) {
     let by_hand = Totals {
         asks: 5,
         hits: 2,
@@ -250,12 +256,11 @@ fn two_threads_have_one_flight(rt: HostRuntime) -> Result<(), Fail> {
         dropped: 0,
         evicted: 0,
     };
-    same(&rt, one_flight_for_all(&rt, 2)?, by_hand);
-    Ok(())
+    same(&rt, one_flight_for_all(&rt, 2), by_hand);
 }
 
 #[test]
-fn eight_threads_have_one_flight(rt: HostRuntime) -> Result<(), Fail> {
+fn eight_threads_have_one_flight(rt: HostRuntime) {
     let by_hand = Totals {
         asks: 17,
         hits: 8,
@@ -265,6 +270,5 @@ fn eight_threads_have_one_flight(rt: HostRuntime) -> Result<(), Fail> {
         dropped: 0,
         evicted: 0,
     };
-    same(&rt, one_flight_for_all(&rt, 8)?, by_hand);
-    Ok(())
+    same(&rt, one_flight_for_all(&rt, 8), by_hand);
 }

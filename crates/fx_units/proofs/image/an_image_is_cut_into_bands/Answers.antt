@@ -17,7 +17,9 @@ one_written l bands i new have low same = still_bands l bands (slice_set bands i
 
 pub of_bands-requires-clause-bands : goal.of_bands-requires-clause-bands
 of_bands-requires-clause-bands g c =
-    let bands = c.in_ok-bands.bands.items in
-    let have = rw c.in_ok-image.ensures.layout at c.in_ok-bands.ensures.bands in
+    let bands = c.expect-bands.result.items in
+    let layout = rw c.expect-image.ensures at c.in_bands.ensures.layout in
+    let made = rw c.expect-bands.ensures at c.into_bands.ensures.bands in
+    let have = rw layout at made in
     let low : 1 < length bands = search rules in
     one_written _ bands 1 c.mark.new.band have low (λ d. same_layout _ _ c.mark.ensures ∙ ap layout_of (get_or_read bands 1 c.index_mut.result.now low c.index_mut.ensures.value d))
