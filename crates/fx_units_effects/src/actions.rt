@@ -1,6 +1,6 @@
 //! The five actions asked of an effect that leaves each answer to the host and of one that gives each
 //! itself, with answers worked by hand.
-ghost use Rattle.std.specs.Prelude.{◌≡◌, [], ◌∷◌, pos, false, codes, IfOk};
+ghost use Rattle.std.specs.Prelude.{◌≡◌, [], ◌∷◌, ◌++◌, pos, false, codes, IfOk};
 ghost use Rattle.std.specs.List.{AllZip};
 ghost use Rattle.fx_base.specs.Bounds.{none};
 ghost use Rattle.fx_effect.specs.Shape.{IsLawful, MayBe, optional_flags};
@@ -11,15 +11,14 @@ ghost use Rattle.fx_units_effects.specs.ActionsToys.{clear_clips, clear_shape};
 mod toys;
 
 use crate::actions::toys::{Clear, Wide};
-use crate::same::{same, same_at};
+use crate::same::{same, same_at, surely_same};
 use fx_actions::{frames_needed, identity, region_of_definition, regions_of_interest};
-use fx_base::{Fix, Memory, Name, Names, Rect};
+use fx_base::{Fix, Name, Names, Rect};
 use fx_effect::{
     Context, Flags, Identity, ImageEffect, Numbers, Values, descriptor, sequence_args, window_args,
 };
-use std::alloc::Global;
+use std::alloc::{AllocError, Global};
 use std::process::Abort;
-use std::test::Fail;
 
 const PROJECT: Rect = Rect {
     x1: 0,
@@ -65,59 +64,36 @@ const EMPTY: Rect = Rect {
 };
 
 // The values of an instance at frame 7, on a project of 8 by 6 pixels.
-fn values_of(alloc: Global, connected: &[bool]) -> Result<Values, Memory>
-    ensures { IfOk result
-        (λ v. v ≡ record {
-          frame = pos 7;
-          numbers = [];
-          connected = connected.now;
-          project = record { x1 = pos 0; y1 = pos 0; x2 = pos 8; y2 = pos 6 };
-        }) }
+fn values_of(rt: &(impl Abort + AllocGlobal), connected: &[bool]) -> Values
+    ensures { result ≡ record {
+      frame = pos 7;
+      numbers = [];
+      connected = connected.now;
+      project = record { x1 = pos 0; y1 = pos 0; x2 = pos 8; y2 = pos 6 };
+    } }
 {
-    Ok(Values {
+    let connected = connected.to_vec(rt.alloc()).expect(rt, "no flags");
+    Values {
         frame: 7,
-        numbers: Numbers::of(Vec::new(alloc)),
-        connected: Flags::of(connected.to_vec(alloc)?),
+        numbers: Numbers::of(Vec::new(rt.alloc())),
+        connected: Flags::of(connected),
         project: PROJECT,
-    })
+    }
 }
 
-fn flags_of(alloc: Global, optional: bool, context: Context) -> Result<Flags, Memory>
+fn flags_of(alloc: Global, optional: bool, context: Context) -> Result<Flags, AllocError>
     ensures { IfOk result (λ flags. flags ≡ optional_flags (clear_shape optional) context) }
 {
     let flags = match context {
         Context::Generator => Vec::new(alloc),
-        Context::Filter => vec![in alloc; false]?,
-        Context::Transition => vec![in alloc; false, false]?,
-        Context::General => vec![in alloc; optional, optional, true]?,
+        Context::Filter => [false].to_vec(alloc)?,
+        Context::Transition => [false, false].to_vec(alloc)?,
+        Context::General => [optional, optional, true].to_vec(alloc)?,
     };
     Ok(Flags::of(flags))
 }
 
-// The default region of definition.
-fn default_region(
-    alloc: Global,
-    optional: bool,
-    context: Context,
-    connected: &[bool],
-    regions: &[Rect],
-) -> Result<Rect, Memory>
-    requires connected { AllZip MayBe (clear_clips optional context) connected.now }
-    requires regions { AllZip (λ flag r. IsWindow r × (flag ≡ false → r ≡ none)) connected.now regions.now }
-{
-    let values = values_of(alloc, connected)?;
-    let flags = flags_of(alloc, optional, context)?;
-    region_of_definition(
-        alloc,
-        &Clear { optional },
-        context,
-        &flags,
-        &values,
-        regions,
-    )
-}
-
-// Compares it with the region that was worked by hand.
+// The default region of definition is the one that was worked by hand.
 fn defaults_to(
     rt: &(impl Abort + AllocGlobal),
     optional: bool,
@@ -129,7 +105,10 @@ fn defaults_to(
     requires connected { AllZip MayBe (clear_clips optional context) connected.now }
     requires regions { AllZip (λ flag r. IsWindow r × (flag ≡ false → r ≡ none)) connected.now regions.now }
 {
-    let found = default_region(rt.alloc(), optional, context, connected, regions);
+    let effect = Clear { optional };
+    let flags = flags_of(rt.alloc(), optional, context).expect(rt, "no flags");
+    let values = values_of(rt, connected);
+    let found = region_of_definition(rt.alloc(), &effect, context, &flags, &values, regions);
     same(rt, found.ok(), Some(wanted));
 }
 
@@ -168,20 +147,30 @@ fn a_general_effect_of_optional_clips_has_the_project(rt: HostRuntime) {
     defaults_to(&rt, true, Context::General, some, regions, PROJECT);
 }
 
-// The names of these clips.
-fn source(alloc: Global) -> Result<Names, Memory>
-    ensures { IfOk result (λ names. names ≡ codes "Source" ∷ []) }
+// Adds the name of a text to these.
+fn push_name(rt: &(impl Abort + AllocGlobal), names: &mut Vec<Name>, text: &str)
+    ensures { names.new.items ≡ names.old.items ++ text.now ∷ [] }
 {
-    let name = Name::of(String::from_str(alloc, "Source")?);
-    Ok(Names::of(vec![in alloc; name]?))
+    let name = Name::of(String::from_str(rt.alloc(), text).expect(rt, "no name"));
+    names.push(name).expect(rt, "no name");
 }
 
-fn two_clips(alloc: Global) -> Result<Names, Memory>
-    ensures { IfOk result (λ names. names ≡ codes "A" ∷ codes "B" ∷ []) }
+// The names of the clips.
+fn source(rt: &(impl Abort + AllocGlobal)) -> Names
+    ensures { result ≡ codes "Source" ∷ [] }
 {
-    let a = Name::of(String::from_str(alloc, "A")?);
-    let b = Name::of(String::from_str(alloc, "B")?);
-    Ok(Names::of(vec![in alloc; a, b]?))
+    let mut names = Vec::new(rt.alloc());
+    push_name(rt, &mut names, "Source");
+    Names::of(names)
+}
+
+fn two_clips(rt: &(impl Abort + AllocGlobal)) -> Names
+    ensures { result ≡ codes "A" ∷ codes "B" ∷ [] }
+{
+    let mut names = Vec::new(rt.alloc());
+    push_name(rt, &mut names, "A");
+    push_name(rt, &mut names, "B");
+    Names::of(names)
 }
 
 const WINDOW: Rect = Rect {
@@ -191,112 +180,83 @@ const WINDOW: Rect = Rect {
     y2: 4,
 };
 
-// Which clip and frame the effect is the same as over the window.
+// The effect is the same as this clip and frame over the window.
 fn same_over_window<E: ImageEffect>(
-    alloc: Global,
+    rt: &(impl Abort + AllocGlobal),
     effect: &E,
     values: &Values,
-) -> Result<Identity, Memory>
+    wanted: Identity,
+)
     requires lawful { IsLawful (E.meaning effect.now).shape values.now }
     requires frame { IsFrame values.now.frame }
 {
-    let args = window_args(alloc, values.frame, WINDOW)?;
-    Ok(identity(effect, values, &args))
+    let args = window_args(rt.alloc(), values.frame, WINDOW).expect(rt, "no arguments");
+    same(rt, identity(effect, values, &args), wanted);
 }
 
 const CLEAR: Clear = Clear { optional: false };
 
-// What an effect that leaves its answers to the host needs of its clip over the window.
-fn left_regions(alloc: Global) -> Result<Vec<Rect>, Memory> {
-    let values = values_of(alloc, &[true])?;
-    regions_of_interest(alloc, &CLEAR, &source(alloc)?, &values, WINDOW)
-}
-
-fn left_frames(alloc: Global) -> Result<Vec<Vec<(i64, i64)>>, Memory> {
-    let values = values_of(alloc, &[true])?;
-    frames_needed(alloc, &CLEAR, &source(alloc)?, &values)
-}
-
 #[test]
-fn answers_that_are_left_are_the_defaults(rt: HostRuntime) -> Result<(), Fail> {
+fn answers_that_are_left_are_the_defaults(rt: HostRuntime) {
     let alloc = rt.alloc();
-    same(&rt, left_regions(alloc)?.as_slice(), [WINDOW].as_slice());
-    let frames = left_frames(alloc)?;
-    same(&rt, frames.len(), 1);
+    let (names, values) = (source(&rt), values_of(&rt, &[true]));
+    let regions = regions_of_interest(alloc, &CLEAR, &names, &values, WINDOW);
+    let regions = regions.expect(&rt, "no regions");
+    same(&rt, regions.as_slice(), [WINDOW].as_slice());
+    let frames = frames_needed(alloc, &CLEAR, &names, &values).expect(&rt, "no frames");
+    surely_same(&rt, frames.len(), 1);
     same(&rt, frames[0].as_slice(), [(7, 7)].as_slice());
-    Ok(())
 }
 
 #[test]
-fn an_identity_that_is_left_is_none(rt: HostRuntime) -> Result<(), Fail> {
-    let values = values_of(rt.alloc(), &[true])?;
-    let found = same_over_window(rt.alloc(), &CLEAR, &values);
-    same(&rt, found.ok(), Some(Identity::No));
-    Ok(())
-}
-
-// What an effect that gives each answer itself needs of its two clips over the window.
-fn given_regions(alloc: Global) -> Result<Vec<Rect>, Memory> {
-    let values = values_of(alloc, &[true, true])?;
-    regions_of_interest(alloc, &Wide, &two_clips(alloc)?, &values, WINDOW)
-}
-
-fn given_frames(alloc: Global) -> Result<Vec<Vec<(i64, i64)>>, Memory> {
-    let values = values_of(alloc, &[true, true])?;
-    frames_needed(alloc, &Wide, &two_clips(alloc)?, &values)
-}
-
-fn given_region(alloc: Global) -> Result<Rect, Memory> {
-    let values = values_of(alloc, &[true, true])?;
-    let flags = Flags::of(vec![in alloc; false, false]?);
-    let inputs = [LEFT, RIGHT];
-    region_of_definition(alloc, &Wide, Context::General, &flags, &values, &inputs)
+fn an_identity_that_is_left_is_none(rt: HostRuntime) {
+    let values = values_of(&rt, &[true]);
+    same_over_window(&rt, &CLEAR, &values, Identity::No);
 }
 
 #[test]
-fn regions_that_are_given_are_read(rt: HostRuntime) -> Result<(), Fail> {
+fn regions_that_are_given_are_read(rt: HostRuntime) {
     let alloc = rt.alloc();
-    same(&rt, given_region(alloc)?, Rect::of(0, 0, 10, 6));
+    let values = values_of(&rt, &[true, true]);
+    let flags = Flags::of([false, false].to_vec(alloc).expect(&rt, "no flags"));
+    let inputs = [LEFT, RIGHT];
+    let region = region_of_definition(alloc, &Wide, Context::General, &flags, &values, &inputs);
+    same(&rt, region.ok(), Some(Rect::of(0, 0, 10, 6)));
+    let regions = regions_of_interest(alloc, &Wide, &two_clips(&rt), &values, WINDOW);
+    let regions = regions.expect(&rt, "no regions");
     let wider = Rect::of(0, -1, 7, 6);
-    same(
-        &rt,
-        given_regions(alloc)?.as_slice(),
-        [wider, wider].as_slice(),
-    );
-    Ok(())
+    same(&rt, regions.as_slice(), [wider, wider].as_slice());
 }
 
 #[test]
-fn frames_that_are_given_are_read(rt: HostRuntime) -> Result<(), Fail> {
-    let frames = given_frames(rt.alloc())?;
+fn frames_that_are_given_are_read(rt: HostRuntime) {
+    let values = values_of(&rt, &[true, true]);
+    let frames = frames_needed(rt.alloc(), &Wide, &two_clips(&rt), &values);
+    let frames = frames.expect(&rt, "no frames");
     same(&rt, frames.len(), 2);
     for spans in &frames {
         same(&rt, spans.as_slice(), [(6, 8)].as_slice());
     }
-    Ok(())
 }
 
 #[test]
-fn an_identity_that_is_given_is_read(rt: HostRuntime) -> Result<(), Fail> {
-    let values = values_of(rt.alloc(), &[true, true])?;
-    let found = same_over_window(rt.alloc(), &Wide, &values);
-    same(&rt, found.ok(), Some(Identity::Same { clip: 0, frame: 7 }));
-    Ok(())
+fn an_identity_that_is_given_is_read(rt: HostRuntime) {
+    let values = values_of(&rt, &[true, true]);
+    same_over_window(&rt, &Wide, &values, Identity::Same { clip: 0, frame: 7 });
 }
 
 // The bounds of the window, by their indices.
 const BOUNDS: &[(u32, i64)] = &[(0, -2), (1, 1), (2, 30), (3, 4)];
 
 #[test]
-fn a_window_has_its_names(rt: HostRuntime) -> Result<(), Fail> {
-    let window = window_args(rt.alloc(), -3, Rect::of(-2, 1, 30, 4))?;
+fn a_window_has_its_names(rt: HostRuntime) {
+    let window = window_args(rt.alloc(), -3, Rect::of(-2, 1, 30, 4)).expect(&rt, "no arguments");
     let time = window.get_fix("OfxPropTime", 0);
     same(&rt, time, Ok(Fix { raw: -196608 }));
     for &(index, bound) in BOUNDS {
         let found = window.get_int("OfxImageEffectPropRenderWindow", index);
         same_at(&rt, &index, found, Ok(bound));
     }
-    Ok(())
 }
 
 // The first and the last frame and the step of the frames 3 to 9.
@@ -307,12 +267,11 @@ const SEQUENCE: &[(&str, u32, i64)] = &[
 ];
 
 #[test]
-fn a_sequence_has_its_names(rt: HostRuntime) -> Result<(), Fail> {
-    let sequence = sequence_args(rt.alloc(), 3, 9)?;
+fn a_sequence_has_its_names(rt: HostRuntime) {
+    let sequence = sequence_args(rt.alloc(), 3, 9).expect(&rt, "no arguments");
     for &(name, index, raw) in SEQUENCE {
         same_at(&rt, &name, sequence.get_fix(name, index), Ok(Fix { raw }));
     }
-    Ok(())
 }
 
 const DESCRIBED: &[&str] = &[
@@ -325,10 +284,9 @@ const DESCRIBED: &[&str] = &[
 ];
 
 #[test]
-fn a_descriptor_has_its_names(rt: HostRuntime) -> Result<(), Fail> {
-    let described = descriptor(rt.alloc())?;
+fn a_descriptor_has_its_names(rt: HostRuntime) {
+    let described = descriptor(rt.alloc()).expect(&rt, "no descriptor");
     for name in DESCRIBED {
         same_at(&rt, name, described.dimension(name), Ok(0));
     }
-    Ok(())
 }

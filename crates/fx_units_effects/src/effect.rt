@@ -6,7 +6,7 @@ ghost use Rattle.fx_pixel.specs.declared.Depth.TheVariants.{Byte};
 ghost use Rattle.fx_effect.specs.Placed.{IsPiece};
 
 use crate::same::{same, same_at};
-use fx_base::{Memory, Rect};
+use fx_base::Rect;
 use fx_effect::{
     Context, Description, Flags, Inputs, Numbers, Piece, Safety, Step, Steps, Values, clip_set,
     descriptor,
@@ -17,7 +17,6 @@ use fx_props::PropSet;
 use std::alloc::Global;
 use std::process::Abort;
 use std::sync::Arc;
-use std::test::Fail;
 
 const GREY: Pixel = Pixel::Rgba {
     r: 32768,
@@ -48,38 +47,37 @@ const CLEAR: Pixel = Pixel::Rgba {
 };
 
 #[test]
-fn numbers_are_given_back(rt: HostRuntime) -> Result<(), Fail> {
-    let numbers = Numbers::of([-1, 2].to_vec(rt.alloc())?);
+fn numbers_are_given_back(rt: HostRuntime) {
+    let numbers = Numbers::of([-1, 2].to_vec(rt.alloc()).expect(&rt, "no numbers"));
     same(&rt, numbers.items(), [-1, 2].as_slice());
     same(&rt, numbers.into_items().as_slice(), [-1, 2].as_slice());
-    Ok(())
 }
 
 #[test]
-fn flags_are_given_back(rt: HostRuntime) -> Result<(), Fail> {
-    let flags = Flags::of([true, false].to_vec(rt.alloc())?);
+fn flags_are_given_back(rt: HostRuntime) {
+    let flags = Flags::of([true, false].to_vec(rt.alloc()).expect(&rt, "no flags"));
     same(&rt, flags.items(), [true, false].as_slice());
     same(&rt, flags.into_items().as_slice(), [true, false].as_slice());
-    Ok(())
 }
 
 // Values at frame 3 of the numbers 7 and -8.
-fn values_of(alloc: Global, connected: bool) -> Result<Values, Memory> {
-    Ok(Values {
+fn values_of(rt: &(impl Abort + AllocGlobal), connected: bool) -> Values {
+    let numbers = [7, -8].to_vec(rt.alloc()).expect(rt, "no numbers");
+    let connected = [connected].to_vec(rt.alloc()).expect(rt, "no flags");
+    Values {
         frame: 3,
-        numbers: Numbers::of([7, -8].to_vec(alloc)?),
-        connected: Flags::of([connected].to_vec(alloc)?),
+        numbers: Numbers::of(numbers),
+        connected: Flags::of(connected),
         project: Rect::of(0, 0, 2, 1),
-    })
+    }
 }
 
 #[test]
-fn values_differ_by_their_flags(rt: HostRuntime) -> Result<(), Fail> {
-    let values = values_of(rt.alloc(), true)?;
+fn values_differ_by_their_flags(rt: HostRuntime) {
+    let values = values_of(&rt, true);
     same(&rt, (values.number(1), values.number(2)), (-8, 0));
-    let others = values_of(rt.alloc(), false)?;
+    let others = values_of(&rt, false);
     assert!(rt; values == values && values != others);
-    Ok(())
 }
 
 // To bytes as Alpha.
@@ -98,13 +96,12 @@ const REPEATED: Pixel = Pixel::Rgba {
 
 // And back to short samples as RGBA.
 #[test]
-fn steps_are_taken_and_given_back(rt: HostRuntime) -> Result<(), Fail> {
-    let steps = Steps::of([STEP].to_vec(rt.alloc())?);
+fn steps_are_taken_and_given_back(rt: HostRuntime) {
+    let steps = Steps::of([STEP].to_vec(rt.alloc()).expect(&rt, "no steps"));
     same(&rt, steps.items(), [STEP].as_slice());
     let back = steps.convert(GREY, Depth::Short, Depth::Short, Components::Rgba);
     same(&rt, back, REPEATED);
     same(&rt, steps.into_items().as_slice(), [STEP].as_slice());
-    Ok(())
 }
 
 // An image of two pixels, one of them this one.
@@ -243,9 +240,11 @@ fn text_in<'a>(set: &'a PropSet, name: &str, index: u32) -> &'a str {
 }
 
 #[test]
-fn a_filter_describes_itself(rt: HostRuntime) -> Result<(), Fail> {
-    let mut set = descriptor(rt.alloc())?;
-    INVERT.write(rt.alloc(), &mut set)?;
+fn a_filter_describes_itself(rt: HostRuntime) {
+    let mut set = descriptor(rt.alloc()).expect(&rt, "no descriptor");
+    INVERT
+        .write(rt.alloc(), &mut set)
+        .expect(&rt, "no description");
     for &(name, index, text) in TEXTS {
         same_at(&rt, &name, text_in(&set, name, index), text);
     }
@@ -253,15 +252,13 @@ fn a_filter_describes_itself(rt: HostRuntime) -> Result<(), Fail> {
     same(&rt, temporal, Ok(0));
     let tiles = set.get_int("OfxImageEffectPropSupportsTiles", 0);
     same(&rt, tiles, Ok(1));
-    Ok(())
 }
 
 #[test]
-fn a_clip_is_described(rt: HostRuntime) -> Result<(), Fail> {
-    let clip = clip_set(rt.alloc(), "Mask", true, &[Components::Alpha])?;
+fn a_clip_is_described(rt: HostRuntime) {
+    let clip = clip_set(rt.alloc(), "Mask", true, &[Components::Alpha]).expect(&rt, "no clip");
     same(&rt, text_in(&clip, "OfxPropName", 0), "Mask");
     same(&rt, clip.get_int("OfxImageClipPropOptional", 0), Ok(1));
     let components = text_in(&clip, "OfxImageEffectPropSupportedComponents", 0);
     same(&rt, components, "OfxImageComponentAlpha");
-    Ok(())
 }

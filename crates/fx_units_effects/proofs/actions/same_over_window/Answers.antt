@@ -10,5 +10,5 @@ identity-requires-clause-window g c =
         bounds = inr (omega (arith, ints), omega (arith, ints));
         near = record { left = omega (arith, ints); right = omega (arith, ints); bottom = omega (arith, ints); top = omega (arith, ints) };
       };
-      there = c.in_ok-args.ensures.window;
+      there = rw c.expect-args.ensures at c.window_args.ensures.window;
     }

@@ -20,4 +20,4 @@ inverts =
     }
 
 pub write-requires : goal.write-requires
-write-requires g c = c.in_ok-set.ensures inverts
+write-requires g c = rw c.expect-set.ensures at (c.descriptor.ensures inverts)
