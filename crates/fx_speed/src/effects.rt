@@ -9,10 +9,10 @@ ghost use Rattle.fx_effect.specs.Shape.{InRange, IsLawful, MayBe, shown_componen
 ghost use Rattle.fx_effect.specs.Placed.{IsPiece};
 ghost use Rattle.fx_shipped.specs.Shipped.{meaning_of};
 
-use crate::noise::{COLUMNS, ROWS, noise};
+use crate::noise::{COLUMNS, ROWS, depth_of, noise};
 use crate::paint::{Copier, NOW, Painter, paint_frames};
-use crate::reduced::Reducing;
-use crate::rows::Strips;
+use crate::reduced;
+use crate::rows::{self, one_clip};
 use fx_base::{Memory, Rect};
 use fx_effect::{Catalogue, Context, Flags, ImageEffect, Inputs, Numbers, Piece, Steps, Values};
 use fx_image::Image;
@@ -30,15 +30,13 @@ const MOST_IMAGES: usize = 4;
 /// `frameblend:byte:whole:1:1:1`. Behind `row:` rows are read, and behind `reduce:` a frame is reduced. None where it is
 /// another word.
 pub(crate) fn render(alloc: Global, word: &str, count: u32) -> Result<Option<u64>, Memory> {
-    if let Some(task) = Task::read(word) {
-        return task.done(alloc, count);
-    }
-    if let Some(reducing) = word.strip_prefix("reduce:").and_then(Reducing::read) {
-        return Ok(Some(reducing.done(alloc, count)?));
-    }
-    match word.strip_prefix("row:").and_then(Strips::read) {
-        Some(strips) => Ok(Some(strips.done(alloc, count)?)),
-        None => Ok(None),
+    match word.split_once(':') {
+        Some(("reduce", word)) => reduced::done(alloc, word, count),
+        Some(("row", word)) => rows::done(alloc, word, count),
+        _ => match Task::read(word) {
+            Some(task) => task.done(alloc, count),
+            None => Ok(None),
+        },
     }
 }
 
@@ -60,11 +58,7 @@ impl<'a> Task<'a> {
             "copy" => None,
             name => Some(Shipped::named(name)?),
         };
-        let depth = match parts.next()? {
-            "byte" => Depth::Byte,
-            "short" => Depth::Short,
-            _ => return None,
-        };
+        let depth = depth_of(parts.next()?)?;
         let tiled = match parts.next()? {
             "whole" => false,
             "tiles" => true,
@@ -75,8 +69,8 @@ impl<'a> Task<'a> {
             depth,
             tiled,
             numbers: parts.next().unwrap_or(""),
-            before: parts.next().unwrap_or("0").parse::<u8>().ok()?,
-            behind: parts.next().unwrap_or("0").parse::<u8>().ok()?,
+            before: frames_of(parts.next())?,
+            behind: frames_of(parts.next())?,
         })
     }
 
@@ -88,32 +82,44 @@ impl<'a> Task<'a> {
     }
 
     fn by_copying(&self, alloc: Global, count: u32) -> Result<u64, Memory> {
-        let depth = self.depth;
-        let image = noise(alloc, depth, 1)?;
-        let inputs = one_clip(alloc, depth, &image)?;
+        let image = noise(alloc, self.depth, 1)?;
+        let mut inputs = one_clip(alloc, self.depth)?;
+        inputs.push(alloc, 0, i64::from(NOW), whole(alloc, &image))?;
         let copier = Copier { inputs: &inputs };
-        paint_frames(alloc, &copier, depth, self.tiled, count)
+        paint_frames(alloc, &copier, self.depth, self.tiled, count)
     }
 
     // None where the effect refuses the numbers or the depth.
     fn by_effect(&self, alloc: Global, effect: Shipped, count: u32) -> Result<Option<u64>, Memory> {
-        let depth = self.depth;
-        if !has_depth(effect, depth) {
+        if !has_depth(effect, self.depth) {
             return Ok(None);
         }
-        let (shown, connected) = clips_of(alloc, effect)?;
-        let Some(values) = values_of(alloc, effect, connected, self.numbers)? else {
-            return Ok(None);
-        };
+        match values_of(alloc, effect, self.numbers)? {
+            Some(values) => Ok(Some(self.painted(alloc, effect, &values, count)?)),
+            None => Ok(None),
+        }
+    }
+
+    fn painted(
+        &self,
+        alloc: Global,
+        effect: Shipped,
+        values: &Values,
+        count: u32,
+    ) -> Result<u64, Memory>
+        requires depth { IsTrue (supports (meaning_of effect).shape self.now.depth RgbaSamples) }
+        requires frame { IsFrame values.now.frame }
+        requires lawful { IsLawful (meaning_of effect).shape values.now }
+    {
+        let (shown, _) = clips_of(effect);
         let images = self.images(alloc, shown.len())?;
         let inputs = self.inputs(alloc, shown, &images)?;
         let painter = Painter {
             effect,
-            values: &values,
+            values,
             inputs: &inputs,
         };
-        let sum = paint_frames(alloc, &painter, depth, self.tiled, count)?;
-        Ok(Some(sum))
+        paint_frames(alloc, &painter, self.depth, self.tiled, count)
     }
 
     // How many frames each clip has.
@@ -128,7 +134,8 @@ impl<'a> Task<'a> {
         let mut images = Vec::new(alloc);
         let count = clips.saturating_mul(self.frames()).min(MOST_IMAGES);
         for number in 0..count as u32 {
-            images.push(noise(alloc, self.depth, number)?)?;
+            let image = noise(alloc, self.depth, number)?;
+            images.push(image)?;
         }
         Ok(images)
     }
@@ -137,15 +144,15 @@ impl<'a> Task<'a> {
     fn inputs<'i>(
         &self,
         alloc: Global,
-        shown: Vec<Components>,
+        shown: &[Components],
         images: &'i [Image],
     ) -> Result<Inputs<'i>, Memory>
-        requires { length shown.items ≤ 3 }
+        requires { length shown.now ≤ 3 }
         ensures depth { IfOk result (λ inputs. inputs.depth ≡ self.now.depth) }
-        ensures components { IfOk result (λ inputs. inputs.components ≡ shown.items) }
+        ensures components { IfOk result (λ inputs. inputs.components ≡ shown.now) }
     {
         let clips = shown.len() as u32;
-        let mut inputs = Inputs::new(alloc, self.depth, shown)?;
+        let mut inputs = Inputs::new(alloc, self.depth, shown.to_vec(alloc)?)?;
         for clip in 0..clips {
             self.show(alloc, clip, images, &mut inputs)?;
         }
@@ -169,29 +176,27 @@ impl<'a> Task<'a> {
         let first = i64::from(NOW) - i64::from(self.before);
         for k in 0..self.frames() {
             let image = &images[(clip as usize + k) % images.len()];
-            inputs.push(alloc, clip, first + k as i64, whole(alloc, image)?)?;
+            inputs.push(alloc, clip, first + k as i64, whole(alloc, image))?;
         }
         Ok(())
     }
 }
 
-// One clip, which shows the image at the frame that is painted.
-fn one_clip(alloc: Global, depth: Depth, image: &Image) -> Result<Inputs<'_>, Memory>
-    ensures depth { IfOk result (λ inputs. inputs.depth ≡ depth) }
-    ensures components { IfOk result (λ inputs. inputs.components ≡ RgbaSamples ∷ []) }
-{
-    let mut inputs = Inputs::new(alloc, depth, vec![in alloc; Components::Rgba]?)?;
-    inputs.push(alloc, 0, i64::from(NOW), whole(alloc, image)?)?;
-    Ok(inputs)
+// How many frames a part of a word says, and none where there is no such part.
+fn frames_of(part: Option<&str>) -> Option<u8> {
+    match part {
+        Some(text) => text.parse::<u8>().ok(),
+        None => Some(0),
+    }
 }
 
 // A piece that lends the whole of an image.
-fn whole(alloc: Global, image: &Image) -> Result<Piece<'_>, Memory>
-    ensures { IfOk result IsPiece }
+fn whole(alloc: Global, image: &Image) -> Piece<'_>
+    ensures { IsPiece result }
 {
     let through = Steps::of(Vec::new(alloc));
     let view = image.view(image.rect());
-    Ok(Piece::Frame { view, through })
+    Piece::Frame { view, through }
 }
 
 // ---- what an effect is asked with
@@ -217,41 +222,31 @@ fn context_of(effect: Shipped) -> Context
 }
 
 // In which components each input clip is shown, and that each is connected.
-fn clips_of(alloc: Global, effect: Shipped) -> Result<(Vec<Components>, Vec<bool>), Memory>
-    ensures few { IfOk result (λ clips. length clips.0.items ≤ 3) }
-    ensures shown { (c : Contexts) → let s = (meaning_of effect).shape in
-        IfOk result (λ clips. clips.0.items ≡ shown_components s c RgbaSamples) }
-    ensures connected { (c : Contexts) → let s = (meaning_of effect).shape in
-        IfOk result (λ clips. AllZip MayBe (s.clips c) clips.1.items) }
+fn clips_of(effect: Shipped) -> (&'static [Components], &'static [bool])
+    ensures few { length result.0.now ≤ 3 }
+    ensures shown { (c : Contexts) → result.0.now ≡ shown_components (meaning_of effect).shape c RgbaSamples }
+    ensures connected { (c : Contexts) → AllZip MayBe ((meaning_of effect).shape.clips c) result.1.now }
 {
-    let rgba = Components::Rgba;
-    let clips = match effect {
-        Shipped::Solid | Shipped::Checker | Shipped::Ramp | Shipped::Grain => {
-            (vec![in alloc;]?, vec![in alloc;]?)
-        }
-        Shipped::Dissolve | Shipped::Wipe | Shipped::Merge => {
-            (vec![in alloc; rgba, rgba]?, vec![in alloc; true, true]?)
-        }
-        Shipped::Keymix => (
-            vec![in alloc; rgba, rgba, Components::Alpha]?,
-            vec![in alloc; true, true, true]?,
+    match effect {
+        Shipped::Solid | Shipped::Checker | Shipped::Ramp | Shipped::Grain => (&[], &[]),
+        Shipped::Dissolve | Shipped::Wipe | Shipped::Merge => (
+            &[Components::Rgba, Components::Rgba],
+            &[true, true],
         ),
-        _ => (vec![in alloc; rgba]?, vec![in alloc; true]?),
-    };
-    Ok(clips)
+        Shipped::Keymix => (
+            &[Components::Rgba, Components::Rgba, Components::Alpha],
+            &[true, true, true],
+        ),
+        _ => (&[Components::Rgba], &[true]),
+    }
 }
 
 // The values that the effect is asked with. None where it refuses the numbers.
-fn values_of(
-    alloc: Global,
-    effect: Shipped,
-    connected: Vec<bool>,
-    text: &str,
-) -> Result<Option<Values>, Memory>
-    requires { (c : Contexts) → AllZip MayBe ((meaning_of effect).shape.clips c) connected.items }
+fn values_of(alloc: Global, effect: Shipped, text: &str) -> Result<Option<Values>, Memory>
     ensures frame { IfOk result (λ found. IfSome found (λ values. IsFrame values.frame)) }
     ensures lawful { IfOk result (λ found. IfSome found (IsLawful (meaning_of effect).shape)) }
 {
+    let (_, connected) = clips_of(effect);
     let defs = defs_of(alloc, effect, context_of(effect))?;
     let Some(numbers) = numbers_of(alloc, &defs, text)? else {
         return Ok(None);
@@ -259,7 +254,7 @@ fn values_of(
     Ok(Some(Values {
         frame: i64::from(NOW),
         numbers: Numbers::of(numbers),
-        connected: Flags::of(connected),
+        connected: Flags::of(connected.to_vec(alloc)?),
         project: Rect::of(0, 0, COLUMNS, ROWS),
     }))
 }

@@ -1,5 +1,5 @@
 //! Asks of kept keys.
-ghost use Rattle.std.specs.Prelude.{◌≡◌, [], ◌∷◌, IsTrue};
+ghost use Rattle.std.specs.Prelude.{◌≡◌, [], ◌∷◌};
 ghost use Rattle.std.specs.Arc.{arc_value};
 
 use fx_base::Memory;
@@ -19,77 +19,41 @@ type Numbers = Core<u32, u32>;
 pub(crate) fn ask_kept(alloc: Global, asks: u32) -> Result<u64, Memory> {
     let mut core = match Numbers::new(alloc, Permit::new(1), KEPT) {
         Ok(core) => core,
-        Err((permit, memory)) => {
-            let Permit { scene: _ } = permit;
-            return Err(memory);
-        }
+        Err((_, memory)) => return Err(memory),
     };
-    let asked = keep_and_ask(alloc, &mut core, asks);
-    let (permit, totals) = core.finish();
-    let Permit { scene: _ } = permit;
+    let asked = fill_and_ask(alloc, &mut core, asks);
+    let (_permit, totals) = core.finish();
     asked?;
     Ok(totals.hits)
 }
 
-fn keep_and_ask(alloc: Global, core: &mut Numbers, asks: u32) -> Result<(), Memory>
+fn fill_and_ask(alloc: Global, core: &mut Numbers, asks: u32) -> Result<(), Memory>
     requires { core.old.flying ≡ [] }
     ensures { core.new.flying ≡ [] }
 {
-    let keys = keep_all(alloc, core)?;
+    let keys = keys(alloc)?;
+    fill(alloc, core, &keys)?;
     ask_all(alloc, core, &keys, asks)
 }
 
-// Makes 4,096 numbers and lands them. Their keys.
-fn keep_all(alloc: Global, core: &mut Numbers) -> Result<Vec<Arc<u32>>, Memory>
-    requires { core.old.flying ≡ [] }
-    ensures { core.new.flying ≡ [] }
-{
+/// The keys of the kept numbers.
+pub(crate) fn keys(alloc: Global) -> Result<Vec<Arc<u32>>, Memory> {
     let mut keys = Vec::new(alloc);
     for number in 0..KEPT {
-        keep(alloc, core, number)?;
         keys.push(Arc::new(alloc, number)?)?;
     }
     Ok(keys)
 }
 
-// Makes a number and lands it.
-fn keep(alloc: Global, core: &mut Numbers, number: u32) -> Result<(), Memory>
+// Asks for each of the keys, which is then kept.
+fn fill(alloc: Global, core: &mut Numbers, keys: &[Arc<u32>]) -> Result<(), Memory>
     requires { core.old.flying ≡ [] }
     ensures { core.new.flying ≡ [] }
 {
-    if core.totals().asks >= MOST_ASKS {
-        return Ok(());
+    for key in keys {
+        ask(alloc, core, key)?;
     }
-    let key = Arc::new(alloc, number)?;
-    let value = Arc::new(alloc, number)?;
-    match core.ask(alloc, key)? {
-        Answer::Here(_) => Ok(()),
-        Answer::Busy => Ok(()),
-        Answer::Fly(mut flight) => {
-            flight.ticket.stamped = true;
-            land(alloc, core, flight, value)
-        }
-    }
-}
-
-// Lands the one flight, or drops it where memory is wanting.
-fn land(
-    alloc: Global,
-    core: &mut Numbers,
-    flight: Flight<u32>,
-    value: Arc<u32>,
-) -> Result<(), Memory>
-    requires one { core.old.flying ≡ (flight.ticket.number, arc_value flight.key) ∷ [] }
-    requires stamped { IsTrue flight.ticket.stamped }
-    ensures { core.new.flying ≡ [] }
-{
-    match core.land(alloc, flight, value) {
-        Ok(()) => Ok(()),
-        Err((flight, _, memory)) => {
-            core.drop_flight(flight);
-            Err(memory)
-        }
-    }
+    Ok(())
 }
 
 // Asks for so many of the keys, in no order.
@@ -107,6 +71,7 @@ fn ask_all(alloc: Global, core: &mut Numbers, keys: &[Arc<u32>], asks: u32) -> R
     Ok(())
 }
 
+// Asks for a key, and lands it where it isn't kept.
 fn ask(alloc: Global, core: &mut Numbers, key: &Arc<u32>) -> Result<(), Memory>
     requires { core.old.flying ≡ [] }
     ensures { core.new.flying ≡ [] }
@@ -114,13 +79,34 @@ fn ask(alloc: Global, core: &mut Numbers, key: &Arc<u32>) -> Result<(), Memory>
     if core.totals().asks >= MOST_ASKS {
         return Ok(());
     }
-    let key = Arc::try_clone(key)?;
-    match core.ask(alloc, key)? {
-        Answer::Here(_) => {}
-        Answer::Busy => {}
-        Answer::Fly(flight) => core.drop_flight(flight),
+    match core.ask(alloc, Arc::try_clone(key)?)? {
+        Answer::Fly(flight) => land(alloc, core, flight, **key),
+        Answer::Here(_) | Answer::Busy => Ok(()),
     }
-    Ok(())
+}
+
+// Lands the one flight with this number, or drops it where memory is wanting.
+fn land(
+    alloc: Global,
+    core: &mut Numbers,
+    mut flight: Flight<u32>,
+    number: u32,
+) -> Result<(), Memory>
+    requires { core.old.flying ≡ (flight.ticket.number, arc_value flight.key) ∷ [] }
+    ensures { core.new.flying ≡ [] }
+{
+    let Ok(value) = Arc::new(alloc, number) else {
+        core.drop_flight(flight);
+        return Err(Memory);
+    };
+    flight.ticket.stamped = true;
+    match core.land(alloc, flight, value) {
+        Ok(()) => Ok(()),
+        Err((flight, _, memory)) => {
+            core.drop_flight(flight);
+            Err(memory)
+        }
+    }
 }
 
 // The number behind this one, in the row of a linear congruence.

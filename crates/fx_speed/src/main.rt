@@ -24,10 +24,17 @@ mod rows;
 mod shared;
 mod turns;
 
-use fx_pixel::Format;
-use pam::{Kind, Work};
+use fx_base::Memory;
+use std::alloc::Global;
 use std::env;
+use std::io::Print;
 use std::process::ExitCode;
+use std::rt::Clock;
+use std::sync::Wait;
+use std::thread::Threads;
+
+// The exit status where all is done.
+const DONE: u8 = 0;
 
 // The exit status at words of another form.
 const USAGE: u8 = 1;
@@ -41,61 +48,61 @@ fn main(rt: HostRuntime) -> ExitCode {
     };
     let mut words = words.skip(1);
     while let Some(what) = words.next() {
-        let count = match words.next() {
-            Some(count) => count.parse::<u32>(),
-            None => return ExitCode::from(USAGE),
-        };
-        let Ok(count) = count else {
-            return ExitCode::from(USAGE);
-        };
-        let done = match &*what {
-            "graph" => graph::made(rt.alloc(), count)
-                .map(|text| text.len() as u64)
-                .ok(),
-            "parse" => graph::read(rt.alloc(), count).ok(),
-            "accept" => graph::accepted(rt.alloc(), count).ok(),
-            "regions" => regions::ask_regions(rt.alloc(), count).ok(),
-            "kept" => kept::ask_kept(rt.alloc(), count).ok(),
-            "shared" => shared::ask_alone(&rt, count).ok(),
-            "sharing" => shared::ask_together(&rt, count).ok(),
-            "turn" => turns::add_alone(&rt, count).ok(),
-            "turns" => turns::add_together(&rt, count).ok(),
-            "draw" => pool::draw_alone(rt.alloc(), count).ok(),
-            "one" => pool::work_together(&rt, 1, count).ok(),
-            "two" => pool::work_together(&rt, 2, count).ok(),
-            "four" => pool::work_together(&rt, 4, count).ok(),
-            what => match pam_work(what) {
-                Some(work) => work.done(rt.alloc(), count).ok(),
-                None => match effects::render(rt.alloc(), what, count) {
-                    Ok(None) => return ExitCode::from(USAGE),
-                    rendered => rendered.ok().flatten(),
-                },
-            },
-        };
-        match done {
-            Some(number) => {
-                let _ = println!(&rt; "{what} {count}: {number}");
-            }
-            None => return ExitCode::from(MEMORY),
+        let count = words.next();
+        let status = told(&rt, rt.alloc(), what.as_str(), count.as_deref());
+        if status != DONE {
+            return ExitCode::from(status);
         }
     }
     ExitCode::SUCCESS
 }
 
-// What is done with PAM files under this word.
-fn pam_work(word: &str) -> Option<Work> {
-    match word {
-        "file" => Some(Work::Make(Kind::Rgba)),
-        "file_rgb" => Some(Work::Make(Kind::Rgb)),
-        "file_scaled" => Some(Work::Make(Kind::Scaled)),
-        "file_short" => Some(Work::Make(Kind::Short)),
-        "read" => Some(Work::Read(Kind::Rgba)),
-        "read_rgb" => Some(Work::Read(Kind::Rgb)),
-        "read_scaled" => Some(Work::Read(Kind::Scaled)),
-        "read_short" => Some(Work::Read(Kind::Short)),
-        "image" => Some(Work::Image),
-        "write" => Some(Work::Write(Format::RgbAlpha)),
-        "write_rgb" => Some(Work::Write(Format::Rgb)),
-        _ => None,
+// The exit status once a word is done so often, and its number told.
+fn told<R: Threads + Wait + Clock + Print + Sync>(
+    rt: &R,
+    alloc: Global,
+    what: &str,
+    count: Option<&str>,
+) -> u8 {
+    let Some(count) = count else {
+        return USAGE;
+    };
+    let Ok(count) = count.parse::<u32>() else {
+        return USAGE;
+    };
+    match done(rt, alloc, what, count) {
+        Ok(Some(number)) => {
+            let _ = println!(rt; "{what} {count}: {number}");
+            DONE
+        }
+        Ok(None) => USAGE,
+        Err(Memory) => MEMORY,
     }
+}
+
+// What is done under a word. None where it is another one.
+fn done<R: Threads + Wait + Clock + Sync>(
+    rt: &R,
+    alloc: Global,
+    what: &str,
+    count: u32,
+) -> Result<Option<u64>, Memory> {
+    let number = match what {
+        "shared" => shared::ask_together(rt, alloc, 1, count),
+        "sharing" => shared::ask_together(rt, alloc, 4, count),
+        "turn" => turns::add_together(rt, alloc, 1, count),
+        "turns" => turns::add_together(rt, alloc, 8, count),
+        "one" => pool::work_together(rt, alloc, 1, count),
+        "two" => pool::work_together(rt, alloc, 2, count),
+        "four" => pool::work_together(rt, alloc, 4, count),
+        "kept" => kept::ask_kept(alloc, count),
+        "draw" => pool::draw_alone(alloc, count),
+        "graph" => graph::length(alloc, count),
+        "parse" => graph::read(alloc, count),
+        "accept" => graph::accepted(alloc, count),
+        "regions" => regions::ask_regions(alloc, count),
+        _ if what.contains(':') => return effects::render(alloc, what, count),
+        _ => return pam::done(alloc, what, count),
+    };
+    Ok(Some(number?))
 }

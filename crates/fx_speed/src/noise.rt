@@ -14,6 +14,15 @@ pub(crate) const COLUMNS: i64 = 1920;
 
 pub(crate) const ROWS: i64 = 1080;
 
+/// The depth of this name.
+pub(crate) fn depth_of(name: &str) -> Option<Depth> {
+    match name {
+        "byte" => Some(Depth::Byte),
+        "short" => Some(Depth::Short),
+        _ => None,
+    }
+}
+
 /// An image of zeros.
 pub(crate) fn blank(alloc: Global, depth: Depth) -> Result<Image, Memory>
     ensures rect { IfOk result (λ image. image.rect
@@ -45,7 +54,10 @@ pub(crate) fn noise(alloc: Global, depth: Depth, number: u32) -> Result<Image, M
     let start = bytes.len();
     bytes.resize(start + ROWS as usize * row_bytes(depth) as usize, 0)?;
     scatter(&mut bytes[start..], number);
-    read(alloc, &bytes, 8192).map_err(|_| Memory)
+    match read(alloc, &bytes, 8192) {
+        Ok(image) => Ok(image),
+        Err(_) => Err(Memory),
+    }
 }
 
 fn scatter(bytes: &mut [u8], number: u32) {

@@ -1,8 +1,9 @@
 //! PAM files of 1,920 columns that are made and read, and images of that width that are made and
 //! written.
-ghost use Rattle.std.specs.Prelude.{◌≡◌, ◌≤◌, IfOk};
+ghost use Rattle.std.specs.Prelude.{◌≡◌, ◌≢◌, ◌≤◌, IfOk};
 ghost use Rattle.fx_base.specs.Rect.{columns};
 ghost use Rattle.fx_pixel.specs.declared.Components.TheVariants.{Rgba as RgbaSamples};
+ghost use Rattle.fx_pixel.specs.declared.Format.TheVariants.{Grayscale};
 
 use fx_base::{Memory, Rect};
 use fx_image::Image;
@@ -15,55 +16,57 @@ const COLUMNS: u32 = 1920;
 // As many rows as an image has here.
 const MOST_ROWS: u32 = 8192;
 
-/// What a file's samples are.
+// What a file's pixels are: samples, the greatest of them, and the bytes of a row.
 #[derive(Clone, Copy)]
-pub(crate) enum Kind {
-    /// Bytes of r, g, b and a.
-    Rgba,
-    /// Bytes of r, g and b.
-    Rgb,
-    /// Bytes of r, g, b and a, of which 100 is the greatest.
-    Scaled,
-    /// Short samples of r, g, b and a.
-    Short,
+struct Kind {
+    depth: u32,
+    maxval: u32,
+    row: u16,
 }
 
-/// What is done with so many rows.
-#[derive(Clone, Copy)]
-pub(crate) enum Work {
-    /// A file is made: its length in bytes.
-    Make(Kind),
-    /// A file is made and read: the sum of the samples in the middle of its last row.
-    Read(Kind),
-    /// An image is made: the sum of the samples in the middle of its last row.
-    Image,
-    /// An image is made and written: the length of its text in bytes.
-    Write(Format),
+/// Does what the word says, for 1 to 8,192 rows, and gives its number. None where it is another word.
+pub(crate) fn done(alloc: Global, word: &str, rows: u32) -> Result<Option<u64>, Memory> {
+    let rows = rows.clamp(1, MOST_ROWS);
+    let number = match word {
+        "image" => make_image(alloc, rows),
+        "write" => write_image(alloc, Format::RgbAlpha, rows),
+        "write_rgb" => write_image(alloc, Format::Rgb, rows),
+        _ => return file_done(alloc, word, rows),
+    };
+    Ok(Some(number?))
 }
 
-impl Work {
-    /// Does it, for 1 to 8,192 rows, and gives its number.
-    pub(crate) fn done(self, alloc: Global, rows: u32) -> Result<u64, Memory> {
-        let rows = rows.clamp(1, MOST_ROWS);
-        match self {
-            Work::Make(kind) => make_file(alloc, kind, rows),
-            Work::Read(kind) => read_file(alloc, kind, rows),
-            Work::Image => make_image(alloc, rows),
-            Work::Write(format) => write_image(alloc, format, rows),
-        }
+// A file is made: its length in bytes. Or it is read too: the sum of the samples in the middle of its last row.
+fn file_done(alloc: Global, word: &str, rows: u32) -> Result<Option<u64>, Memory> {
+    let (what, kind) = word.split_once('_').unwrap_or((word, "rgba"));
+    let Some(kind) = kind_of(kind) else {
+        return Ok(None);
+    };
+    let bytes = file(alloc, kind, rows)?;
+    match what {
+        "file" => Ok(Some(bytes.len() as u64)),
+        "read" => Ok(Some(sum_of_file(alloc, &bytes))),
+        _ => Ok(None),
     }
 }
 
-fn make_file(alloc: Global, kind: Kind, rows: u32) -> Result<u64, Memory> {
-    Ok(file(alloc, kind, rows)?.len() as u64)
+// Bytes of r, g, b and a; of r, g and b; of r, g, b and a, of which 100 is the greatest; and short samples.
+fn kind_of(name: &str) -> Option<Kind> {
+    let (depth, maxval, row) = match name {
+        "rgba" => (4, 255, 7680),
+        "rgb" => (3, 255, 5760),
+        "scaled" => (4, 100, 7680),
+        "short" => (4, 65535, 15360),
+        _ => return None,
+    };
+    Some(Kind { depth, maxval, row })
 }
 
 // 0 where the file has a fault.
-fn read_file(alloc: Global, kind: Kind, rows: u32) -> Result<u64, Memory> {
-    let bytes = file(alloc, kind, rows)?;
-    match read(alloc, &bytes, MOST_ROWS) {
-        Ok(image) => Ok(sum(image.at(i64::from(COLUMNS / 2), 0))),
-        Err(_) => Ok(0),
+fn sum_of_file(alloc: Global, bytes: &[u8]) -> u64 {
+    match read(alloc, bytes, MOST_ROWS) {
+        Ok(image) => sum(image.at(i64::from(COLUMNS / 2), 0)),
+        Err(_) => 0,
     }
 }
 
@@ -75,29 +78,22 @@ fn make_image(alloc: Global, rows: u32) -> Result<u64, Memory>
 
 // An image of RGBA has no text as Grayscale.
 fn write_image(alloc: Global, format: Format, rows: u32) -> Result<u64, Memory>
-    requires { (1 ≤ rows) × (rows ≤ 8192) }
+    requires rows { (1 ≤ rows) × (rows ≤ 8192) }
+    requires format { format ≢ Grayscale }
 {
     let image = image(alloc, rows)?;
     let mut text = Vec::new(alloc);
-    match format {
-        Format::Grayscale => return Ok(0),
-        Format::Rgb | Format::RgbAlpha => write(alloc, &image, format, &mut text)?,
-    }
+    write(alloc, &image, format, &mut text)?;
     Ok(text.len() as u64)
 }
 
 fn file(alloc: Global, kind: Kind, rows: u32) -> Result<Vec<u8>, Memory> {
-    let (depth, maxval, pixel_size) = match kind {
-        Kind::Rgba => (4, 255, 4),
-        Kind::Rgb => (3, 255, 3),
-        Kind::Scaled => (4, 100, 4),
-        Kind::Short => (4, 65535, 8),
-    };
+    let Kind { depth, maxval, row } = kind;
     let header = format!(in alloc;
         "P7\nWIDTH {COLUMNS}\nHEIGHT {rows}\nDEPTH {depth}\nMAXVAL {maxval}\nENDHDR\n"
     )?;
     let mut bytes = header.into_bytes();
-    let length = bytes.len() + COLUMNS as usize * pixel_size * rows as usize;
+    let length = bytes.len() + usize::from(row) * rows as usize;
     bytes.resize(length, 50)?;
     Ok(bytes)
 }

@@ -68,22 +68,27 @@ fn sum_of(draw: &Draw, seat: &mut DrawSeat, count: u32) -> u64
 }
 
 /// Does a piece of work for each number below the count, with so many workers. The sum of the outs.
-pub(crate) fn work_together<R: Wait + Clock + Threads + Sync + AllocGlobal>(
+pub(crate) fn work_together<R: Wait + Clock + Threads + Sync>(
     rt: &R,
+    alloc: Global,
     workers: usize,
     count: u32,
 ) -> Result<u64, Memory>
     requires { (1 ≤ workers) × (workers ≤ 64) }
 {
-    let alloc = rt.alloc();
     let seats = empty_seats(alloc, workers)?;
-    let worked = work(rt, alloc, &FreePace, u64::from(count), seats, &Steps).map_err(|e| e.1)?;
-    let sum = worked
-        .outs
-        .iter()
-        .map(|out| out.1)
-        .fold(0, u64::wrapping_add);
-    Ok(sum)
+    match work(rt, alloc, &FreePace, u64::from(count), seats, &Steps) {
+        Ok(worked) => Ok(sum_of_outs(&worked.outs)),
+        Err((_, memory)) => Err(memory),
+    }
+}
+
+fn sum_of_outs(outs: &[(u64, u64)]) -> u64 {
+    let mut sum = 0u64;
+    for out in outs {
+        sum = sum.wrapping_add(out.1);
+    }
+    sum
 }
 
 fn empty_seats(alloc: Global, count: usize) -> Result<Vec<()>, AllocError>

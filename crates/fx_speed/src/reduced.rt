@@ -1,8 +1,8 @@
 //! Frames of 1,920 by 1,080 pixels of r, g, b and a that are reduced.
-ghost use Rattle.std.specs.Prelude.{IfOk};
+ghost use Rattle.std.specs.Prelude.{◌≤◌, IfOk};
 ghost use Rattle.fx_proxy.specs.Reduced.{IsWhole};
 
-use crate::noise::noise;
+use crate::noise::{depth_of, noise};
 use crate::pam::sum;
 use fx_base::Memory;
 use fx_image::Image;
@@ -10,36 +10,31 @@ use fx_pixel::Depth;
 use fx_proxy::reduce;
 use std::alloc::Global;
 
-/// The depth of the frame, and what its sides are divided by.
-#[derive(Clone, Copy)]
-pub(crate) struct Reducing {
-    depth: Depth,
-    scale: u32,
+/// Reduces a frame so many times, of the depth and by the number, 1 to 8, of a word like `byte:2`: the sum of the samples
+/// at the bottom left of the last one. None where it is another word.
+pub(crate) fn done(alloc: Global, word: &str, count: u32) -> Result<Option<u64>, Memory> {
+    let Some((depth, scale)) = word.split_once(':') else {
+        return Ok(None);
+    };
+    match (depth_of(depth), scale.parse::<u32>()) {
+        (Some(depth), Ok(scale)) => {
+            let image = whole(alloc, depth)?;
+            Ok(Some(corner(alloc, &image, scale.clamp(1, 8), count)?))
+        }
+        _ => Ok(None),
+    }
 }
 
-impl Reducing {
-    /// Of a word like `byte:2`.
-    pub(crate) fn read(word: &str) -> Option<Reducing> {
-        let mut parts = word.split(':');
-        let depth = match parts.next()? {
-            "byte" => Depth::Byte,
-            "short" => Depth::Short,
-            _ => return None,
-        };
-        let scale = parts.next()?.parse::<u32>().ok()?;
-        Some(Reducing { depth, scale })
+fn corner(alloc: Global, image: &Image, scale: u32, count: u32) -> Result<u64, Memory>
+    requires whole { IsWhole image.now.rect }
+    requires scale { (1 ≤ scale) × (scale ≤ 8) }
+{
+    let mut corner = 0;
+    for _ in 0..count {
+        let small = reduce(alloc, image, scale)?;
+        corner = sum(small.at(0, 0));
     }
-
-    /// Reduces the frame so many times, by 1 to 8: the sum of the samples at the bottom left of the last one.
-    pub(crate) fn done(self, alloc: Global, count: u32) -> Result<u64, Memory> {
-        let image = whole(alloc, self.depth)?;
-        let mut corner = 0;
-        for _ in 0..count {
-            let small = reduce(alloc, &image, self.scale.clamp(1, 8))?;
-            corner = sum(small.at(0, 0));
-        }
-        Ok(corner)
-    }
+    Ok(corner)
 }
 
 // The frame. That it starts at the origin and has pixels its type doesn't say.

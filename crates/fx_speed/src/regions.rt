@@ -7,16 +7,16 @@ ghost use Rattle.fx_scene.specs.Sites.{scene_nodes};
 ghost use Rattle.fx_region.specs.Tables.{Has, IsMadeOf};
 ghost use Rattle.fx_speed.specs.Reached.{IsReachedAt};
 
+use crate::graph::graph_of;
 use fx_actions::Asking;
 use fx_base::{Grid, Memory, Name, Rect};
 use fx_effect::Catalogue;
-use fx_graph::{Graph, accept};
+use fx_graph::Graph;
 use fx_outside::SureLibrary;
 use fx_region::{Regions, demand_by};
 use fx_scene::{NodeFrame, Scene, reach, wants};
 use fx_seq::{Store, Wanted};
 use fx_shipped::Shipped;
-use fx_text::{GraphFault, read_graph};
 use std::alloc::Global;
 
 // The frame that is asked for, between the ends of the fade.
@@ -38,9 +38,21 @@ const GRAPH: &str =
 pub(crate) fn ask_regions(alloc: Global, times: u32) -> Result<u64, Memory> {
     let scene = scene(alloc)?;
     let node_frames = node_frames_of(alloc, &scene)?;
+    last_needs(alloc, &scene, &node_frames, times)
+}
+
+// How many parts each tile of each of these nodes needs, asked so many times.
+fn last_needs<E: Catalogue>(
+    alloc: Global,
+    scene: &Scene<E>,
+    node_frames: &[NodeFrame],
+    times: u32,
+) -> Result<u64, Memory>
+    requires { All (IsReachedAt E.meaning scene.now (pos FRAME)) node_frames.now }
+{
     let mut needs = 0;
     for _ in 0..times {
-        needs = needs_of_frame(alloc, &scene, node_frames.as_slice())?;
+        needs = needs_of_frame(alloc, scene, node_frames)?;
     }
     Ok(needs)
 }
@@ -48,35 +60,38 @@ pub(crate) fn ask_regions(alloc: Global, times: u32) -> Result<u64, Memory> {
 // ---- the scene
 
 fn scene(alloc: Global) -> Result<Scene<Shipped>, Memory> {
-    let graph = graph_of(alloc).ok().ok_or(Memory)?;
-    let wanted = wants(alloc, &graph, FRAME, FRAME)?;
-    let mut library = SureLibrary::new(alloc, files_of(alloc, &wanted)?);
-    let store = Store::fill(alloc, &mut library, &wanted, 100_000_000, 8192)
-        .ok()
-        .ok_or(Memory)?;
+    let Ok(graph) = graph_of(alloc, GRAPH) else {
+        return Err(Memory);
+    };
+    let store = store_of(alloc, &graph)?;
     let (scene, _permit) = Scene::new(graph, store, 1);
     Ok(scene)
 }
 
-fn graph_of(alloc: Global) -> Result<Graph<Shipped>, GraphFault> {
-    let raw = read_graph(alloc, GRAPH.as_bytes(), 256, 4096)?;
-    accept(alloc, raw)
+// The frames that the graph wants.
+fn store_of(alloc: Global, graph: &Graph<Shipped>) -> Result<Store, Memory> {
+    let wanted = wants(alloc, graph, FRAME, FRAME)?;
+    let mut library = SureLibrary::new(alloc, files_of(alloc, &wanted)?);
+    match Store::fill(alloc, &mut library, &wanted, 100_000_000, 8192) {
+        Ok(store) => Ok(store),
+        Err(_) => Err(Memory),
+    }
 }
 
 // The files of these frames: zeros, of the project's extent.
 fn files_of(alloc: Global, wanted: &[Wanted]) -> Result<Vec<(Name, Vec<u8>)>, Memory> {
     let mut files = Vec::new(alloc);
     for frame in wanted {
-        let name = Name::of(String::from_str(alloc, frame.name.text())?);
-        files.push((name, file(alloc)?))?;
+        files.push(file_of(alloc, frame.name.text())?)?;
     }
     Ok(files)
 }
 
-fn file(alloc: Global) -> Result<Vec<u8>, Memory> {
+fn file_of(alloc: Global, name: &str) -> Result<(Name, Vec<u8>), Memory> {
     let mut bytes = b"P7\nWIDTH 1920\nHEIGHT 1080\nDEPTH 1\nMAXVAL 255\nENDHDR\n".to_vec(alloc)?;
     bytes.resize(bytes.len() + 1920 * 1080, 0)?;
-    Ok(bytes)
+    let name = String::from_str(alloc, name)?;
+    Ok((Name::of(name), bytes))
 }
 
 // ---- what is asked

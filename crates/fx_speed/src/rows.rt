@@ -21,36 +21,41 @@ const TURNS: u32 = 16;
 
 /// The columns that are read, and how wide and high the pieces are.
 #[derive(Clone, Copy)]
-pub(crate) struct Strips {
-    from: u8,
+struct Strips {
+    from: u16,
     width: u16,
     strip: u16,
     height: u16,
 }
 
+/// Reads so many rows: the sum of the bytes of the last one. The word has the first column, the columns, the width of a
+/// piece and, if it has not all rows, its height, as in `63:66:64` or `0:1920:384:10`. None where it is another word.
+pub(crate) fn done(alloc: Global, word: &str, count: u32) -> Result<Option<u64>, Memory> {
+    let Some(strips) = Strips::read(word) else {
+        return Ok(None);
+    };
+    let image = noise(alloc, Depth::Byte, 1)?;
+    Ok(Some(strips.sum_of_rows(alloc, &image, count)?))
+}
+
 impl Strips {
-    /// The first column, the columns, the width of a piece and, if it has not all rows, its height, of a
-    /// word like `63:66:64` or `0:1920:384:10`.
-    pub(crate) fn read(word: &str) -> Option<Strips> {
+    fn read(word: &str) -> Option<Strips> {
         let mut parts = word.split(':');
         Some(Strips {
-            from: parts.next()?.parse::<u8>().ok()?,
-            width: parts.next()?.parse::<u16>().ok()?,
-            strip: parts.next()?.parse::<u16>().ok()?,
-            height: parts.next().unwrap_or("1080").parse::<u16>().ok()?,
+            from: number(parts.next()?)?,
+            width: number(parts.next()?)?,
+            strip: number(parts.next()?)?,
+            height: number(parts.next().unwrap_or("1080"))?,
         })
     }
 
-    /// Reads so many rows: the sum of the bytes of the last one.
-    pub(crate) fn done(self, alloc: Global, count: u32) -> Result<u64, Memory> {
-        let image = noise(alloc, Depth::Byte, 1)?;
-        let inputs = self.inputs(alloc, &image)?;
+    fn sum_of_rows(self, alloc: Global, image: &Image, count: u32) -> Result<u64, Memory> {
+        let inputs = self.inputs(alloc, image)?;
         let rect = self.rect();
         let mut row = Vec::new(alloc);
         row.resize(4 * rect.width() as usize, 0)?;
         read_rows(&inputs, rect, row.as_mut_slice(), count);
-        let sum = row.iter().map(|b| u64::from(*b)).fold(0, u64::wrapping_add);
-        Ok(sum)
+        Ok(sum_of(&row))
     }
 
     // What is read.
@@ -68,7 +73,7 @@ impl Strips {
         ensures depth { IfOk result (λ inputs. inputs.depth ≡ Byte) }
         ensures components { IfOk result (λ inputs. inputs.components ≡ RgbaSamples ∷ []) }
     {
-        let mut inputs = Inputs::new(alloc, Depth::Byte, vec![in alloc; Components::Rgba]?)?;
+        let mut inputs = one_clip(alloc, Depth::Byte)?;
         for row in 0..MOST_UP {
             self.show_row(alloc, image, row, &mut inputs)?;
         }
@@ -103,6 +108,27 @@ impl Strips {
         let right = left.saturating_add(width);
         Rect::of(left, bottom, right, bottom.saturating_add(height))
     }
+}
+
+/// One clip of r, g, b and a, which shows nothing yet.
+pub(crate) fn one_clip<'a>(alloc: Global, depth: Depth) -> Result<Inputs<'a>, Memory>
+    ensures depth { IfOk result (λ inputs. inputs.depth ≡ depth) }
+    ensures components { IfOk result (λ inputs. inputs.components ≡ RgbaSamples ∷ []) }
+{
+    let shown = vec![in alloc; Components::Rgba]?;
+    Inputs::new(alloc, depth, shown)
+}
+
+fn number(text: &str) -> Option<u16> {
+    text.parse::<u16>().ok()
+}
+
+fn sum_of(row: &[u8]) -> u64 {
+    let mut sum = 0u64;
+    for byte in row {
+        sum = sum.wrapping_add(u64::from(*byte));
+    }
+    sum
 }
 
 fn show<'a>(

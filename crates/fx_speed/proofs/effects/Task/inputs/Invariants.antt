@@ -5,5 +5,5 @@ abbrev pub invariant-loop-clip : goal.invariant-loop-clip
 invariant-loop-clip l =
     record {
       depth : l.inputs.depth ≡ l.self.depth;
-      components : l.inputs.components ≡ l.fn.shown.items;
+      components : l.inputs.components ≡ l.fn.shown;
     }
