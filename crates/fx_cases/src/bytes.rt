@@ -1,9 +1,10 @@
 //! The bytes of files as cases write them.
-ghost use Rattle.std.specs.Prelude.{◌≡◌, ◌≤◌, ◌++◌, IfOk, OnOk};
+ghost use Rattle.std.specs.Prelude.{◌≤◌, IfOk};
 
 use crate::fault::CaseFault;
-use serde_json::{Map, Value};
-use std::alloc::Global;
+use crate::graph::Members;
+use serde_json::Value;
+use std::alloc::{AllocError, Global};
 
 // How often a piece or a row may stand there.
 const MOST_TIMES: u64 = 1 << 20;
@@ -14,21 +15,33 @@ fn times_of(times: Option<u64>) -> Result<u64, CaseFault>
 {
     match times {
         Some(times) if times <= MOST_TIMES => Ok(times),
-        _ => Err(CaseFault::Form("how often")),
+        _ => Err(CaseFault::of("how often")),
     }
 }
 
-// Appends the bytes of hexadecimal digits, as often as the number behind a `*` says.
-fn add_piece(alloc: Global, piece: &str, bytes: &mut Vec<u8>) -> Result<(), CaseFault> {
-    let (digits, times) = match piece.split_once('*') {
-        Some((digits, times)) => (digits, times_of(times.parse::<u64>().ok())?),
-        None => (piece, 1),
-    };
+// Appends the bytes of hexadecimal digits so often.
+fn add_digits(
+    alloc: Global,
+    digits: &str,
+    times: u64,
+    bytes: &mut Vec<u8>,
+) -> Result<(), CaseFault> {
     let part = hex::decode(alloc, digits)?;
     for _ in 0..times {
         bytes.extend_from_slice(part.as_slice())?;
     }
     Ok(())
+}
+
+// Appends the bytes of hexadecimal digits, as often as the number behind a `*` says.
+fn add_piece(alloc: Global, piece: &str, bytes: &mut Vec<u8>) -> Result<(), CaseFault> {
+    match piece.split_once('*') {
+        Some((digits, times)) => {
+            let times = times_of(times.parse::<u64>().ok())?;
+            add_digits(alloc, digits, times, bytes)
+        }
+        None => add_digits(alloc, piece, 1, bytes),
+    }
 }
 
 // Appends the bytes of pieces with spaces between them.
@@ -39,84 +52,98 @@ fn add_pieces(alloc: Global, row: &str, bytes: &mut Vec<u8>) -> Result<(), CaseF
     Ok(())
 }
 
-// Appends the bytes of a row so often.
-fn add_row(
-    alloc: Global,
-    times: u64,
-    row: Option<&str>,
-    bytes: &mut Vec<u8>,
-) -> Result<(), CaseFault> {
-    let row = row.ok_or(CaseFault::Form("rows"))?;
-    for _ in 0..times {
-        add_pieces(alloc, row, bytes)?;
+// Appends the bytes of a number and a text, which stands so often.
+fn add_times(alloc: Global, pair: &[Value], bytes: &mut Vec<u8>) -> Result<(), CaseFault> {
+    let [times, Value::String(row)] = pair else {
+        return Err(CaseFault::of("rows"));
+    };
+    for _ in 0..times_of(times.as_u64())? {
+        add_pieces(alloc, row.as_str(), bytes)?;
     }
     Ok(())
 }
 
-// Appends the bytes of rows: each is a text, or a number and a text that stands so often.
+// Appends the bytes of a row: a text, or a number and a text that stands so often.
+fn add_row(alloc: Global, row: &Value, bytes: &mut Vec<u8>) -> Result<(), CaseFault> {
+    match row {
+        Value::String(row) => add_pieces(alloc, row.as_str(), bytes),
+        Value::Array(pair) => add_times(alloc, pair.as_slice(), bytes),
+        _ => Err(CaseFault::of("rows")),
+    }
+}
+
 fn add_rows(alloc: Global, rows: &[Value], bytes: &mut Vec<u8>) -> Result<(), CaseFault> {
     for row in rows {
-        match row.as_array().map(Vec::as_slice) {
-            Some([times, row]) => {
-                let times = times_of(times.as_u64())?;
-                add_row(alloc, times, row.as_str(), bytes)?;
-            }
-            _ => add_row(alloc, 1, row.as_str(), bytes)?,
-        }
+        add_row(alloc, row, bytes)?;
     }
     Ok(())
 }
 
-fn add_text(text: &str, bytes: &mut Vec<u8>) -> Result<(), CaseFault>
-    ensures { OnOk result (bytes.new.items ≡ bytes.old.items ++ text.now) }
-{
-    bytes.extend_from_slice(text.as_bytes())?;
-    Ok(())
+fn add_line(line: &str, bytes: &mut Vec<u8>) -> Result<(), AllocError> {
+    bytes.extend_from_slice(line.as_bytes())?;
+    bytes.extend_from_slice(b"\n")
 }
 
 // Appends a header, whose lines stand with a comma and a space between them.
-fn add_header(lines: &str, bytes: &mut Vec<u8>) -> Result<(), CaseFault> {
-    add_text("P7\n", bytes)?;
+fn add_header(lines: &str, bytes: &mut Vec<u8>) -> Result<(), AllocError> {
+    add_line("P7", bytes)?;
     for line in lines.split(", ") {
-        add_text(line, bytes)?;
-        add_text("\n", bytes)?;
+        add_line(line, bytes)?;
     }
-    add_text("ENDHDR\n", bytes)
+    add_line("ENDHDR", bytes)
 }
 
-// The bytes of a frame: its header and its rows from the top.
-fn frame_of(alloc: Global, header: &str, rows: &[Value]) -> Result<Vec<u8>, CaseFault> {
-    let mut bytes = Vec::new(alloc);
-    add_header(header, &mut bytes)?;
-    add_rows(alloc, rows, &mut bytes)?;
-    Ok(bytes)
+// Appends the bytes of a frame: its header and its rows from the top.
+fn add_frame(alloc: Global, members: &Members, bytes: &mut Vec<u8>) -> Result<(), CaseFault> {
+    match (members.get("pam"), members.get("rows")) {
+        (Some(Value::String(header)), Some(Value::Array(rows))) => {
+            add_header(header.as_str(), bytes)?;
+            add_rows(alloc, rows.as_slice(), bytes)
+        }
+        _ => Err(CaseFault::of("a file")),
+    }
 }
 
-// The bytes of hexadecimal digits.
-fn hex_of(alloc: Global, digits: &str) -> Result<Vec<u8>, CaseFault> {
-    let mut bytes = Vec::new(alloc);
-    add_pieces(alloc, digits, &mut bytes)?;
-    Ok(bytes)
-}
-
-// The bytes of a value as JSON, without spaces.
-fn json_of(alloc: Global, value: &Value) -> Result<Vec<u8>, CaseFault> {
+// Appends the bytes of a value as JSON, without spaces.
+fn add_json(alloc: Global, value: &Value, bytes: &mut Vec<u8>) -> Result<(), AllocError> {
     let text = value.to_string(alloc)?;
-    Ok(text.as_bytes().to_vec(alloc)?)
+    bytes.extend_from_slice(text.as_bytes())
 }
 
-// The bytes of a file with one member, or of a header and its rows.
-fn bytes_by(alloc: Global, members: &Map<String, Value>) -> Result<Vec<u8>, CaseFault> {
-    let pam = members.get("pam").and_then(Value::as_str);
-    let rows = members.get("rows").and_then(Value::as_array);
-    let text = members.get("text").and_then(Value::as_str);
-    let hex = members.get("hex").and_then(Value::as_str);
-    match (members.len(), pam, rows, text, hex, members.get("json")) {
-        (2, Some(header), Some(rows), None, None, None) => frame_of(alloc, header, rows.as_slice()),
-        (1, None, None, Some(text), None, None) => Ok(text.as_bytes().to_vec(alloc)?),
-        (1, None, None, None, Some(digits), None) => hex_of(alloc, digits),
-        (1, None, None, None, None, Some(value)) => json_of(alloc, value),
-        _ => Err(CaseFault::Form("a file")),
+// Appends the bytes that one member says.
+fn add_member(
+    alloc: Global,
+    name: &str,
+    value: &Value,
+    bytes: &mut Vec<u8>,
+) -> Result<(), CaseFault> {
+    match (name, value) {
+        ("text", Value::String(text)) => Ok(bytes.extend_from_slice(text.as_bytes())?),
+        ("hex", Value::String(digits)) => add_pieces(alloc, digits.as_str(), bytes),
+        ("json", value) => Ok(add_json(alloc, value, bytes)?),
+        _ => Err(CaseFault::of("a file")),
+    }
+}
+
+// Appends the bytes of a file with one member, or of a header and its rows.
+fn add_file(alloc: Global, members: &Members, bytes: &mut Vec<u8>) -> Result<(), CaseFault> {
+    if members.len() == 2 {
+        return add_frame(alloc, members, bytes);
+    }
+    if members.len() != 1 {
+        return Err(CaseFault::of("a file"));
+    }
+    for (name, value) in members.iter() {
+        add_member(alloc, name.as_str(), value, bytes)?;
+    }
+    Ok(())
+}
+
+// What is said of a file: by one object, or under the name of a frame that the cases share.
+fn said_of<'v>(frames: Option<&'v Value>, file: &'v Value) -> Option<&'v Value> {
+    match (file, frames) {
+        (Value::String(name), Some(Value::Object(frames))) => frames.get(name.as_str()),
+        _ => Some(file),
     }
 }
 
@@ -126,12 +153,10 @@ pub(crate) fn bytes_of(
     frames: Option<&Value>,
     file: &Value,
 ) -> Result<Vec<u8>, CaseFault> {
-    let said = match file.as_str() {
-        Some(name) => frames.and_then(|frames| frames.get(name)),
-        None => Some(file),
+    let Some(Value::Object(members)) = said_of(frames, file) else {
+        return Err(CaseFault::of("a file"));
     };
-    match said.and_then(Value::as_object) {
-        Some(members) => bytes_by(alloc, members),
-        None => Err(CaseFault::Form("a file")),
-    }
+    let mut bytes = Vec::new(alloc);
+    add_file(alloc, members, &mut bytes)?;
+    Ok(bytes)
 }

@@ -1,136 +1,262 @@
 //! A case as its file writes it: docs/cases.md has the form. What isn't of the form is refused, a member that the form
 //! doesn't have among it, since a case that is misread would show nothing.
-ghost use Rattle.std.specs.Prelude.{◌≡◌, ◌≤◌, IfOk};
+ghost use Rattle.std.specs.Prelude.{◌≤◌, IfOk};
 
 use crate::bytes::bytes_of;
 use crate::fault::CaseFault;
-use crate::graph::laid_over;
+use crate::graph::{Members, laid_over};
 use fx_base::Name;
-use fx_outside::MemoryLibrary;
-use serde_json::{Map, Value};
+use serde_json::Value;
 use std::alloc::{AllocError, Global};
 
 // The name of the file that a graph is written to.
 const GRAPH: &str = "g.json";
 
+const FILE_MEMBERS: &[&str] = &[
+    "about", "words", "again", "graph", "files", "frames", "cases",
+];
+
+const CASE_MEMBERS: &[&str] = &[
+    "about", "name", "words", "graph", "files", "fails", "pace", "meet", "wanted",
+];
+
+const FAILS_MEMBERS: &[&str] = &["fetch", "put", "out", "err"];
+
+const MEET_MEMBERS: &[&str] = &["fetch", "put"];
+
+const WANTED_MEMBERS: &[&str] = &["status", "out", "reports", "err", "files", "calls"];
+
 /// A file of cases.
 #[derive(Clone, Copy)]
 pub(crate) struct CaseFile<'v> {
-    value: &'v Value,
+    members: &'v Members,
 }
 
 /// A case: what stands in it, and what it shares with those beside it.
 #[derive(Clone, Copy)]
 pub(crate) struct Case<'v> {
-    shared: &'v Value,
-    own: &'v Value,
+    shared: &'v Members,
+    own: &'v Members,
 }
 
 /// What a run is to leave.
 #[derive(Clone, Copy)]
 pub(crate) struct Wanted<'v> {
-    value: &'v Value,
+    members: &'v Members,
     frames: Option<&'v Value>,
 }
 
-// That a value is an object with no other members than these.
-fn check_members(value: &Value, keys: &[&str], what: &'static str) -> Result<(), CaseFault> {
-    let members = value.as_object().ok_or(CaseFault::Form(what))?;
-    if members
-        .keys()
-        .all(|key| keys.iter().any(|k| *k == key.as_str()))
-    {
-        Ok(())
-    } else {
-        Err(CaseFault::Form(what))
-    }
+/// The names of a fetch and of a put that wait for each other: of both or of none.
+#[derive(Clone, Copy)]
+pub(crate) struct Meets<'v> {
+    pub(crate) fetch: Option<&'v str>,
+    pub(crate) put: Option<&'v str>,
 }
 
-// The members of an object that may be absent.
+/// The numbers of the calls of each kind that fail, from 1.
+#[derive(Drop)]
+pub(crate) struct Fails {
+    pub(crate) fetch: Vec<u64>,
+    pub(crate) put: Vec<u64>,
+    pub(crate) out: Vec<u64>,
+    pub(crate) err: Vec<u64>,
+}
+
+fn is_among(name: &str, names: &[&str]) -> bool {
+    for one in names {
+        if *one == name {
+            return true;
+        }
+    }
+    false
+}
+
+// The members of an object that has no others than these.
 fn members_of<'v>(
-    value: Option<&'v Value>,
+    value: &'v Value,
+    names: &[&str],
     what: &'static str,
-) -> Result<Option<&'v Map<String, Value>>, CaseFault> {
-    match value {
-        Some(value) => Ok(Some(value.as_object().ok_or(CaseFault::Form(what))?)),
+) -> Result<&'v Members, CaseFault> {
+    let Value::Object(members) = value else {
+        return Err(CaseFault::of(what));
+    };
+    for name in members.keys() {
+        if !is_among(name.as_str(), names) {
+            return Err(CaseFault::of(what));
+        }
+    }
+    Ok(members)
+}
+
+// The text of a member, if it is there.
+fn text_of<'v>(members: &'v Members, name: &'static str) -> Result<Option<&'v str>, CaseFault> {
+    match members.get(name) {
+        Some(Value::String(text)) => Ok(Some(text.as_str())),
+        Some(_) => Err(CaseFault::of(name)),
         None => Ok(None),
     }
 }
 
+// The items of a list.
+fn items_of<'v>(value: &'v Value, what: &'static str) -> Result<&'v [Value], CaseFault> {
+    match value {
+        Value::Array(items) => Ok(items.as_slice()),
+        _ => Err(CaseFault::of(what)),
+    }
+}
+
+fn add_word(alloc: Global, item: &Value, words: &mut Vec<String>) -> Result<(), CaseFault> {
+    let Value::String(word) = item else {
+        return Err(CaseFault::of("words"));
+    };
+    words.push(String::from_str(alloc, word.as_str())?)?;
+    Ok(())
+}
+
 // Appends the texts of a list.
-fn add_texts(alloc: Global, list: &Value, texts: &mut Vec<String>) -> Result<(), CaseFault> {
-    let items = list.as_array().ok_or(CaseFault::Form("words"))?;
-    for item in items {
-        let text = item.as_str().ok_or(CaseFault::Form("words"))?;
-        texts.push(String::from_str(alloc, text)?)?;
+fn add_words(alloc: Global, list: &Value, words: &mut Vec<String>) -> Result<(), CaseFault> {
+    for item in items_of(list, "words")? {
+        add_word(alloc, item, words)?;
     }
     Ok(())
 }
 
-// Appends whole numbers from 1 on.
-fn add_numbers(list: &Value, numbers: &mut Vec<u64>) -> Result<(), CaseFault> {
-    let items = list.as_array().ok_or(CaseFault::Form("fails"))?;
-    for item in items {
-        let number = item.as_u64().filter(|number| *number != 0);
-        numbers.push(number.ok_or(CaseFault::Form("fails"))?)?;
+// Appends whole numbers from 1 on, where there are some.
+fn add_numbers(list: Option<&Value>, numbers: &mut Vec<u64>) -> Result<(), CaseFault> {
+    let Some(list) = list else {
+        return Ok(());
+    };
+    for item in items_of(list, "fails")? {
+        match item.as_u64() {
+            Some(number) if number != 0 => numbers.push(number)?,
+            _ => return Err(CaseFault::of("fails")),
+        }
     }
     Ok(())
 }
 
 // A report, and how many runs one after another are to write it.
 fn repeated(item: &Value) -> Result<(u64, &str), CaseFault> {
-    let pair = item.as_array().map(|pair| (pair.first(), pair.get(1)));
-    let (times, text) = match pair {
-        Some((Some(times), Some(text))) => (times.as_u64(), text.as_str()),
-        _ => (Some(1), item.as_str()),
+    let (times, text) = match item {
+        Value::String(text) => return Ok((1, text.as_str())),
+        Value::Array(pair) => match pair.as_slice() {
+            [times, Value::String(text)] => (times.as_u64(), text.as_str()),
+            _ => return Err(CaseFault::of("reports")),
+        },
+        _ => return Err(CaseFault::of("reports")),
     };
-    match (times, text) {
-        (Some(times), Some(text)) => Ok((times, text)),
-        _ => Err(CaseFault::Form("reports")),
+    match times {
+        Some(times) => Ok((times, text)),
+        None => Err(CaseFault::of("reports")),
     }
 }
 
-// A name, and the bytes of a file.
-fn named(alloc: Global, name: &str, bytes: Vec<u8>) -> Result<(Name, Vec<u8>), AllocError> {
+// Appends a file.
+fn add_file(
+    alloc: Global,
+    name: &str,
+    bytes: Vec<u8>,
+    files: &mut Vec<(Name, Vec<u8>)>,
+) -> Result<(), AllocError> {
     let name = Name::of(String::from_str(alloc, name)?);
-    Ok((name, bytes))
+    match files.push((name, bytes)) {
+        Ok(()) => Ok(()),
+        Err(_) => Err(AllocError),
+    }
+}
+
+// Appends the files of a member, if it is there.
+fn add_files(
+    alloc: Global,
+    frames: Option<&Value>,
+    value: Option<&Value>,
+    files: &mut Vec<(Name, Vec<u8>)>,
+) -> Result<(), CaseFault> {
+    let members = match value {
+        Some(Value::Object(members)) => members,
+        Some(_) => return Err(CaseFault::of("files")),
+        None => return Ok(()),
+    };
+    for (name, file) in members.iter() {
+        let bytes = bytes_of(alloc, frames, file)?;
+        add_file(alloc, name.as_str(), bytes, files)?;
+    }
+    Ok(())
+}
+
+// The text of a graph with a case's members over those of its file.
+fn laid_text(alloc: Global, shared: &Value, own: &Value) -> Result<String, CaseFault> {
+    match (shared, own) {
+        (Value::Object(shared), Value::Object(own)) => {
+            let graph = Value::Object(laid_over(alloc, shared, own)?);
+            Ok(graph.to_string(alloc)?)
+        }
+        _ => Err(CaseFault::of("graph")),
+    }
+}
+
+// The text of the one graph.
+fn plain_text(alloc: Global, graph: &Value) -> Result<String, CaseFault> {
+    match graph {
+        Value::Object(_) => Ok(graph.to_string(alloc)?),
+        _ => Err(CaseFault::of("graph")),
+    }
+}
+
+// Appends the file of a graph, if there is one.
+fn add_graph(
+    alloc: Global,
+    shared: Option<&Value>,
+    own: Option<&Value>,
+    files: &mut Vec<(Name, Vec<u8>)>,
+) -> Result<(), CaseFault> {
+    let text = match (shared, own) {
+        (None, None) => return Ok(()),
+        (Some(one), None) | (None, Some(one)) => plain_text(alloc, one)?,
+        (Some(shared), Some(own)) => laid_text(alloc, shared, own)?,
+    };
+    Ok(add_file(alloc, GRAPH, text.into_bytes(), files)?)
+}
+
+fn add_lines(items: &[Value], text: &mut String) -> Result<(), CaseFault> {
+    for item in items {
+        let Value::String(line) = item else {
+            return Err(CaseFault::of("calls"));
+        };
+        text.push_str(line.as_str())?;
+        text.push('\n')?;
+    }
+    Ok(())
 }
 
 impl<'v> CaseFile<'v> {
     /// The file of this text.
     pub(crate) fn of(value: &'v Value) -> Result<CaseFile<'v>, CaseFault> {
-        let keys = [
-            "about", "words", "again", "graph", "files", "frames", "cases",
-        ];
-        check_members(value, &keys, "a file of cases")?;
-        Ok(CaseFile { value })
+        let members = members_of(value, FILE_MEMBERS, "a file of cases")?;
+        Ok(CaseFile { members })
     }
 
     /// Its cases.
-    pub(crate) fn cases(self) -> Result<&'v Vec<Value>, CaseFault> {
-        let cases = self.value.get("cases").and_then(Value::as_array);
-        cases.ok_or(CaseFault::Form("cases"))
+    pub(crate) fn cases(self) -> Result<&'v [Value], CaseFault> {
+        match self.members.get("cases") {
+            Some(cases) => items_of(cases, "cases"),
+            None => Err(CaseFault::of("cases")),
+        }
     }
 
     /// One of them.
     pub(crate) fn case(self, own: &'v Value) -> Result<Case<'v>, CaseFault> {
-        let keys = [
-            "about", "name", "words", "graph", "files", "fails", "pace", "meet", "wanted",
-        ];
-        check_members(own, &keys, "a case")?;
+        let own = members_of(own, CASE_MEMBERS, "a case")?;
         Ok(Case {
-            shared: self.value,
+            shared: self.members,
             own,
         })
     }
 
     /// The words behind which each case is run once more.
     pub(crate) fn again(self) -> Result<&'v [Value], CaseFault> {
-        match self.value.get("again") {
-            Some(again) => match again.as_array() {
-                Some(again) => Ok(again.as_slice()),
-                None => Err(CaseFault::Form("again")),
-            },
+        match self.members.get("again") {
+            Some(again) => items_of(again, "again"),
             None => Ok(&[]),
         }
     }
@@ -139,121 +265,109 @@ impl<'v> CaseFile<'v> {
 impl<'v> Case<'v> {
     /// Its name.
     pub(crate) fn name(self) -> Result<&'v str, CaseFault> {
-        let name = self.own.get("name").and_then(Value::as_str);
-        name.ok_or(CaseFault::Form("name"))
+        text_of(self.own, "name")?.ok_or(CaseFault::of("name"))
     }
 
-    // A member of the case, or of its file where the case hasn't it.
-    fn either(self, key: &str) -> Option<&'v Value> {
-        match self.own.get(key) {
-            Some(value) => Some(value),
-            None => self.shared.get(key),
-        }
-    }
-
-    /// Its words, and these behind them.
-    pub(crate) fn words(
+    /// Appends its words, and these behind them.
+    pub(crate) fn add_words(
         self,
         alloc: Global,
         behind: Option<&Value>,
-    ) -> Result<Vec<String>, CaseFault> {
-        let mut words = Vec::new(alloc);
-        let own = self.either("words").ok_or(CaseFault::Form("words"))?;
-        add_texts(alloc, own, &mut words)?;
-        if let Some(behind) = behind {
-            add_texts(alloc, behind, &mut words)?;
+        words: &mut Vec<String>,
+    ) -> Result<(), CaseFault> {
+        match (self.own.get("words"), self.shared.get("words")) {
+            (Some(own), _) => add_words(alloc, own, words)?,
+            (None, Some(shared)) => add_words(alloc, shared, words)?,
+            (None, None) => return Err(CaseFault::of("words")),
         }
-        Ok(words)
+        match behind {
+            Some(behind) => add_words(alloc, behind, words),
+            None => Ok(()),
+        }
     }
 
-    /// The numbers of the calls of this kind that fail, from 1.
-    pub(crate) fn failing(self, alloc: Global, kind: &str) -> Result<Vec<u64>, CaseFault> {
-        let mut numbers = Vec::new(alloc);
-        if let Some(fails) = self.own.get("fails") {
-            check_members(fails, &["fetch", "put", "out", "err"], "fails")?;
-            if let Some(list) = fails.get(kind) {
-                add_numbers(list, &mut numbers)?;
-            }
+    /// The calls that fail.
+    pub(crate) fn fails(self, alloc: Global) -> Result<Fails, CaseFault> {
+        let mut fails = Fails {
+            fetch: Vec::new(alloc),
+            put: Vec::new(alloc),
+            out: Vec::new(alloc),
+            err: Vec::new(alloc),
+        };
+        if let Some(value) = self.own.get("fails") {
+            fails.add(members_of(value, FAILS_MEMBERS, "fails")?)?;
         }
-        Ok(numbers)
+        Ok(fails)
     }
 
     /// Whether the first two workers wait for each other before they draw.
     pub(crate) fn holds(self) -> Result<bool, CaseFault> {
-        match self.own.get("pace").map(Value::as_str) {
-            Some(Some("hold")) => Ok(true),
-            Some(_) => Err(CaseFault::Form("pace")),
+        match text_of(self.own, "pace")? {
+            Some("hold") => Ok(true),
+            Some(_) => Err(CaseFault::of("pace")),
             None => Ok(false),
         }
     }
 
     /// The names of a fetch and of a put that wait for each other, where there are some.
-    pub(crate) fn meets(self) -> Result<Option<(&'v str, &'v str)>, CaseFault> {
+    pub(crate) fn meets(self) -> Result<Meets<'v>, CaseFault> {
         let Some(meet) = self.own.get("meet") else {
-            return Ok(None);
+            return Ok(Meets {
+                fetch: None,
+                put: None,
+            });
         };
-        check_members(meet, &["fetch", "put"], "meet")?;
-        let fetch = meet.get("fetch").and_then(Value::as_str);
-        let put = meet.get("put").and_then(Value::as_str);
-        match (fetch, put) {
-            (Some(fetch), Some(put)) => Ok(Some((fetch, put))),
-            _ => Err(CaseFault::Form("meet")),
+        let members = members_of(meet, MEET_MEMBERS, "meet")?;
+        let fetch = text_of(members, "fetch")?;
+        let put = text_of(members, "put")?;
+        if fetch.is_none() || put.is_none() {
+            return Err(CaseFault::of("meet"));
         }
+        Ok(Meets { fetch, put })
     }
 
-    // The text of its graph, if it has one: the file's, with the case's members over those.
-    fn graph(self, alloc: Global) -> Result<Option<Vec<u8>>, CaseFault> {
-        let shared = members_of(self.shared.get("graph"), "graph")?;
-        let own = members_of(self.own.get("graph"), "graph")?;
-        let graph = match (shared, own) {
-            (None, None) => return Ok(None),
-            (Some(one), None) | (None, Some(one)) => laid_over(alloc, one, &Map::new(alloc))?,
-            (Some(shared), Some(own)) => laid_over(alloc, shared, own)?,
-        };
-        let text = Value::Object(graph).to_string(alloc)?;
-        Ok(Some(text.as_bytes().to_vec(alloc)?))
+    /// Its files. Of two that have a name the case's own comes first.
+    pub(crate) fn files(self, alloc: Global) -> Result<Vec<(Name, Vec<u8>)>, CaseFault> {
+        let mut files = Vec::new(alloc);
+        self.add_all_files(alloc, &mut files)?;
+        Ok(files)
     }
 
-    // Appends the files of a member.
-    fn add_files(
+    fn add_all_files(
         self,
         alloc: Global,
-        members: &Map<String, Value>,
         files: &mut Vec<(Name, Vec<u8>)>,
     ) -> Result<(), CaseFault> {
         let frames = self.shared.get("frames");
-        for (name, file) in members.iter() {
-            let bytes = bytes_of(alloc, frames, file)?;
-            files.push(named(alloc, name.as_str(), bytes)?)?;
-        }
-        Ok(())
-    }
-
-    /// The library of its files. Of two that have a name the case's own counts.
-    pub(crate) fn library(self, alloc: Global) -> Result<MemoryLibrary, CaseFault> {
-        let mut files = Vec::new(alloc);
-        if let Some(own) = members_of(self.own.get("files"), "files")? {
-            self.add_files(alloc, own, &mut files)?;
-        }
-        if let Some(graph) = self.graph(alloc)? {
-            files.push(named(alloc, GRAPH, graph)?)?;
-        }
-        if let Some(shared) = members_of(self.shared.get("files"), "files")? {
-            self.add_files(alloc, shared, &mut files)?;
-        }
-        let failing = self.failing(alloc, "fetch")?;
-        Ok(MemoryLibrary::new(alloc, files, failing))
+        add_files(alloc, frames, self.own.get("files"), files)?;
+        add_graph(
+            alloc,
+            self.shared.get("graph"),
+            self.own.get("graph"),
+            files,
+        )?;
+        add_files(alloc, frames, self.shared.get("files"), files)
     }
 
     /// What it is to leave.
     pub(crate) fn wanted(self) -> Result<Wanted<'v>, CaseFault> {
-        let value = self.own.get("wanted").ok_or(CaseFault::Form("wanted"))?;
-        let keys = ["status", "out", "reports", "err", "files", "calls"];
-        check_members(value, &keys, "wanted")?;
+        let Some(value) = self.own.get("wanted") else {
+            return Err(CaseFault::of("wanted"));
+        };
         Ok(Wanted {
-            value,
+            members: members_of(value, WANTED_MEMBERS, "wanted")?,
             frames: self.shared.get("frames"),
         })
+    }
+}
+
+impl Fails {
+    // Appends the numbers of each kind.
+    fn add(&mut self, members: &Members) -> Result<(), CaseFault> {
+        add_numbers(members.get("fetch"), &mut self.fetch)?;
+        add_numbers(members.get("put"), &mut self.put)?;
+        add_numbers(members.get("out"), &mut self.out)?;
+        add_numbers(members.get("err"), &mut self.err)
     }
 }
 
@@ -262,62 +376,61 @@ impl<'v> Wanted<'v> {
     pub(crate) fn status(self) -> Result<u8, CaseFault>
         ensures { IfOk result (λ status. status ≤ 7) }
     {
-        match self.value.get("status").map(Value::as_u64) {
-            Some(Some(status)) if status <= 7 => Ok(status as u8),
-            Some(_) => Err(CaseFault::Form("status")),
-            None => Ok(0),
+        let Some(status) = self.members.get("status") else {
+            return Ok(0);
+        };
+        match status.as_u64() {
+            Some(status) if status <= 7 => Ok(status as u8),
+            _ => Err(CaseFault::of("status")),
         }
     }
 
-    /// The text of this member, if it is there.
-    pub(crate) fn text(self, part: &'static str) -> Result<Option<&'v str>, CaseFault> {
-        match self.value.get(part).map(Value::as_str) {
-            Some(Some(text)) => Ok(Some(text)),
-            Some(None) => Err(CaseFault::Form(part)),
-            None => Ok(None),
-        }
+    /// The line that is to be written on the stream of errors: nothing where none is said.
+    pub(crate) fn line(self) -> Result<&'v str, CaseFault> {
+        Ok(text_of(self.members, "err")?.unwrap_or(""))
     }
 
     /// The report that run `number` of the case is to write, counted from 0: that of this run where the case has one for
     /// each, else the one of all.
     pub(crate) fn report(self, number: u64) -> Result<Option<&'v str>, CaseFault> {
-        let Some(reports) = self.value.get("reports") else {
-            return self.text("out");
+        let Some(reports) = self.members.get("reports") else {
+            return text_of(self.members, "out");
         };
         let mut left = number;
-        for item in reports.as_array().ok_or(CaseFault::Form("reports"))? {
+        for item in items_of(reports, "reports")? {
             let (times, text) = repeated(item)?;
-            match left.checked_sub(times) {
-                Some(rest) => left = rest,
-                None => return Ok(Some(text)),
+            if left < times {
+                return Ok(Some(text));
             }
+            left -= times;
         }
-        Err(CaseFault::Form("reports"))
+        Err(CaseFault::of("reports"))
     }
 
     /// A line for each call that is to come, in their order, where that is said.
     pub(crate) fn calls(self, alloc: Global) -> Result<Option<String>, CaseFault> {
-        let Some(calls) = self.value.get("calls") else {
+        let Some(calls) = self.members.get("calls") else {
             return Ok(None);
         };
         let mut text = String::new(alloc);
-        for call in calls.as_array().ok_or(CaseFault::Form("calls"))? {
-            text.push_str(call.as_str().ok_or(CaseFault::Form("calls"))?)?;
-            text.push('\n')?;
-        }
+        add_lines(items_of(calls, "calls")?, &mut text)?;
         Ok(Some(text))
     }
 
-    /// The names of the files that are told of, each with what is said of it.
-    pub(crate) fn files(self) -> Result<Option<&'v Map<String, Value>>, CaseFault> {
-        members_of(self.value.get("files"), "files")
+    /// What is said of each file, by the names of those that are told of.
+    pub(crate) fn files(self) -> Result<Option<&'v Members>, CaseFault> {
+        match self.members.get("files") {
+            Some(Value::Object(files)) => Ok(Some(files)),
+            Some(_) => Err(CaseFault::of("files")),
+            None => Ok(None),
+        }
     }
 
     /// The bytes that a file is to have: `None` where there is to be none.
     pub(crate) fn bytes(self, alloc: Global, file: &Value) -> Result<Option<Vec<u8>>, CaseFault> {
-        if file.is_null() {
-            return Ok(None);
+        match file {
+            Value::Null => Ok(None),
+            _ => Ok(Some(bytes_of(alloc, self.frames, file)?)),
         }
-        Ok(Some(bytes_of(alloc, self.frames, file)?))
     }
 }

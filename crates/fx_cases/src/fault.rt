@@ -1,40 +1,40 @@
 //! Why a case can't be run.
-use fx_base::Memory;
 use hex::FromHexError;
 use std::alloc::{AllocError, AllocFailed};
 
-/// Why a file of cases, or a case, isn't run.
-#[derive(Clone, Copy, Debug, PartialEq, Eq)]
-pub(crate) enum CaseFault {
-    /// What is named here isn't of its form.
-    Form(&'static str),
-    /// Memory was wanting.
-    Memory,
+/// Why a file of cases, or a case, isn't run: what is named here isn't of its form, or memory was wanting.
+#[derive(Clone, Copy)]
+pub(crate) struct CaseFault {
+    pub(crate) what: &'static str,
 }
 
-impl From<Memory> for CaseFault {
-    fn from(_: Memory) -> CaseFault {
-        CaseFault::Memory
+/// Memory was wanting.
+pub(crate) const MEMORY: CaseFault = CaseFault { what: "memory" };
+
+impl CaseFault {
+    /// What is named here isn't of its form.
+    pub(crate) fn of(what: &'static str) -> CaseFault {
+        CaseFault { what }
     }
 }
 
 impl From<AllocError> for CaseFault {
     fn from(_: AllocError) -> CaseFault {
-        CaseFault::Memory
+        MEMORY
     }
 }
 
 impl<T: Drop> From<AllocFailed<T>> for CaseFault {
     fn from(_: AllocFailed<T>) -> CaseFault {
-        CaseFault::Memory
+        MEMORY
     }
 }
 
 impl From<FromHexError> for CaseFault {
     fn from(e: FromHexError) -> CaseFault {
         match e {
-            FromHexError::OutOfMemory => CaseFault::Memory,
-            _ => CaseFault::Form("hexadecimal digits"),
+            FromHexError::OutOfMemory => MEMORY,
+            _ => CaseFault::of("hexadecimal digits"),
         }
     }
 }

@@ -1,34 +1,46 @@
 //! Graphs of which the cases of a file share a part.
-ghost use Rattle.std.specs.Prelude.{◌≡◌};
-
 use serde_json::{Map, Value};
 use std::alloc::{AllocError, Global};
 
+/// The members of an object.
+pub(crate) type Members = Map<String, Value>;
+
+// Puts a value under a name, in place of what stands there.
+fn put(name: &String, value: Value, both: &mut Members) -> Result<(), AllocError> {
+    match both.insert(name.clone()?, value) {
+        Ok(_) => Ok(()),
+        Err(_) => Err(AllocError),
+    }
+}
+
+// Puts these members over those that stand there.
+fn put_all(members: &Members, both: &mut Members) -> Result<(), AllocError> {
+    for (name, value) in members.iter() {
+        put(name, value.clone()?, both)?;
+    }
+    Ok(())
+}
+
 // Members with others over them: of two that have a name the one above counts.
-fn members_over(
-    alloc: Global,
-    below: &Map<String, Value>,
-    above: &Map<String, Value>,
-) -> Result<Map<String, Value>, AllocError> {
+fn members_over(alloc: Global, below: &Members, above: &Members) -> Result<Members, AllocError> {
     let mut both = Map::new(alloc);
-    for (name, value) in below.iter() {
-        drop(both.insert(name.clone()?, value.clone()?)?);
-    }
-    for (name, value) in above.iter() {
-        drop(both.insert(name.clone()?, value.clone()?)?);
-    }
+    put_all(below, &mut both)?;
+    put_all(above, &mut both)?;
     Ok(both)
+}
+
+fn add_items(items: &[Value], both: &mut Vec<Value>) -> Result<(), AllocError> {
+    for value in items {
+        both.push(value.clone()?)?;
+    }
+    Ok(())
 }
 
 // Items with others behind them.
 fn items_behind(alloc: Global, first: &[Value], last: &[Value]) -> Result<Vec<Value>, AllocError> {
     let mut both = Vec::new(alloc);
-    for value in first {
-        both.push(value.clone()?)?;
-    }
-    for value in last {
-        both.push(value.clone()?)?;
-    }
+    add_items(first, &mut both)?;
+    add_items(last, &mut both)?;
     Ok(both)
 }
 
@@ -43,21 +55,36 @@ fn value_over(alloc: Global, below: Option<&Value>, above: &Value) -> Result<Val
             below.as_slice(),
             above.as_slice(),
         )?)),
-        _ => Ok(above.clone()?),
+        _ => above.clone(),
     }
+}
+
+// Lays each member above over the one of its name below, and puts it.
+fn lay_all(
+    alloc: Global,
+    below: &Members,
+    above: &Members,
+    both: &mut Members,
+) -> Result<(), AllocError> {
+    for (name, value) in above.iter() {
+        put(
+            name,
+            value_over(alloc, below.get(name.as_str()), value)?,
+            both,
+        )?;
+    }
+    Ok(())
 }
 
 /// A graph's members with others laid over them. Where both have an object under a name it has the members of both, of
 /// which those above count; where both have a list, the items above come behind those below.
 pub(crate) fn laid_over(
     alloc: Global,
-    below: &Map<String, Value>,
-    above: &Map<String, Value>,
-) -> Result<Map<String, Value>, AllocError> {
-    let mut both = members_over(alloc, below, &Map::new(alloc))?;
-    for (name, value) in above.iter() {
-        let value = value_over(alloc, below.get(name.as_str()), value)?;
-        drop(both.insert(name.clone()?, value)?);
-    }
+    below: &Members,
+    above: &Members,
+) -> Result<Members, AllocError> {
+    let mut both = Map::new(alloc);
+    put_all(below, &mut both)?;
+    lay_all(alloc, below, above, &mut both)?;
     Ok(both)
 }

@@ -22,12 +22,12 @@ use std::alloc::Global;
 use std::env;
 use std::io::Print;
 use std::process::ExitCode;
-use std::rt::{Clock, Env, Files};
+use std::rt::{Clock, Files};
 use std::sync::Wait;
 use std::thread::Threads;
 
 // How many cases were run, how often, and how many left something else.
-#[derive(Clone, Copy, Debug)]
+#[derive(Clone, Copy)]
 struct Tally {
     cases: u64,
     runs: u64,
@@ -77,50 +77,97 @@ fn add_case<R: Threads + Wait + Clock + Print + Sync>(
     Ok(())
 }
 
-// Runs the cases of a file. One that isn't of the form fails.
-fn add_cases<R: Threads + Wait + Clock + Print + Sync>(
+// Runs one case. One that isn't of the form fails.
+fn add_value<R: Threads + Wait + Clock + Print + Sync>(
     rt: &R,
     alloc: Global,
     file: &str,
     cases: CaseFile<'_>,
+    again: &[Value],
+    value: &Value,
+    tally: &mut Tally,
+) {
+    let done = match cases.case(value) {
+        Ok(case) => add_case(rt, alloc, file, case, again, tally),
+        Err(fault) => Err(fault),
+    };
+    if let Err(CaseFault { what }) = done {
+        let _ = println!(rt; "{file}: {what} in {value}");
+        tally.add(0, false);
+    }
+}
+
+// Runs the cases of a file.
+fn add_cases<R: Threads + Wait + Clock + Print + Sync>(
+    rt: &R,
+    alloc: Global,
+    file: &str,
+    value: &Value,
     tally: &mut Tally,
 ) -> Result<(), CaseFault> {
+    let cases = CaseFile::of(value)?;
     let again = cases.again()?;
     for value in cases.cases()? {
-        let done = match cases.case(value) {
-            Ok(case) => add_case(rt, alloc, file, case, again, tally),
-            Err(fault) => Err(fault),
-        };
-        if let Err(fault) = done {
-            let _ = println!(rt; "{file}: {fault:?} in {value}");
-            tally.add(0, false);
-        }
+        add_value(rt, alloc, file, cases, again, value, tally);
     }
     Ok(())
 }
 
-// The value of a file.
-fn value_of<R: Files>(rt: &R, alloc: Global, file: &str) -> Result<Value, CaseFault> {
-    let mut library = FileLibrary::new(rt, alloc);
-    let bytes = library.fetch(alloc, file);
-    let bytes = bytes.ok().ok_or(CaseFault::Form("no such file"))?;
-    let value = Value::from_slice(alloc, bytes.as_slice());
-    value.ok().ok_or(CaseFault::Form("no JSON text"))
+fn bytes_of<R: Files>(rt: &R, alloc: Global, file: &str) -> Result<Vec<u8>, CaseFault> {
+    match FileLibrary::new(rt, alloc).fetch(alloc, file) {
+        Ok(bytes) => Ok(bytes),
+        Err(_) => Err(CaseFault::of("no such file")),
+    }
 }
 
+fn value_of(alloc: Global, bytes: &[u8]) -> Result<Value, CaseFault> {
+    match Value::from_slice(alloc, bytes) {
+        Ok(value) => Ok(value),
+        Err(_) => Err(CaseFault::of("no JSON text")),
+    }
+}
+
+// The value of a file.
+fn read_value<R: Files>(rt: &R, alloc: Global, file: &str) -> Result<Value, CaseFault> {
+    let bytes = bytes_of(rt, alloc, file)?;
+    value_of(alloc, &bytes)
+}
+
+fn add_read_file<R: Threads + Wait + Clock + Print + Files + Sync>(
+    rt: &R,
+    alloc: Global,
+    file: &str,
+    tally: &mut Tally,
+) -> Result<(), CaseFault> {
+    let value = read_value(rt, alloc, file)?;
+    add_cases(rt, alloc, file, &value, tally)
+}
+
+// Runs the cases of a file. One that isn't of the form fails.
 fn add_file<R: Threads + Wait + Clock + Print + Files + Sync>(
     rt: &R,
     alloc: Global,
     file: &str,
     tally: &mut Tally,
-) -> Result<(), CaseFault> {
-    let value = value_of(rt, alloc, file)?;
-    let cases = CaseFile::of(&value)?;
-    add_cases(rt, alloc, file, cases, tally)
+) {
+    if let Err(CaseFault { what }) = add_read_file(rt, alloc, file, tally) {
+        let _ = println!(rt; "{file}: {what}");
+        tally.add(0, false);
+    }
+}
+
+// Tells how many cases there were. Whether none failed.
+fn told<R: Print>(rt: &R, tally: Tally) -> bool {
+    let Tally {
+        cases,
+        runs,
+        failed,
+    } = tally;
+    let _ = println!(rt; "cases {cases} runs {runs} failed {failed}");
+    failed == 0
 }
 
 fn main(rt: HostRuntime) -> ExitCode {
-    let alloc = rt.alloc();
     let mut tally = Tally {
         cases: 0,
         runs: 0,
@@ -130,18 +177,9 @@ fn main(rt: HostRuntime) -> ExitCode {
         return ExitCode::FAILURE;
     };
     for file in files.skip(1) {
-        if let Err(fault) = add_file(&rt, alloc, file.as_str(), &mut tally) {
-            let _ = println!(&rt; "{file}: {fault:?}");
-            tally.add(0, false);
-        }
+        add_file(&rt, rt.alloc(), file.as_str(), &mut tally);
     }
-    let Tally {
-        cases,
-        runs,
-        failed,
-    } = tally;
-    let _ = println!(&rt; "cases {cases} runs {runs} failed {failed}");
-    if failed == 0 {
+    if told(&rt, tally) {
         ExitCode::SUCCESS
     } else {
         ExitCode::FAILURE

@@ -33,23 +33,29 @@ impl<'t> Calls<'t> {
 
     // The name of this turn, if it was one of these calls.
     fn at(&self, turn: u64) -> Option<&str> {
-        let call = self.noted.iter().find(|call| call.0 == turn);
-        call.map(|call| call.1.as_str())
+        for call in &self.noted {
+            if call.0 == turn {
+                return Some(call.1.as_str());
+            }
+        }
+        None
     }
 }
 
-/// The call of this name waits for another one.
+/// The call of this name, if there is one, waits for another one.
 #[derive(Clone, Copy)]
 pub(crate) struct Awaited<'t> {
-    pub(crate) name: &'t str,
+    pub(crate) name: Option<&'t str>,
     pub(crate) meeting: &'t Meeting,
 }
 
-// Where the call of a name waits.
-fn meeting_at<'t>(awaited: &Option<Awaited<'t>>, name: &str) -> Option<&'t Meeting> {
-    match awaited {
-        Some(call) if call.name == name => Some(call.meeting),
-        _ => None,
+impl<'t> Awaited<'t> {
+    // Whether the call of this name waits.
+    fn is(&self, name: &str) -> bool {
+        match self.name {
+            Some(awaited) => awaited == name,
+            None => false,
+        }
     }
 }
 
@@ -58,7 +64,7 @@ fn meeting_at<'t>(awaited: &Option<Awaited<'t>>, name: &str) -> Option<&'t Meeti
 pub(crate) struct NotedLibrary<'t> {
     pub(crate) library: MemoryLibrary,
     pub(crate) calls: Calls<'t>,
-    pub(crate) awaited: Option<Awaited<'t>>,
+    pub(crate) awaited: Awaited<'t>,
 }
 
 impl<'t> Library for NotedLibrary<'t> {
@@ -74,8 +80,8 @@ impl<'t> Library for NotedLibrary<'t> {
         if self.calls.note(alloc, name).is_err() {
             return Err(FetchFault::Memory);
         }
-        if let Some(meeting) = meeting_at(&self.awaited, name) {
-            meeting.first_comes();
+        if self.awaited.is(name) {
+            self.awaited.meeting.first_comes();
         }
         self.library.fetch(alloc, name)
     }
@@ -86,7 +92,7 @@ impl<'t> Library for NotedLibrary<'t> {
 pub(crate) struct NotedDepot<'t> {
     pub(crate) depot: MemoryDepot,
     pub(crate) calls: Calls<'t>,
-    pub(crate) awaited: Option<Awaited<'t>>,
+    pub(crate) awaited: Awaited<'t>,
 }
 
 impl<'t> Depot for NotedDepot<'t> {
@@ -102,11 +108,29 @@ impl<'t> Depot for NotedDepot<'t> {
         if self.calls.note(alloc, name).is_err() {
             return Err(PutFault::Memory);
         }
-        if let Some(meeting) = meeting_at(&self.awaited, name) {
-            meeting.second_comes();
+        if self.awaited.is(name) {
+            self.awaited.meeting.second_comes();
         }
         self.depot.put(alloc, name, bytes)
     }
+}
+
+fn add_call(what: &str, name: &str, text: &mut String) -> Result<(), AllocError> {
+    text.push_str(what)?;
+    text.push_str(name)?;
+    text.push('\n')
+}
+
+fn add_calls(fetches: &Calls<'_>, puts: &Calls<'_>, text: &mut String) -> Result<(), AllocError> {
+    let count = fetches.noted.len() as u64 + puts.noted.len() as u64;
+    for turn in 0..count {
+        if let Some(name) = fetches.at(turn) {
+            add_call("fetch ", name, text)?;
+        } else if let Some(name) = puts.at(turn) {
+            add_call("put ", name, text)?;
+        }
+    }
+    Ok(())
 }
 
 /// A line for each call of both, in their order.
@@ -116,15 +140,6 @@ pub(crate) fn calls_of(
     puts: &Calls<'_>,
 ) -> Result<String, AllocError> {
     let mut text = String::new(alloc);
-    let count = fetches.noted.len() as u64 + puts.noted.len() as u64;
-    for turn in 0..count {
-        let (what, name) = match (fetches.at(turn), puts.at(turn)) {
-            (Some(name), _) => ("fetch", name),
-            (None, Some(name)) => ("put", name),
-            (None, None) => continue,
-        };
-        let line = format!(in alloc; "{what} {name}\n")?;
-        text.push_str(line.as_str())?;
-    }
+    add_calls(fetches, puts, &mut text)?;
     Ok(text)
 }

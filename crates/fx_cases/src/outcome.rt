@@ -1,81 +1,93 @@
 //! Runs of cases over objects in memory, and what they left beside what is wanted.
-use crate::case::{Case, Wanted};
+use crate::case::{Case, Fails, Meets, Wanted};
 use crate::fault::CaseFault;
 use crate::meeting::Meeting;
 use crate::noted::{Awaited, Calls, NotedDepot, NotedLibrary, calls_of};
 use crate::pace::CasePace;
 use crate::tell::{At, bytes_are, is_kept, report_is, status_is, text_is};
 use fx_app::run;
-use fx_outside::{MemoryDepot, MemorySink};
+use fx_outside::{MemoryDepot, MemoryLibrary, MemorySink};
 use serde_json::Value;
-use std::alloc::Global;
+use std::alloc::{AllocError, Global};
 use std::io::Print;
 use std::rt::Clock;
 use std::sync::Wait;
 use std::sync::atomic::AtomicU64;
 use std::thread::Threads;
 
-// What a run answered and left.
+// What a run is over.
 #[derive(Drop)]
-struct Outcome {
-    status: u8,
+struct Objects<'t> {
+    library: NotedLibrary<'t>,
+    depot: NotedDepot<'t>,
     out: MemorySink,
     err: MemorySink,
-    depot: MemoryDepot,
-    calls: String,
+}
+
+// What a run answered, and whether those that were to wait for each other met.
+#[derive(Clone, Copy)]
+struct Ending {
+    status: u8,
     paced: bool,
     met: bool,
 }
 
-// Runs a case by these words.
-fn outcome_of<R: Threads + Wait + Clock + Sync>(
+// The objects of a case, of which a fetch and a put may wait for each other.
+fn objects_of<'t>(
+    alloc: Global,
+    case: Case<'t>,
+    turns: &'t AtomicU64,
+    meeting: &'t Meeting,
+) -> Result<Objects<'t>, CaseFault> {
+    let meets = case.meets()?;
+    let files = case.files(alloc)?;
+    let fails = case.fails(alloc)?;
+    let Fails {
+        fetch: fetches,
+        put: puts,
+        out,
+        err,
+    } = fails;
+    Ok(Objects {
+        library: NotedLibrary {
+            library: MemoryLibrary::new(alloc, files, fetches),
+            calls: Calls::new(alloc, turns),
+            awaited: Awaited {
+                name: meets.fetch,
+                meeting,
+            },
+        },
+        depot: NotedDepot {
+            depot: MemoryDepot::new(alloc, puts),
+            calls: Calls::new(alloc, turns),
+            awaited: Awaited {
+                name: meets.put,
+                meeting,
+            },
+        },
+        out: MemorySink::new(alloc, out),
+        err: MemorySink::new(alloc, err),
+    })
+}
+
+// The status of a run by these words.
+fn status_of<R: Threads + Wait + Clock + Sync>(
     rt: &R,
     alloc: Global,
-    case: Case<'_>,
     words: &[String],
-) -> Result<Outcome, CaseFault> {
-    let turns = AtomicU64::new(0);
-    let meeting = Meeting::new();
-    let meets = case.meets()?;
-    let mut library = NotedLibrary {
-        library: case.library(alloc)?,
-        calls: Calls::new(alloc, &turns),
-        awaited: meets.map(|(name, _)| Awaited {
-            name,
-            meeting: &meeting,
-        }),
-    };
-    let mut depot = NotedDepot {
-        depot: MemoryDepot::new(alloc, case.failing(alloc, "put")?),
-        calls: Calls::new(alloc, &turns),
-        awaited: meets.map(|(_, name)| Awaited {
-            name,
-            meeting: &meeting,
-        }),
-    };
-    let mut out = MemorySink::new(alloc, case.failing(alloc, "out")?);
-    let mut err = MemorySink::new(alloc, case.failing(alloc, "err")?);
-    let pace = CasePace::new(case.holds()?);
-    let status = run(
+    objects: &mut Objects<'_>,
+    pace: &CasePace,
+) -> u8 {
+    run(
         rt,
         alloc,
         words,
-        &mut library,
-        &mut depot,
-        &mut out,
-        &mut err,
-        &pace,
-    );
-    let calls = calls_of(alloc, &library.calls, &depot.calls)?;
-    Ok(Outcome {
-        status,
-        out,
-        err,
-        depot: depot.depot,
-        calls,
-        paced: pace.was_kept(),
-        met: meets.is_none() || meeting.was_kept(),
-    })
+        &mut objects.library,
+        &mut objects.depot,
+        &mut objects.out,
+        &mut objects.err,
+        pace,
+    )
 }
 
 // Whether the depot has the files that are wanted, and none that is to be absent.
@@ -86,49 +98,154 @@ fn files_are<R: Print>(
     wanted: Wanted<'_>,
     depot: &MemoryDepot,
 ) -> Result<bool, CaseFault> {
+    let Some(files) = wanted.files()? else {
+        return Ok(true);
+    };
     let mut right = true;
-    if let Some(files) = wanted.files()? {
-        for (name, file) in files.iter() {
-            let bytes = wanted.bytes(alloc, file)?;
-            let bytes = bytes.as_ref().map(Vec::as_slice);
-            let found = depot.get(name.as_str());
-            right &= bytes_are(rt, alloc, at, name.as_str(), bytes, found)?;
-        }
+    for (name, file) in files.iter() {
+        right &= file_is(rt, alloc, at, wanted, name.as_str(), file, depot)?;
     }
     Ok(right)
 }
 
-// Whether words have fetches and puts go beside each other, in no order.
-fn reads_ahead(words: &[String]) -> bool {
-    words.iter().any(|word| word.as_str() == "--ahead")
+// Whether the depot has a file as it is said, or none.
+fn file_is<R: Print>(
+    rt: &R,
+    alloc: Global,
+    at: &At<'_>,
+    wanted: Wanted<'_>,
+    name: &str,
+    file: &Value,
+    depot: &MemoryDepot,
+) -> Result<bool, CaseFault> {
+    let bytes = wanted.bytes(alloc, file)?;
+    let is = bytes_are(rt, alloc, at, name, bytes.as_deref(), depot.get(name))?;
+    Ok(is)
 }
 
-// Whether run `number` of a case left what is wanted.
-fn outcome_is<R: Print>(
+// Whether words have fetches and puts go beside each other, in no order.
+fn reads_ahead(words: &[String]) -> bool {
+    for word in words {
+        if word.as_str() == "--ahead" {
+            return true;
+        }
+    }
+    false
+}
+
+// Whether the calls came in this order, where they come in one.
+fn calls_come<R: Print>(
+    rt: &R,
+    alloc: Global,
+    at: &At<'_>,
+    wanted: &str,
+    objects: &Objects<'_>,
+) -> Result<bool, AllocError> {
+    if reads_ahead(at.words) {
+        return Ok(true);
+    }
+    let found = calls_of(alloc, &objects.library.calls, &objects.depot.calls)?;
+    text_is(rt, alloc, at, "calls", wanted, found.as_bytes())
+}
+
+// Whether the calls are those that are wanted.
+fn calls_are<R: Print>(
+    rt: &R,
+    alloc: Global,
+    at: &At<'_>,
+    wanted: Wanted<'_>,
+    objects: &Objects<'_>,
+) -> Result<bool, CaseFault> {
+    match wanted.calls(alloc)? {
+        Some(calls) => Ok(calls_come(rt, alloc, at, calls.as_str(), objects)?),
+        None => Ok(true),
+    }
+}
+
+// Whether the report is what run `number` of a case is to write.
+fn out_is<R: Print>(
     rt: &R,
     alloc: Global,
     at: &At<'_>,
     wanted: Wanted<'_>,
     number: u64,
-    outcome: &Outcome,
+    found: &[u8],
 ) -> Result<bool, CaseFault> {
-    let status = status_is(rt, at, wanted.status()?, outcome.status);
-    let out = match wanted.report(number)? {
-        Some(text) => report_is(rt, alloc, at, text, outcome.out.bytes())?,
-        None => true,
+    match wanted.report(number)? {
+        Some(text) => Ok(report_is(rt, alloc, at, text, found)?),
+        None => Ok(true),
+    }
+}
+
+// Whether a run ended as is wanted.
+fn ending_is<R: Print>(
+    rt: &R,
+    at: &At<'_>,
+    wanted: Wanted<'_>,
+    ending: Ending,
+) -> Result<bool, CaseFault> {
+    let status = status_is(rt, at, wanted.status()?, ending.status);
+    let paced = is_kept(rt, at, "pace", ending.paced);
+    let met = is_kept(rt, at, "meet", ending.met);
+    Ok(status & paced & met)
+}
+
+// Whether run `number` of a case left what is wanted.
+fn is_wanted<R: Print>(
+    rt: &R,
+    alloc: Global,
+    at: &At<'_>,
+    case: Case<'_>,
+    number: u64,
+    objects: &Objects<'_>,
+    ending: Ending,
+) -> Result<bool, CaseFault> {
+    let wanted = case.wanted()?;
+    let ended = ending_is(rt, at, wanted, ending)?;
+    let out = out_is(rt, alloc, at, wanted, number, objects.out.bytes())?;
+    let err = text_is(rt, alloc, at, "err", wanted.line()?, objects.err.bytes())?;
+    let files = files_are(rt, alloc, at, wanted, &objects.depot.depot)?;
+    let calls = calls_are(rt, alloc, at, wanted, objects)?;
+    Ok(ended & out & err & files & calls)
+}
+
+// Runs a case over these objects, as its run `number`. Whether it left what is wanted.
+fn run_is_right<R: Threads + Wait + Clock + Print + Sync>(
+    rt: &R,
+    alloc: Global,
+    at: &At<'_>,
+    case: Case<'_>,
+    number: u64,
+    objects: &mut Objects<'_>,
+    meeting: &Meeting,
+) -> Result<bool, CaseFault> {
+    let pace = CasePace::new(case.holds()?);
+    let meets = case.meets()?;
+    let status = status_of(rt, alloc, at.words, objects, &pace);
+    let ending = Ending {
+        status,
+        paced: pace.was_kept(),
+        met: have_met(meets, meeting),
     };
-    let line = wanted.text("err")?.unwrap_or("");
-    let err = text_is(rt, alloc, at, "err", line, outcome.err.bytes())?;
-    let files = files_are(rt, alloc, at, wanted, &outcome.depot)?;
-    let calls = match wanted.calls(alloc)? {
-        Some(calls) if !reads_ahead(at.words) => {
-            text_is(rt, alloc, at, "calls", &calls, outcome.calls.as_bytes())?
-        }
-        _ => true,
-    };
-    let paced = is_kept(rt, at, "pace", outcome.paced);
-    let met = is_kept(rt, at, "meet", outcome.met);
-    Ok(status & out & err & files & calls & paced & met)
+    is_wanted(rt, alloc, at, case, number, objects, ending)
+}
+
+// Makes the objects of a case, and runs it over them.
+fn leaves_it<R: Threads + Wait + Clock + Print + Sync>(
+    rt: &R,
+    alloc: Global,
+    at: &At<'_>,
+    case: Case<'_>,
+    number: u64,
+) -> Result<bool, CaseFault> {
+    let meeting = Meeting::new();
+    let turns = AtomicU64::new(0);
+    let mut objects = objects_of(alloc, case, &turns, &meeting)?;
+    run_is_right(rt, alloc, at, case, number, &mut objects, &meeting)
+}
+
+fn have_met(meets: Meets<'_>, meeting: &Meeting) -> bool {
+    meets.fetch.is_none() || meeting.was_kept()
 }
 
 /// Runs a case, as its run `number`, with these words behind its own. Whether it left what is wanted; each part that is
@@ -141,13 +258,13 @@ pub(crate) fn is_right<R: Threads + Wait + Clock + Print + Sync>(
     number: u64,
     behind: Option<&Value>,
 ) -> Result<bool, CaseFault> {
-    let words = case.words(alloc, behind)?;
     let name = case.name()?;
+    let mut words = Vec::new(alloc);
+    case.add_words(alloc, behind, &mut words)?;
     let at = At {
         file,
         name,
         words: &words,
     };
-    let outcome = outcome_of(rt, alloc, case, &words)?;
-    outcome_is(rt, alloc, &at, case.wanted()?, number, &outcome)
+    leaves_it(rt, alloc, &at, case, number)
 }

@@ -1,5 +1,5 @@
 //! What is told of a part that is other than wanted.
-ghost use Rattle.std.specs.Prelude.{◌≡◌, ◌==◌, ◌↔◌, IfOk, IsTrue, option_map};
+ghost use Rattle.std.specs.Prelude.{◌≡◌, ◌==◌, ◌≤◌, ◌↔◌, IfOk, IsTrue, length, option_map};
 
 use std::alloc::{AllocError, Global};
 use std::io::Print;
@@ -69,15 +69,34 @@ pub(crate) fn text_is<R: Print>(
     Ok(false)
 }
 
+// How many digits bytes begin with.
+fn digits(bytes: &[u8]) -> usize
+    ensures { result ≤ length bytes.now }
+{
+    for at in 0..bytes.len() {
+        if !bytes[at].is_ascii_digit() {
+            return at;
+        }
+    }
+    bytes.len()
+}
+
+// How many bytes a byte that is wanted takes of those that were found, and 0 where they are others.
+fn taken(wanted: u8, found: &[u8]) -> usize
+    ensures { result ≤ length found.now }
+{
+    match found.first() {
+        _ if wanted == b'*' => digits(found),
+        Some(first) if *first == wanted => 1,
+        _ => 0,
+    }
+}
+
 // Whether a text is the one that is wanted, in which `*` stands for a number.
 fn is_like(wanted: &[u8], found: &[u8]) -> bool {
     let mut rest = found;
     for byte in wanted {
-        let taken = match rest.first() {
-            _ if *byte == b'*' => rest.iter().take_while(|b| b.is_ascii_digit()).count(),
-            Some(first) if first == byte => 1,
-            _ => 0,
-        };
+        let taken = taken(*byte, rest);
         if taken == 0 {
             return false;
         }
