@@ -1,7 +1,6 @@
 //! Counts of tiles.
 use crate::same::{same, same_at};
 use fx_tile::TileCount;
-use std::test::Fail;
 
 const NONE: TileCount = TileCount {
     void_tiles: 0,
@@ -68,12 +67,11 @@ const MOST: &[TileCount] = &[
 ];
 
 #[test]
-fn counts_add_up(rt: HostRuntime) -> Result<(), Fail> {
+fn counts_add_up(rt: HostRuntime) {
     same(&rt, SOME.plus(MORE), Some(BOTH));
     for most in MOST {
         same_at(&rt, most, most.plus(NONE), Some(*most));
         same_at(&rt, most, most.plus(ONE), None);
         same_at(&rt, most, ONE.plus(*most), None);
     }
-    Ok(())
 }

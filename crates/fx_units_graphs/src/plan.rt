@@ -5,7 +5,7 @@ ghost use Rattle.fx_scene.specs.Scenes.{graph_shown, images_in};
 ghost use Rattle.fx_shipped.specs.Shipped.{meaning_of};
 
 use crate::same::{same, same_at};
-use fx_base::{Grid, Name};
+use fx_base::{Grid, Memory, Name};
 use fx_graph::{Graph, accept};
 use fx_outside::SureLibrary;
 use fx_plan::{Entry, plan};
@@ -14,8 +14,8 @@ use fx_scene::{Scene, uses, wants};
 use fx_seq::Store;
 use fx_shipped::Shipped;
 use fx_text::{GraphFault, read_graph};
-use std::alloc::{AllocError, Global};
-use std::test::Fail;
+use std::alloc::Global;
+use std::process::Abort;
 
 // A graph whose output is the node `n`: the sides of the project, those of the file `s.pam`, the side of a tile, and
 // the nodes.
@@ -195,32 +195,48 @@ const LATER: &[(Planned<'static>, &[Row])] = &[
     (MOVED_BLUR, &[]),
 ];
 
-fn graph_of(alloc: Global, planned: &Planned<'_>) -> Result<Graph<Shipped>, GraphFault> {
-    let (width, height) = planned.project;
-    let nodes = planned.nodes;
-    let project = format!(in alloc;
-        r#""width":{width},"height":{height},"depth":"byte","components":"RGBA""#
-    )?;
-    let text = format!(in alloc;
-        r#"{{"ofxr":1,"project":{{{project}}},"output":{{"node":"n","file":"o#.pam","format":"RGB_ALPHA"}},"range":{{"first":0,"last":9}},"nodes":[{nodes}]}}"#
-    )?;
+fn accepted(alloc: Global, text: &str) -> Result<Graph<Shipped>, GraphFault> {
     let raw = read_graph(alloc, text.as_bytes(), 16, 8192)?;
     accept(alloc, raw)
 }
 
-// The file of grey zeros.
-fn file(alloc: Global, sides: (u32, u32)) -> Result<(Name, Vec<u8>), AllocError> {
+fn graph_of(rt: &(impl Abort + AllocGlobal), planned: &Planned<'_>) -> Graph<Shipped> {
+    let alloc = rt.alloc();
+    let (width, height) = planned.project;
+    let nodes = planned.nodes;
+    let project = format!(in alloc;
+        r#""width":{width},"height":{height},"depth":"byte","components":"RGBA""#
+    ).expect(rt, "no project");
+    let text = format!(in alloc;
+        r#"{{"ofxr":1,"project":{{{project}}},"output":{{"node":"n","file":"o#.pam","format":"RGB_ALPHA"}},"range":{{"first":0,"last":9}},"nodes":[{nodes}]}}"#
+    ).expect(rt, "no text");
+    accepted(alloc, text.as_str())
+        .ok()
+        .expect(rt, "the graph is refused")
+}
+
+// A file of grey zeros.
+fn file(rt: &(impl Abort + AllocGlobal), sides: (u32, u32)) -> Vec<u8> {
     let (width, height) = sides;
-    let header = format!(in alloc;
+    let header = format!(in rt.alloc();
         "P7\nWIDTH {width}\nHEIGHT {height}\nDEPTH 1\nMAXVAL 255\nENDHDR\n"
-    )?;
-    let mut bytes = header.as_bytes().to_vec(alloc)?;
+    ).expect(rt, "no header");
+    let mut bytes = header.as_bytes().to_vec(rt.alloc()).expect(rt, "no bytes");
     for _ in 0..height {
         for _ in 0..width {
-            bytes.push(0)?;
+            bytes.push(0).expect(rt, "no byte");
         }
     }
-    Ok((Name::of(String::from_str(alloc, "s.pam")?), bytes))
+    bytes
+}
+
+// The library of that file.
+fn library_of(rt: &(impl Abort + AllocGlobal), sides: (u32, u32)) -> SureLibrary {
+    let bytes = file(rt, sides);
+    let name = String::from_str(rt.alloc(), "s.pam").expect(rt, "no name");
+    let mut files = Vec::new(rt.alloc());
+    files.push((Name::of(name), bytes)).expect(rt, "no file");
+    SureLibrary::new(rt.alloc(), files)
 }
 
 // The frames that a graph wants at a frame.
@@ -229,7 +245,7 @@ fn store_of(
     library: &mut SureLibrary,
     graph: &Graph<Shipped>,
     at: u32,
-) -> Result<Store, Fail>
+) -> Result<Store, Memory>
     requires { at ≤ 999999 }
     ensures { let g = graph_shown graph.now in
         IfOk result (λ store. HasWanted meaning_of g (images_in store) g.output (pos at)) }
@@ -237,26 +253,25 @@ fn store_of(
     let wanted = wants(alloc, graph, at, at)?;
     match Store::fill(alloc, library, &wanted, 1_000_000, 8192) {
         Ok(store) => Ok(store),
-        Err(_) => Err(Fail::from("a frame is refused")),
+        Err(_) => Err(Memory),
     }
 }
 
-fn scene_of(alloc: Global, planned: &Planned<'_>, at: u32) -> Result<Scene<Shipped>, Fail>
+fn scene_of(rt: &(impl Abort + AllocGlobal), planned: &Planned<'_>, at: u32) -> Scene<Shipped>
     requires { at ≤ 999999 }
-    ensures { IfOk result (λ s. HasWanted meaning_of s.graph (images_in s.store) s.graph.output (pos at)) }
+    ensures { HasWanted meaning_of result.graph (images_in result.store) result.graph.output (pos at) }
 {
-    let graph = graph_of(alloc, planned).ok().ok_or("the graph is refused")?;
-    let mut library = SureLibrary::new(alloc, vec![in alloc; file(alloc, planned.file)?]?);
-    let store = store_of(alloc, &mut library, &graph, at)?;
+    let graph = graph_of(rt, planned);
+    let mut library = library_of(rt, planned.file);
+    let store = store_of(rt.alloc(), &mut library, &graph, at).expect(rt, "a frame is refused");
     let (scene, _) = Scene::new(graph, store, 7);
-    Ok(scene)
+    scene
 }
 
-fn grid_of(side: u32) -> Result<Grid, Fail> {
-    if side == 0 || side > 1024 {
-        return Err(Fail::from("no side of a tile"));
-    }
-    Ok(Grid { side })
+fn grid_of(rt: &impl Abort, side: u32) -> Grid {
+    assert!(rt; side > 0);
+    assert!(rt; side <= 1024);
+    Grid { side }
 }
 
 fn row_of(entry: &Entry) -> Row {
@@ -272,32 +287,32 @@ fn row_of(entry: &Entry) -> Row {
 }
 
 // What a frame of a graph demands.
-fn rows_of(alloc: Global, planned: &Planned<'_>, at: u32) -> Result<Vec<Row>, Fail>
+fn rows_of(rt: &(impl Abort + AllocGlobal), planned: &Planned<'_>, at: u32) -> Vec<Row>
     requires { at ≤ 999999 }
 {
-    let scene = scene_of(alloc, planned, at)?;
+    let alloc = rt.alloc();
+    let scene = scene_of(rt, planned, at);
     let at = i64::from(at);
-    let regions = Regions::of(alloc, &scene, at)?;
-    let entries = plan(alloc, &scene, &regions, at, grid_of(planned.side)?)?;
+    let regions = Regions::of(alloc, &scene, at).expect(rt, "no regions");
+    let grid = grid_of(rt, planned.side);
+    let entries = plan(alloc, &scene, &regions, at, grid).expect(rt, "no entries");
     let mut rows = Vec::new(alloc);
     for entry in &entries {
-        rows.push(row_of(entry))?;
+        rows.push(row_of(entry)).expect(rt, "no row");
     }
-    Ok(rows)
+    rows
 }
 
 #[test]
-fn a_frame_demands_renders(rt: HostRuntime) -> Result<(), Fail> {
-    let alloc = rt.alloc();
+fn a_frame_demands_renders(rt: HostRuntime) {
     for (planned, wanted) in AT_FIRST {
-        let rows = rows_of(alloc, planned, 0)?;
+        let rows = rows_of(&rt, planned, 0);
         same_at(&rt, planned, rows.as_slice(), *wanted);
     }
     for (planned, wanted) in LATER {
-        let rows = rows_of(alloc, planned, 7)?;
+        let rows = rows_of(&rt, planned, 7);
         same_at(&rt, planned, rows.as_slice(), *wanted);
     }
-    Ok(())
 }
 
 // Of frames 1 to 3 each wants the source's frames beside its own.
@@ -313,24 +328,21 @@ type Used = (i64, u64, u64);
 
 const USED: &[Used] = &[(0, 0, 0), (1, 0, 1), (2, 0, 2), (3, 1, 2), (4, 2, 2)];
 
-fn used(alloc: Global, first: u32, last: u32) -> Result<Vec<Used>, Fail>
+fn used(rt: &(impl Abort + AllocGlobal), first: u32, last: u32) -> Vec<Used>
     requires { last ≤ 999999 }
 {
-    let graph = graph_of(alloc, &NEIGHBOURS)
-        .ok()
-        .ok_or("the graph is refused")?;
-    let mut rows = Vec::new(alloc);
-    for one in uses(alloc, &graph, first, last)? {
-        rows.push((one.wanted.frame, one.from, one.until))?;
+    let graph = graph_of(rt, &NEIGHBOURS);
+    let mut rows = Vec::new(rt.alloc());
+    let found = uses(rt.alloc(), &graph, first, last).expect(rt, "no uses");
+    for one in &found {
+        let row = (one.wanted.frame, one.from, one.until);
+        rows.push(row).expect(rt, "no row");
     }
-    Ok(rows)
+    rows
 }
 
 #[test]
-fn frames_use_what_they_want(rt: HostRuntime) -> Result<(), Fail> {
-    let alloc = rt.alloc();
-    let rows = used(alloc, 1, 3)?;
-    same(&rt, rows.as_slice(), USED);
-    same(&rt, used(alloc, 3, 1)?.len(), 0);
-    Ok(())
+fn frames_use_what_they_want(rt: HostRuntime) {
+    same(&rt, used(&rt, 1, 3).as_slice(), USED);
+    same(&rt, used(&rt, 3, 1).len(), 0);
 }

@@ -5,9 +5,7 @@ use fx_outside::MemoryLibrary;
 use fx_pixel::Pixel;
 use fx_proxy::scale_frames;
 use fx_seq::{SourceFrame, Use, Wanted, read_due};
-use std::alloc::{AllocError, Global};
 use std::process::Abort;
-use std::test::Fail;
 
 // Grey files, rows from the top.
 const WIDE: &[u8] =
@@ -48,35 +46,45 @@ const CASES: &[Case] = &[
     ((DEEP, 32), 2, (1, 1), &[(0, 0, 16385, 65535)]),
 ];
 
-fn named(alloc: Global, text: &str) -> Result<Name, AllocError> {
-    Ok(Name::of(String::from_str(alloc, text)?))
+fn named(rt: &(impl Abort + AllocGlobal), text: &str) -> Name {
+    Name::of(String::from_str(rt.alloc(), text).expect(rt, "no name"))
+}
+
+// A library of this file alone.
+fn library_of(rt: &(impl Abort + AllocGlobal), file: &[u8]) -> MemoryLibrary {
+    let alloc = rt.alloc();
+    let bytes = file.to_vec(alloc).expect(rt, "no bytes");
+    let mut files = Vec::new(alloc);
+    files.push((named(rt, "f"), bytes)).expect(rt, "no file");
+    MemoryLibrary::new(alloc, files, Vec::new(alloc))
 }
 
 // A file as frame 7 of node 3.
-fn frames_of(alloc: Global, file: &[u8]) -> Result<Vec<SourceFrame>, Fail> {
-    let files = vec![in alloc; (named(alloc, "f")?, file.to_vec(alloc)?)]?;
-    let mut library = MemoryLibrary::new(alloc, files, Vec::new(alloc));
+fn frames_of(rt: &(impl Abort + AllocGlobal), file: &[u8]) -> Vec<SourceFrame> {
+    let alloc = rt.alloc();
+    let mut library = library_of(rt, file);
     let wanted = Wanted {
         node: 3,
         frame: 7,
-        name: named(alloc, "f")?,
+        name: named(rt, "f"),
     };
     let once = Use {
         wanted,
         from: 0,
         until: 0,
     };
-    let uses = vec![in alloc; once]?;
+    let mut uses = Vec::new(alloc);
+    uses.push(once).expect(rt, "no use");
     let frames = read_due(alloc, &mut library, &uses, 0, 0, 1 << 31, 8192);
-    Ok(frames.ok().ok_or("not read")?)
+    frames.ok().expect(rt, "not read")
 }
 
-fn scaled_frames(alloc: Global, file: &[u8], q: u32) -> Result<Vec<SourceFrame>, Fail> {
-    let frames = frames_of(alloc, file)?;
-    if q == 0 || q > 8 {
-        return Err(Fail::from("no scale"));
-    }
-    Ok(scale_frames(alloc, frames, q).ok().ok_or("no memory")?)
+fn scaled_frames(rt: &(impl Abort + AllocGlobal), file: &[u8], q: u32) -> Vec<SourceFrame> {
+    let frames = frames_of(rt, file);
+    assert!(rt; q > 0);
+    assert!(rt; q <= 8);
+    let scaled = scale_frames(rt.alloc(), frames, q);
+    scaled.ok().expect(rt, "no memory")
 }
 
 fn shows(rt: &impl Abort, case: &Case, frame: &SourceFrame) {
@@ -95,13 +103,12 @@ fn shows(rt: &impl Abort, case: &Case, frame: &SourceFrame) {
 }
 
 #[test]
-fn blocks_have_their_means(rt: HostRuntime) -> Result<(), Fail> {
+fn blocks_have_their_means(rt: HostRuntime) {
     for case in CASES {
-        let frames = scaled_frames(rt.alloc(), case.0.0, case.1)?;
+        let frames = scaled_frames(&rt, case.0.0, case.1);
         for frame in &frames {
             shows(&rt, case, frame);
         }
         same_at(&rt, &case.1, frames.len(), 1);
     }
-    Ok(())
 }

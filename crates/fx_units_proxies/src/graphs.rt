@@ -10,7 +10,6 @@ use fx_takes::{Takes, accept_takes};
 use fx_text::{GraphFault, read_graph};
 use std::alloc::{AllocError, Global};
 use std::process::Abort;
-use std::test::Fail;
 
 // A source, and an effect of these clips whose parameter has this value, in a project of a size.
 fn text(
@@ -189,17 +188,17 @@ const SIZES: &[((u32, u32), &[(i64, i64)])] = &[
 // The scales by their places in the tables.
 const SCALES: [u32; 3] = [2, 4, 8];
 
-fn scaled_text(alloc: Global, text: &str, q: u32) -> Result<Graph<Shipped>, GraphFault> {
+fn accepted(alloc: Global, text: &str) -> Result<Graph<Shipped>, GraphFault> {
     let raw = read_graph(alloc, text.as_bytes(), 1024, 8192)?;
-    let graph: Graph<Shipped> = accept(alloc, raw)?;
-    if q == 0 || q > 8 {
-        return Err(GraphFault::Memory);
-    }
+    accept(alloc, raw)
+}
+
+fn scaled_text(rt: &(impl Abort + AllocGlobal), text: &str, q: u32) -> Graph<Shipped> {
+    let graph = accepted(rt.alloc(), text).ok().expect(rt, "refused");
+    assert!(rt; q > 0);
+    assert!(rt; q <= 8);
     lengths_are_described(&graph);
-    match scaled(graph, q) {
-        Ok(graph) => Ok(graph),
-        Err(_) => Err(GraphFault::Memory),
-    }
+    scaled(graph, q).ok().expect(rt, "no memory")
 }
 
 // The number of a parameter of the effect at a frame.
@@ -211,52 +210,50 @@ fn number_in(graph: &Graph<Shipped>, name: &str, frame: i64) -> Option<i64> {
     }
 }
 
-fn scaled_number(alloc: Global, case: &Case, q: u32) -> Result<Option<i64>, GraphFault> {
+fn scaled_number(rt: &(impl Abort + AllocGlobal), case: &Case, q: u32) -> Option<i64> {
     let (effect, clips, name, value, frame, _) = *case;
-    let text = text(alloc, (5, 3), (effect, clips), (name, value), "")?;
-    let graph = scaled_text(alloc, text.as_str(), q)?;
-    Ok(number_in(&graph, name, frame))
+    let text = text(rt.alloc(), (5, 3), (effect, clips), (name, value), "").expect(rt, "no text");
+    let graph = scaled_text(rt, text.as_str(), q);
+    number_in(&graph, name, frame)
 }
 
-fn numbers_are(rt: &impl Abort, alloc: Global, cases: &[Case]) -> Result<(), Fail> {
+fn numbers_are(rt: &(impl Abort + AllocGlobal), cases: &[Case]) {
     for case in cases {
         for (q, expected) in SCALES.iter().zip(&case.5) {
-            let number = scaled_number(alloc, case, *q).ok().ok_or("refused")?;
+            let number = scaled_number(rt, case, *q);
             same_at(rt, &(case.0, case.2, case.3, *q), number, Some(*expected));
         }
     }
-    Ok(())
 }
 
 #[test]
-fn lengths_are_divided(rt: HostRuntime) -> Result<(), Fail> {
-    numbers_are(&rt, rt.alloc(), LENGTHS)
+fn lengths_are_divided(rt: HostRuntime) {
+    numbers_are(&rt, LENGTHS);
 }
 
 #[test]
-fn keys_are_divided(rt: HostRuntime) -> Result<(), Fail> {
-    numbers_are(&rt, rt.alloc(), KEYED)
+fn keys_are_divided(rt: HostRuntime) {
+    numbers_are(&rt, KEYED);
 }
 
 #[test]
-fn other_parameters_stay(rt: HostRuntime) -> Result<(), Fail> {
-    numbers_are(&rt, rt.alloc(), OTHERS)
+fn other_parameters_stay(rt: HostRuntime) {
+    numbers_are(&rt, OTHERS);
 }
 
-fn scaled_size(alloc: Global, size: (u32, u32), q: u32) -> Result<Rect, GraphFault> {
-    let text = text(alloc, size, ("checker", ""), ("size", "16"), "")?;
-    Ok(scaled_text(alloc, text.as_str(), q)?.project)
+fn scaled_size(rt: &(impl Abort + AllocGlobal), size: (u32, u32), q: u32) -> Rect {
+    let text = text(rt.alloc(), size, ("checker", ""), ("size", "16"), "").expect(rt, "no text");
+    scaled_text(rt, text.as_str(), q).project
 }
 
 #[test]
-fn extents_are_divided(rt: HostRuntime) -> Result<(), Fail> {
+fn extents_are_divided(rt: HostRuntime) {
     for (size, scaled) in SIZES {
         for (q, (width, height)) in SCALES.iter().zip(*scaled) {
-            let rect = scaled_size(rt.alloc(), *size, *q).ok().ok_or("refused")?;
+            let rect = scaled_size(&rt, *size, *q);
             same_at(&rt, &(*size, *q), rect, Rect::of(0, 0, *width, *height));
         }
     }
-    Ok(())
 }
 
 // Edits of both radii, of which one has keys, and of what is no length.
@@ -284,59 +281,59 @@ const EDITED: &[((&str, &str), &str, [&str; 3])] = &[
     ),
 ];
 
-fn taken(alloc: Global, text: &str, q: u32) -> Result<Takes, GraphFault> {
-    let mut raw = read_graph(alloc, text.as_bytes(), 1024, 8192)?;
+fn taken(rt: &(impl Abort + AllocGlobal), text: &str, q: u32) -> Takes {
+    let alloc = rt.alloc();
+    let read = read_graph(alloc, text.as_bytes(), 1024, 8192);
+    let mut raw = read.ok().expect(rt, "not read");
     let raw_takes = raw.take_takes(alloc);
-    let graph: Graph<Shipped> = accept(alloc, raw)?;
-    let takes = accept_takes(alloc, &graph, raw_takes)?;
-    if q == 0 || q > 8 {
-        return Err(GraphFault::Memory);
-    }
+    let graph: Result<Graph<Shipped>, GraphFault> = accept(alloc, raw);
+    let graph = graph.ok().expect(rt, "refused");
+    let takes = accept_takes(alloc, &graph, raw_takes);
+    let takes = takes.ok().expect(rt, "no takes");
+    assert!(rt; q > 0);
+    assert!(rt; q <= 8);
     lengths_are_described(&graph);
-    Ok(scaled_takes(&graph, takes, q))
+    scaled_takes(&graph, takes, q)
 }
 
-fn told(alloc: Global, takes: &Takes) -> Result<String, AllocError> {
+fn told(rt: &(impl Abort + AllocGlobal), takes: &Takes) -> String {
+    let alloc = rt.alloc();
     let mut text = String::new(alloc);
     for take in &takes.list {
         for edit in &take.edits {
             let (node, param) = (edit.node, edit.param);
             let (first, last) = (edit.value.value_at(0), edit.value.value_at(4));
-            let one = format!(in alloc; "{node} {param}: {first} {last}, ")?;
-            text.push_str(one.as_str())?;
+            let one = format!(in alloc; "{node} {param}: {first} {last}, ").expect(rt, "no edit");
+            text.push_str(one.as_str()).expect(rt, "no text");
         }
     }
-    Ok(text)
+    text
 }
 
 #[test]
-fn values_in_takes_are_divided(rt: HostRuntime) -> Result<(), Fail> {
-    let alloc = rt.alloc();
+fn values_in_takes_are_divided(rt: HostRuntime) {
     for ((effect, param), takes, expected) in EDITED {
         for (q, expected) in SCALES.iter().zip(expected) {
-            let text = text(alloc, (5, 3), (*effect, SOURCE), (*param, "1"), takes)?;
-            let takes = taken(alloc, text.as_str(), *q).ok().ok_or("refused")?;
-            same_at(
-                &rt,
-                &(*effect, *q),
-                told(alloc, &takes)?.as_str(),
-                *expected,
-            );
+            let text = text(rt.alloc(), (5, 3), (*effect, SOURCE), (*param, "1"), takes);
+            let text = text.expect(&rt, "no text");
+            let takes = taken(&rt, text.as_str(), *q);
+            let told = told(&rt, &takes);
+            same_at(&rt, &(*effect, *q), told.as_str(), *expected);
         }
     }
-    Ok(())
 }
 
 // Erode's radius of 5 and the seed of grain, which is no length, at a half.
 #[test]
-fn one_parameter_is_divided(rt: HostRuntime) -> Result<(), Fail> {
+fn one_parameter_is_divided(rt: HostRuntime) {
     let alloc = rt.alloc();
-    let mut radius = Param::new(alloc, ParamDef::int(alloc, "radius", 0, 32, 1)?)?;
-    radius.set_value(ParamValue::Int(5)).ok().ok_or("refused")?;
-    let radius = scaled_param(12, 0, radius, 2).ok().ok_or("no memory")?;
-    let seed = Param::new(alloc, ParamDef::int(alloc, "seed", 0, 99, 5)?)?;
-    let seed = scaled_param(3, 0, seed, 2).ok().ok_or("no memory")?;
+    let def = ParamDef::int(alloc, "radius", 0, 32, 1).expect(&rt, "no definition");
+    let mut radius = Param::new(alloc, def).expect(&rt, "no radius");
+    same(&rt, radius.set_value(ParamValue::Int(5)), Ok(()));
+    let radius = scaled_param(12, 0, radius, 2).ok().expect(&rt, "no memory");
     same(&rt, radius.plain(), 3);
+    let def = ParamDef::int(alloc, "seed", 0, 99, 5).expect(&rt, "no definition");
+    let seed = Param::new(alloc, def).expect(&rt, "no seed");
+    let seed = scaled_param(3, 0, seed, 2).ok().expect(&rt, "no memory");
     same(&rt, seed.plain(), 5);
-    Ok(())
 }

@@ -1,5 +1,6 @@
 //! Renders by workers over effects that note their actions and count their calls.
 ghost use Rattle.std.specs.Prelude.{◌≡◌, ◌≤◌, ◌∷◌, [], IfOk, map, pos};
+ghost use Rattle.fx_life.specs.Posts.{HasLife};
 ghost use Rattle.fx_scene.specs.Right.{HasWanted};
 ghost use Rattle.fx_scene.specs.Scenes.{graph_shown, images_in};
 ghost use Rattle.fx_tile.specs.Seats.{AreAll};
@@ -17,7 +18,7 @@ use crate::tile::counting::course::is_lawful;
 use crate::tile::counting::effect::Counted;
 use crate::tile::counting::notes::Notes;
 use fx_base::{Grid, Memory, Name, Rect};
-use fx_core::Totals;
+use fx_core::{Permit, Totals};
 use fx_effect::Safety;
 use fx_graph::{Graph, accept};
 use fx_image::Image;
@@ -32,7 +33,6 @@ use std::alloc::{AllocError, Global};
 use std::process::Abort;
 use std::rt::Clock;
 use std::sync::Wait;
-use std::test::Fail;
 use std::thread::Threads;
 
 // A source under two nodes of each effect, in two contexts of one.
@@ -76,8 +76,8 @@ const TOTAL: TileCount = TileCount {
     hits: 0,
 };
 
-fn graph<'a>(alloc: Global) -> Result<Graph<Counted<'a>>, GraphFault> {
-    let raw = read_graph(alloc, GRAPH.as_bytes(), 16, 8192)?;
+fn graph_of<'a>(alloc: Global, text: &str) -> Result<Graph<Counted<'a>>, GraphFault> {
+    let raw = read_graph(alloc, text.as_bytes(), 16, 8192)?;
     accept(alloc, raw)
 }
 
@@ -112,6 +112,31 @@ fn store(alloc: Global, graph: &Graph<Counted<'_>>) -> Result<Store, Memory>
     }
 }
 
+// The scene of the number 7 of a graph and the frames that it wants.
+fn scene_of<'a>(
+    alloc: Global,
+    graph: Graph<Counted<'a>>,
+) -> Result<(Scene<Counted<'a>>, Permit), Memory>
+    ensures { IfOk result (λ r. let s = r.0 in
+        HasWanted (λ e. counted e.safety) s.graph (images_in s.store) s.graph.output (pos 3)) }
+{
+    let store = store(alloc, &graph)?;
+    Ok(Scene::new(graph, store, 7))
+}
+
+// The life of the effects over the graph of a scene.
+fn life_of<'a>(
+    alloc: Global,
+    scene: &Scene<Counted<'a>>,
+    effects: Vec<Counted<'a>>,
+) -> Result<Life<Counted<'a>>, Memory>
+    requires { map (λ e. counted_number e.safety) effects.items ≡ 0 ∷ 1 ∷ 2 ∷ [] }
+    ensures { IfOk result (HasLife (λ e. counted_number e.safety) scene.now.graph) }
+{
+    let life = Life::start(alloc, scene.graph(), effects, FRAME, FRAME)?;
+    Ok(life)
+}
+
 // What each effect notes.
 #[derive(Drop)]
 struct Plugins {
@@ -123,12 +148,12 @@ struct Plugins {
 impl Plugins {
     // Nothing is noted yet. The first call of the fully safe effect is to look for another one for so many turns, and
     // each call of the others for so many.
-    fn new(alloc: Global, at_first: u32, a_while: u32) -> Result<Plugins, AllocError> {
-        Ok(Plugins {
-            single: Notes::new(alloc, a_while, a_while)?,
-            instance: Notes::new(alloc, a_while, a_while)?,
-            fully: Notes::new(alloc, at_first, 0)?,
-        })
+    fn new(rt: &(impl Abort + AllocGlobal), at_first: u32, a_while: u32) -> Plugins {
+        Plugins {
+            single: Notes::new(rt, a_while, a_while),
+            instance: Notes::new(rt, a_while, a_while),
+            fully: Notes::new(rt, at_first, 0),
+        }
     }
 
     // The effects, which note here.
@@ -153,13 +178,13 @@ impl Plugins {
     }
 
     // Whether the actions on each are a life.
-    fn are_lawful(&self, alloc: Global) -> Result<bool, AllocError> {
+    fn are_lawful(&self, rt: &(impl Abort + AllocGlobal)) -> bool {
         for notes in [&self.single, &self.instance, &self.fully] {
-            if !is_lawful(&notes.numbers(alloc)?) {
-                return Ok(false);
+            if !is_lawful(&notes.numbers(rt)) {
+                return false;
             }
         }
-        Ok(true)
+        true
     }
 
     // How many calls began.
@@ -177,22 +202,23 @@ struct Outcome {
 }
 
 // What comes of the frame by so many workers, over effects that are handed in.
-fn rendered<'a, R: Threads + Wait + Clock + Sync>(
+fn rendered<'a, R: Threads + Wait + Clock + Abort + AllocGlobal + Sync>(
     rt: &R,
-    alloc: Global,
     graph: Graph<Counted<'a>>,
     effects: Vec<Counted<'a>>,
     workers: u32,
-) -> Result<Outcome, Memory>
+) -> Outcome
     requires effects { map (λ e. counted_number e.safety) effects.items ≡ 0 ∷ 1 ∷ 2 ∷ [] }
     requires workers { (1 ≤ workers) × (workers ≤ 64) }
 {
-    let store = store(alloc, &graph)?;
-    let (scene, permit) = Scene::new(graph, store, 7);
+    let alloc = rt.alloc();
+    let (scene, permit) = scene_of(alloc, graph).expect(rt, "no scene");
+    let life = life_of(alloc, &scene, effects).expect(rt, "no life");
     let grid = Grid { side: TILE };
-    let (shared, mut first) = Shared::new(alloc, &scene, permit, 9, 0, grid)?;
-    let seats = shared.split(alloc, &mut first, workers)?;
-    let life = Life::start(alloc, scene.graph(), effects, FRAME, FRAME)?;
+    let directory = Shared::new(alloc, &scene, permit, 9, 0, grid);
+    let (shared, mut first) = directory.expect(rt, "no directory");
+    let split = shared.split(alloc, &mut first, workers);
+    let seats = split.expect(rt, "no seats");
     let outcome = render_moment(rt, alloc, &FreePace, &scene, &life, &shared, seats, TIME);
     life.finish();
     match outcome {
@@ -202,29 +228,29 @@ fn rendered<'a, R: Threads + Wait + Clock + Sync>(
                 count,
                 seats,
             } = rendered;
-            let totals = closed(alloc, shared, first, seats)?;
+            let totals = closed(rt, shared, first, seats);
             let made = Ok((picture, count));
-            Ok(Outcome { made, totals })
+            Outcome { made, totals }
         }
         Err((seats, memory)) => {
-            let totals = closed(alloc, shared, first, seats)?;
+            let totals = closed(rt, shared, first, seats);
             let made = Err(memory);
-            Ok(Outcome { made, totals })
+            Outcome { made, totals }
         }
     }
 }
 
 // The counts of the directory, once all its seats are joined.
 fn closed<'a>(
-    alloc: Global,
+    rt: &(impl Abort + AllocGlobal),
     shared: Shared<Counted<'a>>,
     mut first: TileSeat<Counted<'a>>,
     seats: Vec<TileSeat<Counted<'a>>>,
-) -> Result<Totals, Memory>
+) -> Totals
     requires { AreAll shared first seats.items }
 {
     shared.join(&mut first, seats);
-    shared.close(alloc, first)
+    shared.close(rt.alloc(), first).expect(rt, "no totals")
 }
 
 // Each pixel of the picture is that of the source at its place.
@@ -238,24 +264,21 @@ fn shows_the_source<R: Abort>(rt: &R, picture: &Image) {
     }
 }
 
-// What comes of the frame by four workers, over effects that note here.
-fn by_four<R: Threads + Wait + Clock + Sync>(
+// What comes of the frame of a graph by four workers, over effects that note here.
+fn by_four<R: Threads + Wait + Clock + Abort + AllocGlobal + Sync>(
     rt: &R,
-    alloc: Global,
+    text: &str,
     plugins: &Plugins,
-) -> Result<Outcome, Memory> {
-    let graph = graph(alloc).ok().ok_or(Memory)?;
-    rendered(rt, alloc, graph, plugins.effects(alloc)?, 4)
+) -> Outcome {
+    let graph = graph_of(rt.alloc(), text).ok().expect(rt, "refused");
+    let effects = plugins.effects(rt.alloc()).expect(rt, "no effects");
+    rendered(rt, graph, effects, 4)
 }
 
 // Each render that landed is a call, in the order of life and under the gate of its node.
-fn are_called<R: Threads + Wait + Clock + Abort + Sync>(
-    rt: &R,
-    alloc: Global,
-    plugins: &Plugins,
-) -> Result<(), Fail> {
-    let Outcome { made, totals } = by_four(rt, alloc, plugins)?;
-    let (picture, count) = made?;
+fn are_called<R: Threads + Wait + Clock + Abort + AllocGlobal + Sync>(rt: &R, plugins: &Plugins) {
+    let Outcome { made, totals } = by_four(rt, GRAPH, plugins);
+    let (picture, count) = made.expect(rt, "no picture");
     shows_the_source(rt, &picture);
     same(rt, count, TOTAL);
     same(rt, plugins.calls(), count.landed);
@@ -263,28 +286,22 @@ fn are_called<R: Threads + Wait + Clock + Abort + Sync>(
     for notes in [&plugins.single, &plugins.instance, &plugins.fully] {
         same(rt, notes.calls(), 32);
     }
-    assert!(rt; plugins.are_lawful(alloc)?);
+    assert!(rt; plugins.are_lawful(rt));
     same(rt, plugins.single.most_at_once(), 1);
     same(rt, plugins.instance.most_at_once(), 1);
     assert!(rt; plugins.fully.was_joined());
-    Ok(())
 }
 
 #[test]
-fn effects_are_called_as_they_may_be(rt: HostRuntime) -> Result<(), Fail> {
-    let alloc = rt.alloc();
-    let plugins = Plugins::new(alloc, AT_FIRST, A_WHILE)?;
-    are_called(&rt, alloc, &plugins)
+fn effects_are_called_as_they_may_be(rt: HostRuntime) {
+    let plugins = Plugins::new(&rt, AT_FIRST, A_WHILE);
+    are_called(&rt, &plugins);
 }
 
 // The first call of the first node lacks memory, for which a flight of each node stands.
-fn lacks_memory<R: Threads + Wait + Clock + Abort + Sync>(
-    rt: &R,
-    alloc: Global,
-    plugins: &Plugins,
-) -> Result<(), Fail> {
+fn lacks_memory<R: Threads + Wait + Clock + Abort + AllocGlobal + Sync>(rt: &R, plugins: &Plugins) {
     plugins.single.lack_memory();
-    let Outcome { made, totals } = by_four(rt, alloc, plugins)?;
+    let Outcome { made, totals } = by_four(rt, GRAPH, plugins);
     assert!(rt; made.is_err());
     same(rt, totals.dropped, 6);
     same(
@@ -293,13 +310,11 @@ fn lacks_memory<R: Threads + Wait + Clock + Abort + Sync>(
         totals.landed.wrapping_add(totals.dropped),
     );
     same(rt, plugins.calls(), totals.landed);
-    assert!(rt; plugins.are_lawful(alloc)?);
-    Ok(())
+    assert!(rt; plugins.are_lawful(rt));
 }
 
 #[test]
-fn want_of_memory_drops_its_flights(rt: HostRuntime) -> Result<(), Fail> {
-    let alloc = rt.alloc();
-    let plugins = Plugins::new(alloc, 0, 0)?;
-    lacks_memory(&rt, alloc, &plugins)
+fn want_of_memory_drops_its_flights(rt: HostRuntime) {
+    let plugins = Plugins::new(&rt, 0, 0);
+    lacks_memory(&rt, &plugins);
 }

@@ -4,22 +4,17 @@ ghost use Rattle.fx_units_graphs.specs.TileCounting.{counted_number};
 
 use crate::same::{same, same_at};
 use crate::tile::counting::effect::Counted;
-use crate::tile::counting::{FRAME, Plugins, TILE, TIME, store};
-use fx_base::{Grid, Memory, Rect};
+use crate::tile::counting::{Plugins, TILE, TIME, graph_of, life_of, scene_of};
+use fx_base::{Grid, Rect};
 use fx_core::Totals;
-use fx_graph::{Graph, accept};
+use fx_graph::Graph;
 use fx_image::Image;
-use fx_life::Life;
 use fx_pixel::{Components, Depth, Format, Pixel};
 use fx_region::Regions;
-use fx_scene::Scene;
-use fx_text::{GraphFault, read_graph};
 use fx_tile::{Shared, TileCount, window_tile};
-use std::alloc::Global;
 use std::process::Abort;
 use std::rt::Clock;
 use std::sync::Wait;
-use std::test::Fail;
 
 // A source under a node of the fully safe effect, which is the output.
 const GRAPH: &str = r#"{
@@ -50,43 +45,39 @@ const ONCE: TileCount = TileCount {
     hits: 0,
 };
 
-fn graph<'a>(alloc: Global) -> Result<Graph<Counted<'a>>, GraphFault> {
-    let raw = read_graph(alloc, GRAPH.as_bytes(), 16, 8192)?;
-    accept(alloc, raw)
-}
-
 // An image as large as the picture in which one of its tiles was written, what became of the tile, and the counts of
 // the directories.
-fn tile_alone<'a, R: Wait + Clock>(
+fn tile_alone<'a, R: Wait + Clock + Abort + AllocGlobal>(
     rt: &R,
-    alloc: Global,
     graph: Graph<Counted<'a>>,
     effects: Vec<Counted<'a>>,
-) -> Result<(Image, TileCount, Totals), Memory>
+) -> (Image, TileCount, Totals)
     requires { map (λ e. counted_number e.safety) effects.items ≡ 0 ∷ 1 ∷ 2 ∷ [] }
 {
-    let store = store(alloc, &graph)?;
-    let (scene, permit) = Scene::new(graph, store, 7);
+    let alloc = rt.alloc();
+    let (scene, permit) = scene_of(alloc, graph).expect(rt, "no scene");
     let tile = Rect::of(2, 4, 4, 6);
     let (depth, format) = (scene.graph().depth, scene.graph().format);
     if !tile.within(scene.graph().project) || depth != Depth::Byte || format != Format::RgbAlpha {
-        return Err(Memory);
+        panic!(rt; "not the picture");
     }
-    let regions = Regions::of(alloc, &scene, TIME)?;
+    let life = life_of(alloc, &scene, effects).expect(rt, "no life");
+    let regions = Regions::of(alloc, &scene, TIME).expect(rt, "no regions");
     let grid = Grid { side: TILE };
-    let (shared, mut seat) = Shared::new(alloc, &scene, permit, 9, 0, grid)?;
+    let directory = Shared::new(alloc, &scene, permit, 9, 0, grid);
+    let (shared, mut seat) = directory.expect(rt, "no directory");
     let whole = Rect::of(0, 0, 8, 8);
-    let mut image = Image::new(alloc, whole, Depth::Byte, Components::Rgba, 32)?;
+    let blank = Image::new(alloc, whole, Depth::Byte, Components::Rgba, 32);
+    let mut image = blank.expect(rt, "no image");
     let mut part = image.part(whole);
-    let life = Life::start(alloc, scene.graph(), effects, FRAME, FRAME)?;
     let count = window_tile(
         rt, alloc, &scene, &regions, &life, &shared, &mut seat, TIME, tile, &mut part,
     );
     life.finish();
     seat.directory.finds_none();
     seat.wholes.finds_none();
-    let totals = shared.close(alloc, seat)?;
-    Ok((image, count?, totals))
+    let totals = shared.close(alloc, seat).expect(rt, "no totals");
+    (image, count.expect(rt, "no count"), totals)
 }
 
 // The pixel of a place: that of the source in the tile, and else the one that was there before.
@@ -104,13 +95,10 @@ fn wanted_at(x: i64, y: i64) -> Pixel {
     Pixel::zero(Components::Rgba)
 }
 
-fn is_written_alone<R: Wait + Clock + Abort>(
-    rt: &R,
-    alloc: Global,
-    plugins: &Plugins,
-) -> Result<(), Fail> {
-    let graph = graph(alloc).ok().ok_or(Memory)?;
-    let (image, count, totals) = tile_alone(rt, alloc, graph, plugins.effects(alloc)?)?;
+fn is_written_alone<R: Wait + Clock + Abort + AllocGlobal>(rt: &R, plugins: &Plugins) {
+    let graph = graph_of(rt.alloc(), GRAPH).ok().expect(rt, "refused");
+    let effects = plugins.effects(rt.alloc()).expect(rt, "no effects");
+    let (image, count, totals) = tile_alone(rt, graph, effects);
     for y in 0..8 {
         for x in 0..8 {
             same_at(rt, &(x, y), image.at(x, y), wanted_at(x, y));
@@ -119,12 +107,10 @@ fn is_written_alone<R: Wait + Clock + Abort>(
     same(rt, count, ONCE);
     same(rt, (totals.landed, totals.hits), (1, 0));
     same(rt, plugins.calls(), 1);
-    Ok(())
 }
 
 #[test]
-fn a_tile_is_shown_alone(rt: HostRuntime) -> Result<(), Fail> {
-    let alloc = rt.alloc();
-    let plugins = Plugins::new(alloc, 0, 0)?;
-    is_written_alone(&rt, alloc, &plugins)
+fn a_tile_is_shown_alone(rt: HostRuntime) {
+    let plugins = Plugins::new(&rt, 0, 0);
+    is_written_alone(&rt, &plugins);
 }

@@ -1,16 +1,10 @@
 //! Renders of nodes that have gates: what they read is there before the gate is held.
 use crate::same::same;
-use crate::tile::counting::effect::Counted;
-use crate::tile::counting::{A_WHILE, AT_FIRST, Outcome, Plugins, rendered, shows_the_source};
-use fx_base::Memory;
-use fx_graph::{Graph, accept};
-use fx_text::{GraphFault, read_graph};
+use crate::tile::counting::{A_WHILE, AT_FIRST, Outcome, Plugins, by_four, shows_the_source};
 use fx_tile::TileCount;
-use std::alloc::Global;
 use std::process::Abort;
 use std::rt::Clock;
 use std::sync::Wait;
-use std::test::Fail;
 use std::thread::Threads;
 
 // The effects of which no two calls may be under way at once.
@@ -26,42 +20,30 @@ const TOTAL: TileCount = TileCount {
 };
 
 // A source under a node of the fully safe effect, which the output reads.
-fn graph_of<'a>(alloc: Global, gated: &str) -> Result<Graph<Counted<'a>>, GraphFault> {
+fn text_of(rt: &(impl Abort + AllocGlobal), gated: &str) -> String {
+    let alloc = rt.alloc();
     let project = r#""project":{"width":8,"height":8,"depth":"byte","components":"RGBA"}"#;
     let output = r#""output":{"node":"b","file":"o#.pam","format":"RGB_ALPHA"}"#;
     let range = r#""range":{"first":3,"last":3}"#;
-    let head = format!(in alloc; "\"ofxr\":1,{project},{output},{range}")?;
+    let head = format!(in alloc; "\"ofxr\":1,{project},{output},{range}").expect(rt, "no head");
     let source = r#"{"name":"s","source":"s.pam","first":3,"last":3}"#;
     let read = r#"{"name":"a","effect":"fully","clips":{"Source":"s"}}"#;
     let shown = format!(in alloc;
         "\"name\":\"b\",\"effect\":\"{gated}\",\"clips\":{{\"Source\":\"a\"}}"
-    )?;
-    let text = format!(in alloc; "{{{head},\"nodes\":[{source},{read},{{{shown}}}]}}")?;
-    let raw = read_graph(alloc, text.as_bytes(), 16, 8192)?;
-    accept(alloc, raw)
-}
-
-// What comes of the frame by four workers.
-fn by_four<R: Threads + Wait + Clock + Sync>(
-    rt: &R,
-    alloc: Global,
-    gated: &str,
-    plugins: &Plugins,
-) -> Result<Outcome, Memory> {
-    let graph = graph_of(alloc, gated).ok().ok_or(Memory)?;
-    rendered(rt, alloc, graph, plugins.effects(alloc)?, 4)
+    ).expect(rt, "no node");
+    format!(in alloc; "{{{head},\"nodes\":[{source},{read},{{{shown}}}]}}").expect(rt, "no text")
 }
 
 // Two calls of the fully safe effect meet. None could begin beside another if whoever made it held the gate of the
 // output, for which it renders, since only one at a time has that.
-fn inputs_meet<R: Threads + Wait + Clock + Abort + Sync>(
+fn inputs_meet<R: Threads + Wait + Clock + Abort + AllocGlobal + Sync>(
     rt: &R,
-    alloc: Global,
     gated: &str,
     plugins: &Plugins,
-) -> Result<(), Fail> {
-    let Outcome { made, totals } = by_four(rt, alloc, gated, plugins)?;
-    let (picture, count) = made?;
+) {
+    let text = text_of(rt, gated);
+    let Outcome { made, totals } = by_four(rt, text.as_str(), plugins);
+    let (picture, count) = made.expect(rt, "no picture");
     assert!(rt; plugins.fully.was_joined(), "under {gated}");
     shows_the_source(rt, &picture);
     same(rt, count, TOTAL);
@@ -75,15 +57,12 @@ fn inputs_meet<R: Threads + Wait + Clock + Abort + Sync>(
             .max(plugins.instance.most_at_once()),
         1,
     );
-    Ok(())
 }
 
 #[test]
-fn inputs_are_fetched_before_a_gate_is_held(rt: HostRuntime) -> Result<(), Fail> {
-    let alloc = rt.alloc();
+fn inputs_are_fetched_before_a_gate_is_held(rt: HostRuntime) {
     for gated in GATED {
-        let plugins = Plugins::new(alloc, AT_FIRST, A_WHILE)?;
-        inputs_meet(&rt, alloc, gated, &plugins)?;
+        let plugins = Plugins::new(&rt, AT_FIRST, A_WHILE);
+        inputs_meet(&rt, gated, &plugins);
     }
-    Ok(())
 }

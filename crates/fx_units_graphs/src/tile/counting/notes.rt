@@ -1,7 +1,7 @@
 //! What an effect notes of its actions, and counts of its calls.
 use crate::tile::counting::course::Action;
 use fx_base::Memory;
-use std::alloc::{AllocError, Global};
+use std::process::Abort;
 use std::sync::atomic::{AtomicBool, AtomicU64, Ordering};
 use std::thread;
 
@@ -29,12 +29,12 @@ pub(crate) struct Notes {
 impl Notes {
     /// Nothing is noted yet. The first call of render is to look for another one for so many turns, and each later
     /// one for so many.
-    pub(crate) fn new(alloc: Global, at_first: u32, later: u32) -> Result<Notes, AllocError> {
-        let mut actions = Vec::new(alloc);
+    pub(crate) fn new(rt: &(impl Abort + AllocGlobal), at_first: u32, later: u32) -> Notes {
+        let mut actions = Vec::new(rt.alloc());
         for _ in 0..ROOM {
-            actions.push(AtomicU64::new(0))?;
+            actions.push(AtomicU64::new(0)).expect(rt, "no room");
         }
-        Ok(Notes {
+        Notes {
             actions,
             noted: AtomicU64::new(0),
             first: Gauge::new(),
@@ -43,7 +43,7 @@ impl Notes {
             later,
             was_joined: AtomicBool::new(false),
             lacks_memory: AtomicBool::new(false),
-        })
+        }
     }
 
     /// The next call of render is to lack memory.
@@ -60,13 +60,14 @@ impl Notes {
     }
 
     /// The numbers of the actions, and 0 for each that had no room.
-    pub(crate) fn numbers(&self, alloc: Global) -> Result<Vec<u64>, AllocError> {
-        let mut numbers = Vec::new(alloc);
+    pub(crate) fn numbers(&self, rt: &(impl Abort + AllocGlobal)) -> Vec<u64> {
+        let mut numbers = Vec::new(rt.alloc());
         for place in 0..self.noted.load(Ordering::SeqCst) {
             let slot = self.actions.get(place as usize);
-            numbers.push(slot.map_or(0, |slot| slot.load(Ordering::SeqCst)))?;
+            let number = slot.map_or(0, |slot| slot.load(Ordering::SeqCst));
+            numbers.push(number).expect(rt, "no number");
         }
-        Ok(numbers)
+        numbers
     }
 
     /// Notes and counts a call of render that begins, by the first instance or the second, and looks whether another

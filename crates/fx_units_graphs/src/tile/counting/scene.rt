@@ -1,15 +1,15 @@
 //! The parts of a scene, what its nodes are asked with, and what a region is kept under.
 use crate::same::{same, same_at};
 use crate::tile::counting::effect::Counted;
-use crate::tile::counting::{graph, store};
+use crate::tile::counting::{GRAPH, graph_of, scene_of};
 use fx_base::{Memory, Rect};
 use fx_core::Permit;
 use fx_effect::Values;
 use fx_scene::laws::scene_nodes;
 use fx_scene::{Key, Scene};
 use std::alloc::Global;
+use std::process::Abort;
 use std::sync::Arc;
-use std::test::Fail;
 
 const WHOLE: Rect = Rect {
     x1: 0,
@@ -26,10 +26,9 @@ const PART: Rect = Rect {
 };
 
 // The scene of the number 7.
-fn scene<'a>(alloc: Global) -> Result<(Scene<Counted<'a>>, Permit), Memory> {
-    let graph = graph(alloc).ok().ok_or(Memory)?;
-    let store = store(alloc, &graph)?;
-    Ok(Scene::new(graph, store, 7))
+fn scene<'a>(rt: &(impl Abort + AllocGlobal)) -> (Scene<Counted<'a>>, Permit) {
+    let graph = graph_of(rt.alloc(), GRAPH).ok().expect(rt, "refused");
+    scene_of(rt.alloc(), graph).expect(rt, "no scene")
 }
 
 // What a node is asked with, where it is one of the scene's.
@@ -60,15 +59,13 @@ fn key_of(
 }
 
 #[test]
-fn a_scene_has_its_parts(rt: HostRuntime) -> Result<(), Fail> {
-    let alloc = rt.alloc();
-    let (scene, permit) = scene(alloc)?;
+fn a_scene_has_its_parts(rt: HostRuntime) {
+    let (scene, permit) = scene(&rt);
     scene_nodes(&scene);
     same(&rt, (permit.scene, scene.number()), (7, 7));
     same(&rt, scene.graph().output, 6);
     same(&rt, scene.store().frame(0, 3).is_some(), true);
     same(&rt, scene.store().frame(0, 4).is_some(), false);
-    Ok(())
 }
 
 // A node, its frame, and the parameters' numbers and the connected clips that it is asked with.
@@ -82,24 +79,21 @@ const ASKED: &[(u32, i64, &[i64], &[bool])] = &[
 ];
 
 #[test]
-fn a_node_is_asked_with_its_values(rt: HostRuntime) -> Result<(), Fail> {
-    let alloc = rt.alloc();
-    let (scene, _) = scene(alloc)?;
+fn a_node_is_asked_with_its_values(rt: HostRuntime) {
+    let (scene, _) = scene(&rt);
     for (node, frame, numbers, connected) in ASKED {
-        let values = asked(alloc, &scene, *node, *frame)?;
+        let values = asked(rt.alloc(), &scene, *node, *frame).expect(&rt, "no values");
         same_at(&rt, &node, values.frame, *frame);
         same_at(&rt, &node, values.numbers.items(), *numbers);
         same_at(&rt, &node, values.connected.items(), *connected);
         same_at(&rt, &node, values.project, WHOLE);
     }
-    Ok(())
 }
 
 #[test]
-fn a_region_has_its_key(rt: HostRuntime) -> Result<(), Fail> {
-    let alloc = rt.alloc();
-    let (scene, _) = scene(alloc)?;
-    let key = key_of(alloc, &scene, 4, 3, PART)?;
+fn a_region_has_its_key(rt: HostRuntime) {
+    let (scene, _) = scene(&rt);
+    let key = key_of(rt.alloc(), &scene, 4, 3, PART).expect(&rt, "no key");
     same(
         &rt,
         (key.node, key.frame, key.region, key.era),
@@ -114,8 +108,7 @@ fn a_region_has_its_key(rt: HostRuntime) -> Result<(), Fail> {
         (4, 3, WHOLE, false),
     ];
     for (node, frame, region, is_same) in others {
-        let other = key_of(alloc, &scene, node, frame, region)?;
+        let other = key_of(rt.alloc(), &scene, node, frame, region).expect(&rt, "no key");
         same_at(&rt, &(node, frame, region), other == key, is_same);
     }
-    Ok(())
 }

@@ -1,4 +1,4 @@
-use Rattle.std.proofs.Common.{◌≡◌, List, sym, subst, pos}
+use Rattle.std.proofs.Common.{List, sym, subst, pos}
 use Rattle.fx_effect.specs.Meaning.{Meaning}
 use Rattle.fx_graph.specs.Shown.{GraphShown}
 use Rattle.fx_scene.specs.Scenes.{graph_nodes, graph_shown, no_images}

@@ -1,6 +1,5 @@
 use Rattle.std.proofs.Common.{◌≡◌, ◌∙◌, refl, ap, pos, subst, sym, inr, arith, rules}
 use denote.Enum.Bare.{differs_false}
-use Rattle.std.specs.List.{Contains}
 use Rattle.std.proofs.lemmas.Int.{ints}
 use Rattle.fx_base.specs.Bounds.{Bounds}
 use Rattle.fx_base.specs.Rect.{IsWithin}
@@ -11,13 +10,8 @@ use Rattle.fx_pixel.specs.declared.Depth.TheVariants.{Byte}
 use Rattle.fx_pixel.specs.declared.Format.TheVariants.{RgbAlpha}
 use Rattle.fx_image.specs.Stored.{Stored}
 use Rattle.fx_graph.specs.Shown.{GraphShown}
-use Rattle.fx_scene.specs.Right.{HasWanted}
-use Rattle.fx_scene.specs.Scenes.{Shot, images_in}
-use Rattle.fx_life.proofs.LifeLemmas.{started_life}
 use Rattle.fx_tile.specs.Tiles.{IsRegion}
-use Rattle.fx_units_graphs.specs.TileCounting.{counted, counted_number}
 use Rattle.fx_units_graphs.specs.declared.tile.counting.effect.Counted.{Counted}
-use Rattle.fx_units_graphs.proofs.TileCountingLemmas.{among_three, apart_by}
 use Rattle.fx_units_graphs.proofs.tile.counting.alone.tile_alone.Goals as goal
 
 -- the tile, and the rectangle of the image
@@ -52,23 +46,6 @@ tile_inside =
       top = omega (arith, ints);
     })
 
-pub start-requires-clause-numbers : goal.start-requires-clause-numbers
-start-requires-clause-numbers g c = apart_by (λ (e : Counted). counted_number e.safety) c.args.effects.items c.requires
-
-pub start-requires-clause-among : goal.start-requires-clause-among
-start-requires-clause-among g c = λ k used at.
-    subst (λ l. Contains l (counted_number used.effect.safety)) (sym c.requires) (among_three used.effect.safety)
-
-pub window_tile-count-requires-clause-life : goal.window_tile-count-requires-clause-life
-window_tile-count-requires-clause-life g c =
-    started_life (λ (e : Counted). counted_number e.safety) c.graph-4.result.now.nodes.items 3 3 c.new-scene.result.0.graph c.in_ok-life.life
-    (ap (λ (s : GraphShown Counted). s.nodes) c.graph-4.ensures.shown) c.in_ok-life.ensures.life
-
-pub window_tile-count-requires-clause-holds : goal.window_tile-count-requires-clause-holds
-window_tile-count-requires-clause-holds g c =
-    subst (λ (s : Shot Counted). HasWanted (λ (e : Counted). counted e.safety) s.graph (images_in s.store) s.graph.output (pos 3))
-    (sym c.new-scene.ensures.scene) c.in_ok-store.ensures
-
 pub window_tile-count-requires-clause-tile : goal.window_tile-count-requires-clause-tile
 window_tile-count-requires-clause-tile g c = subst IsRegion (sym c.of-tile.ensures) tile_is
 
@@ -84,18 +61,18 @@ window_tile-count-requires-clause-within g c =
 pub window_tile-count-requires-clause-depth : goal.window_tile-count-requires-clause-depth
 window_tile-count-requires-clause-depth g c =
     let is : c.graph.result.now.depth ≡ Byte = differs_false depths.the_type (search rules) c.graph.result.now.depth Byte (sym c.if-ne.ensures) in
-    ap (λ (s : Stored). s.depth) c.part-part.ensures.value ∙ c.in_ok-image.ensures.depth ∙ sym is
+    ap (λ (s : Stored). s.depth) c.part-part.ensures.value ∙ (rw c.expect-image.ensures at c.new-blank.ensures.depth) ∙ sym is
     ∙ ap (λ (s : GraphShown Counted). s.depth) c.graph.ensures.shown
 
 pub window_tile-count-requires-clause-components : goal.window_tile-count-requires-clause-components
 window_tile-count-requires-clause-components g c =
     let is : c.graph-2.result.now.format ≡ RgbAlpha = differs_false formats.the_type (search rules) c.graph-2.result.now.format RgbAlpha (sym c.if-ne-2.ensures) in
-    let shown : c.new-scene.result.0.graph.format ≡ RgbAlpha = ap (λ (s : GraphShown Counted). s.format) (sym c.graph-2.ensures.shown) ∙ is in
-    rw shown (ap (λ (s : Stored). s.components) c.part-part.ensures.value ∙ c.in_ok-image.ensures.components)
+    let shown : c.expect-scene.result.0.graph.format ≡ RgbAlpha = ap (λ (s : GraphShown Counted). s.format) (sym c.graph-2.ensures.shown) ∙ is in
+    rw shown (ap (λ (s : Stored). s.components) c.part-part.ensures.value ∙ (rw c.expect-image.ensures at c.new-blank.ensures.components))
 
 pub close-requires : goal.close-requires
 close-requires g c =
-    let all = c.in_ok-shared.ensures.first in
+    let all = rw c.expect-shared.ensures at c.new-directory.ensures.first in
     let was = all.first_is in
     let keeps = c.window_tile-count.ensures.seat in
     let rows = keeps.rows in
