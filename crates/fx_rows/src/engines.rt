@@ -16,14 +16,14 @@ use fx_image::Image;
 use fx_life::Life;
 use fx_outside::{FreePace, SureLibrary};
 use fx_scene::{Key, Scene, wants};
-use fx_seq::Store;
+use fx_seq::{SeqFault, Store};
 use fx_shipped::{Shipped, all_effects};
 use fx_text::{GraphFault, read_graph};
 use fx_tile::{Rendered, Shared, TileCount, render_moment};
 use std::alloc::Global;
+use std::process::Abort;
 use std::rt::Clock;
 use std::sync::Wait;
-use std::test::Fail;
 use std::thread::Threads;
 
 /// The side of a tile, from 1 to 1,024 pixels, how many tiles may be kept, and as many whole images, and how many workers
@@ -42,18 +42,18 @@ fn graph_of(alloc: Global, text: &str) -> Result<Graph<Shipped>, GraphFault> {
 
 // The graph of a text with the frames that it wants at a frame.
 fn scene_of(
-    alloc: Global,
+    rt: &(impl Abort + AllocGlobal),
     library: &mut SureLibrary,
     text: &str,
     at: u32,
-) -> Result<(Scene<Shipped>, Permit), Fail>
+) -> (Scene<Shipped>, Permit)
     requires { at ≤ 999999 }
-    ensures { IfOk result (λ r.
-        HasWanted meaning_of r.0.graph (images_in r.0.store) r.0.graph.output (pos at)) }
+    ensures { let scene = result.0 in
+        HasWanted meaning_of scene.graph (images_in scene.store) scene.graph.output (pos at) }
 {
-    let graph = graph_of(alloc, text).ok().ok_or("the graph is refused")?;
-    let store = store_of(alloc, library, &graph, at)?;
-    Ok(Scene::new(graph, store, 7))
+    let graph = graph_of(rt.alloc(), text).expect(rt, "the graph is refused");
+    let store = store_of(rt.alloc(), library, &graph, at).expect(rt, "no frames");
+    Scene::new(graph, store, 7)
 }
 
 // The frames that a graph wants at a frame.
@@ -62,16 +62,14 @@ fn store_of(
     library: &mut SureLibrary,
     graph: &Graph<Shipped>,
     at: u32,
-) -> Result<Store, Fail>
+) -> Result<Store, SeqFault>
     requires { at ≤ 999999 }
     ensures { let g = graph_shown graph.now in
         IfOk result (λ store. HasWanted meaning_of g (images_in store) g.output (pos at)) }
 {
     let wanted = wants(alloc, graph, at, at)?;
-    match Store::fill(alloc, library, &wanted, 100_000_000, 4096) {
-        Ok(store) => Ok(store),
-        Err(_) => Err(Fail::from("a frame is refused")),
-    }
+    let store = Store::fill(alloc, library, &wanted, 100_000_000, 4096)?;
+    Ok(store)
 }
 
 // The life of a scene's graph over the frames that the tests render.
@@ -101,62 +99,60 @@ fn empty_core(alloc: Global, permit: Permit) -> Result<Core<Key, Image>, Memory>
 }
 
 /// The picture of a frame by whole frames.
-pub(crate) fn by_frames<R: Wait + Clock>(
+pub(crate) fn by_frames<R: Wait + Clock + Abort + AllocGlobal>(
     rt: &R,
-    alloc: Global,
     library: &mut SureLibrary,
     text: &str,
     at: u32,
-) -> Result<Image, Fail>
+) -> Image
     requires { at ≤ 999999 }
 {
-    let (scene, permit) = scene_of(alloc, library, text, at)?;
-    let mut core = empty_core(alloc, permit)?;
-    let (gates, mut seat) = gates_for(alloc, scene.graph())?;
-    let life = life_of(alloc, &scene)?;
+    let alloc = rt.alloc();
+    let (scene, permit) = scene_of(rt, library, text, at);
+    let mut core = empty_core(alloc, permit).expect(rt, "no core");
+    let (gates, mut seat) = gates_for(alloc, scene.graph()).expect(rt, "no gates");
+    let life = life_of(alloc, &scene).expect(rt, "no life");
     let at = i64::from(at);
     let picture = frame(rt, alloc, &scene, &life, &mut core, &gates, &mut seat, at);
     life.finish();
-    Ok(picture?)
+    picture.expect(rt, "no picture")
 }
 
-fn grid_of(side: u32) -> Result<Grid, Fail> {
-    if side == 0 || side > 1024 {
-        return Err(Fail::from("no side of a tile"));
-    }
-    Ok(Grid { side })
+fn grid_of(rt: &impl Abort, side: u32) -> Grid {
+    assert!(rt; 1 <= side);
+    assert!(rt; side <= 1024);
+    Grid { side }
 }
 
 /// The picture of a frame by tiles, and what became of them.
-pub(crate) fn by_tiles<R: Threads + Wait + Clock + Sync>(
+pub(crate) fn by_tiles<R: Threads + Wait + Clock + Sync + Abort + AllocGlobal>(
     rt: &R,
-    alloc: Global,
     library: &mut SureLibrary,
     text: &str,
     at: u32,
     engine: Engine,
-) -> Result<(Image, TileCount), Fail>
+) -> (Image, TileCount)
     requires at { at ≤ 999999 }
     requires workers { (1 ≤ engine.workers) × (engine.workers ≤ 64) }
 {
-    let (scene, permit) = scene_of(alloc, library, text, at)?;
-    let grid = grid_of(engine.side)?;
+    let alloc = rt.alloc();
+    let (scene, permit) = scene_of(rt, library, text, at);
+    let grid = grid_of(rt, engine.side);
     let cache = engine.cache;
-    let (shared, mut first) = Shared::new(alloc, &scene, permit, cache, cache, grid)?;
-    let seats = shared.split(alloc, &mut first, engine.workers)?;
-    let life = life_of(alloc, &scene)?;
+    let shared = Shared::new(alloc, &scene, permit, cache, cache, grid);
+    let (shared, mut first) = shared.expect(rt, "no tiles");
+    let seats = shared.split(alloc, &mut first, engine.workers);
+    let seats = seats.expect(rt, "no seats");
+    let life = life_of(alloc, &scene).expect(rt, "no life");
     let at = i64::from(at);
     let made = render_moment(rt, alloc, &FreePace, &scene, &life, &shared, seats, at);
     life.finish();
-    let Ok(made) = made else {
-        return Err(Fail::from(Memory));
-    };
     let Rendered {
         picture,
         count,
         seats: _,
-    } = made;
-    Ok((picture, count))
+    } = made.ok().expect(rt, "no picture");
+    (picture, count)
 }
 
 /// Whether two pictures are the same, pixel for pixel.

@@ -3,8 +3,7 @@ ghost use Rattle.std.specs.Prelude.{◌<◌, ◌≤◌};
 
 use crate::worked::Whole;
 use fx_base::Name;
-use std::alloc::Global;
-use std::test::Fail;
+use std::process::Abort;
 
 // Numbers drawn from a number, by a linear congruential generator of 32 bits.
 #[derive(Drop)]
@@ -24,10 +23,9 @@ impl Draws {
     }
 
     // One of these.
-    fn one_of<T: Copy>(&mut self, choices: &[T]) -> Result<T, Fail> {
+    fn one_of<T: Copy>(&mut self, rt: &impl Abort, choices: &[T]) -> T {
         let index = self.below(65536) as usize % choices.len().max(1);
-        let choice = choices.get(index).ok_or("nothing to choose from")?;
-        Ok(*choice)
+        *choices.get(index).expect(rt, "nothing to choose from")
     }
 }
 
@@ -167,116 +165,132 @@ const MEMBERS: &[&str] = &[
 ];
 
 // Appends a member to those of an object.
-fn add_member(alloc: Global, members: &mut String, name: &str, value: &str) -> Result<(), Fail> {
+fn add_member(rt: &(impl Abort + AllocGlobal), members: &mut String, name: &str, value: &str) {
     let comma = if members.is_empty() { "" } else { "," };
-    let member = format!(in alloc; r#"{comma}"{name}":{value}"#)?;
-    members.push_str(member.as_str())?;
-    Ok(())
+    let member = format!(in rt.alloc(); r#"{comma}"{name}":{value}"#);
+    let member = member.expect(rt, "no text");
+    members.push_str(member.as_str()).expect(rt, "no text");
 }
 
 // The clips of a node of this number: the first is the node before it, each other one is any that stands before it.
-fn clips_text(alloc: Global, draws: &mut Draws, number: u32, clips: &[&str]) -> Result<String, Fail>
+fn clips_text(
+    rt: &(impl Abort + AllocGlobal),
+    draws: &mut Draws,
+    number: u32,
+    clips: &[&str],
+) -> String
     requires { 1 ≤ number }
 {
-    let mut members = String::new(alloc);
+    let mut members = String::new(rt.alloc());
     let mut node = number - 1;
     for clip in clips {
-        let value = format!(in alloc; r#""{node}""#)?;
-        add_member(alloc, &mut members, clip, value.as_str())?;
+        let value = format!(in rt.alloc(); r#""{node}""#).expect(rt, "no text");
+        add_member(rt, &mut members, clip, value.as_str());
         node = draws.below(number);
     }
-    Ok(members)
+    members
 }
 
-fn params_text(alloc: Global, draws: &mut Draws, params: &[Param]) -> Result<String, Fail> {
-    let mut members = String::new(alloc);
+fn params_text(rt: &(impl Abort + AllocGlobal), draws: &mut Draws, params: &[Param]) -> String {
+    let mut members = String::new(rt.alloc());
     for &(name, values) in params {
-        let value = draws.one_of(values)?;
-        add_member(alloc, &mut members, name, value)?;
+        let value = draws.one_of(rt, values);
+        add_member(rt, &mut members, name, value);
     }
-    Ok(members)
+    members
 }
 
 // Appends a node of this number, of any effect.
 fn add_effect(
-    alloc: Global,
+    rt: &(impl Abort + AllocGlobal),
     draws: &mut Draws,
     number: u32,
     name: &str,
     nodes: &mut String,
-) -> Result<(), Fail>
+)
     requires { 1 ≤ number }
 {
-    let (effect, clips, params) = draws.one_of(EFFECTS)?;
-    let clips = clips_text(alloc, draws, number, clips)?;
-    let params = params_text(alloc, draws, params)?;
-    let node = format!(in alloc;
+    let (effect, clips, params) = draws.one_of(rt, EFFECTS);
+    let clips = clips_text(rt, draws, number, clips);
+    let params = params_text(rt, draws, params);
+    let node = format!(in rt.alloc();
         r#",{{"name":"{name}","effect":"{effect}","clips":{{{clips}}},"params":{{{params}}}}}"#
-    )?;
-    nodes.push_str(node.as_str())?;
-    Ok(())
+    ).expect(rt, "no text");
+    nodes.push_str(node.as_str()).expect(rt, "no text");
 }
 
 // A generator, a source of one frame, and one of three.
-fn sources_text(alloc: Global, draws: &mut Draws) -> Result<String, Fail> {
-    let generator = draws.one_of(GENERATORS)?;
-    let still = draws.one_of(MEMBERS)?;
-    let shot = draws.one_of(MEMBERS)?;
-    Ok(format!(in alloc;
+fn sources_text(rt: &(impl Abort + AllocGlobal), draws: &mut Draws) -> String {
+    let generator = draws.one_of(rt, GENERATORS);
+    let still = draws.one_of(rt, MEMBERS);
+    let shot = draws.one_of(rt, MEMBERS);
+    format!(in rt.alloc();
         r#"{{"name":"0","effect":{generator}}},{{"name":"1","source":"t.pam","first":1,"last":1{still}}},{{"name":"2","source":"s#.pam","first":0,"last":2{shot}}}"#
-    )?)
+    ).expect(rt, "no text")
 }
 
 // The sources and so many effects, of which each reads the node before it, and the last is the node n.
-fn nodes_text(alloc: Global, draws: &mut Draws, effects: u32) -> Result<String, Fail>
+fn nodes_text(rt: &(impl Abort + AllocGlobal), draws: &mut Draws, effects: u32) -> String
     requires { (1 ≤ effects) × (effects ≤ 5) }
 {
-    let mut nodes = sources_text(alloc, draws)?;
+    let mut nodes = sources_text(rt, draws);
     for number in 3..effects + 2 {
-        let name = format!(in alloc; "{number}")?;
-        add_effect(alloc, draws, number, name.as_str(), &mut nodes)?;
+        let name = format!(in rt.alloc(); "{number}").expect(rt, "no text");
+        add_effect(rt, draws, number, name.as_str(), &mut nodes);
     }
-    add_effect(alloc, draws, effects + 2, "n", &mut nodes)?;
-    Ok(nodes)
+    add_effect(rt, draws, effects + 2, "n", &mut nodes);
+    nodes
 }
 
 // The graph's text, over a picture of 5 to 24 pixels by 5 to 12, lying or standing.
-fn graph_text(alloc: Global, draws: &mut Draws, effects: u32) -> Result<String, Fail>
+fn graph_text(rt: &(impl Abort + AllocGlobal), draws: &mut Draws, effects: u32) -> String
     requires { (1 ≤ effects) × (effects ≤ 5) }
 {
     let (long, short) = (5 + draws.below(20), 5 + draws.below(8));
-    let (width, height) = draws.one_of(&[(long, short), (short, long)])?;
-    let depth = draws.one_of(DEPTHS)?;
-    let components = draws.one_of(COMPONENTS)?;
-    let format = draws.one_of(&["RGB_ALPHA", "RGB", "GRAYSCALE"])?;
-    let project = format!(in alloc;
+    let (width, height) = draws.one_of(rt, &[(long, short), (short, long)]);
+    let depth = draws.one_of(rt, DEPTHS);
+    let components = draws.one_of(rt, COMPONENTS);
+    let format = draws.one_of(rt, &["RGB_ALPHA", "RGB", "GRAYSCALE"]);
+    let project = format!(in rt.alloc();
         r#""width":{width},"height":{height},"depth":"{depth}","components":"{components}""#
-    )?;
-    let nodes = nodes_text(alloc, draws, effects)?;
+    ).expect(rt, "no text");
+    let nodes = nodes_text(rt, draws, effects);
     let whole = Whole {
         project: project.as_str(),
         format,
         last: 2,
         nodes: nodes.as_str(),
     };
-    Ok(whole.text(alloc)?)
+    whole.text(rt)
 }
 
-// A file of 1 to 24 pixels a side, of any depth, with samples of one byte or two.
-fn file(alloc: Global, draws: &mut Draws, name: &str) -> Result<(Name, Vec<u8>), Fail> {
+// The bytes of a file of 1 to 24 pixels a side, of any depth, with samples of one byte or two.
+fn drawn_bytes(rt: &(impl Abort + AllocGlobal), draws: &mut Draws) -> Vec<u8> {
     let (width, height) = (1 + draws.below(24), 1 + draws.below(24));
     let (depth, size) = (1 + draws.below(4), 1 + draws.below(2));
     let most = if size == 1 { 255 } else { 65535 };
-    let head = format!(in alloc;
+    let head = format!(in rt.alloc();
         "P7\nWIDTH {width}\nHEIGHT {height}\nDEPTH {depth}\nMAXVAL {most}\nENDHDR\n"
-    )?;
-    let mut bytes = head.as_bytes().to_vec(alloc)?;
+    ).expect(rt, "no header");
+    let mut bytes = head.as_bytes().to_vec(rt.alloc()).expect(rt, "no bytes");
     for _ in 0..width * height {
         for _ in 0..depth * size {
-            bytes.push(draws.below(256) as u8)?;
+            let sample = draws.below(256) as u8;
+            bytes.push(sample).expect(rt, "no byte");
         }
     }
-    Ok((Name::of(String::from_str(alloc, name)?), bytes))
+    bytes
+}
+
+fn add_file(
+    rt: &(impl Abort + AllocGlobal),
+    draws: &mut Draws,
+    files: &mut Vec<(Name, Vec<u8>)>,
+    name: &str,
+) {
+    let bytes = drawn_bytes(rt, draws);
+    let name = String::from_str(rt.alloc(), name).expect(rt, "no name");
+    files.push((Name::of(name), bytes)).expect(rt, "no file");
 }
 
 /// A graph's text, and the files of its sources.
@@ -287,14 +301,14 @@ pub(crate) struct NumberGraph {
 }
 
 /// The graph of a number, of so many effects.
-pub(crate) fn draw_graph(alloc: Global, number: u32, effects: u32) -> Result<NumberGraph, Fail>
+pub(crate) fn draw_graph(rt: &(impl Abort + AllocGlobal), number: u32, effects: u32) -> NumberGraph
     requires { (1 ≤ effects) × (effects ≤ 5) }
 {
     let mut draws = Draws { state: number };
-    let text = graph_text(alloc, &mut draws, effects)?;
-    let mut files = Vec::new(alloc);
+    let text = graph_text(rt, &mut draws, effects);
+    let mut files = Vec::new(rt.alloc());
     for name in ["s0.pam", "s1.pam", "s2.pam", "t.pam"] {
-        files.push(file(alloc, &mut draws, name)?)?;
+        add_file(rt, &mut draws, &mut files, name);
     }
-    Ok(NumberGraph { text, files })
+    NumberGraph { text, files }
 }

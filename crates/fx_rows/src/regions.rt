@@ -13,9 +13,9 @@ use fx_region::{End, Need, Regions, demand, follow};
 use fx_scene::{Scene, wants};
 use fx_seq::Store;
 use fx_shipped::Shipped;
-use fx_text::{GraphFault, read_graph};
-use std::alloc::{AllocError, Global};
-use std::test::Fail;
+use fx_text::read_graph;
+use std::alloc::Global;
+use std::process::Abort;
 
 // A graph: the sides of the project, those of the files `s0.pam` to `s2.pam`, and the nodes.
 #[derive(Clone, Copy)]
@@ -304,65 +304,76 @@ const NEEDS: &[(Filmed<'static>, u32, [i64; 4], &str)] = &[
     ),
 ];
 
-fn graph_of(alloc: Global, filmed: Filmed<'_>) -> Result<Graph<Shipped>, GraphFault> {
+fn graph_of(rt: &(impl Abort + AllocGlobal), filmed: Filmed<'_>) -> Graph<Shipped> {
     let Filmed {
         project: (width, height),
         nodes,
         ..
     } = filmed;
-    let project = format!(in alloc;
+    let project = format!(in rt.alloc();
         r#""width":{width},"height":{height},"depth":"byte","components":"RGBA""#
-    )?;
+    ).expect(rt, "no text");
     let whole = Whole {
         project: project.as_str(),
         format: "RGB_ALPHA",
         last: 9,
         nodes,
     };
-    let text = whole.text(alloc)?;
-    let raw = read_graph(alloc, text.as_bytes(), 64, 8192)?;
-    accept(alloc, raw)
+    let text = whole.text(rt);
+    let raw = read_graph(rt.alloc(), text.as_bytes(), 64, 8192).expect(rt, "refused");
+    accept(rt.alloc(), raw).expect(rt, "refused")
 }
 
-// The file of a frame of so many columns and rows of zeros.
-fn file(alloc: Global, name: &str, sides: (u32, u32)) -> Result<(Name, Vec<u8>), AllocError> {
+// The bytes of a file of so many columns and rows of zeros.
+fn zeros(rt: &(impl Abort + AllocGlobal), sides: (u32, u32)) -> Vec<u8> {
     let (width, height) = sides;
-    let header = format!(in alloc;
+    let header = format!(in rt.alloc();
         "P7\nWIDTH {width}\nHEIGHT {height}\nDEPTH 1\nMAXVAL 255\nENDHDR\n"
-    )?;
-    let mut bytes = header.as_bytes().to_vec(alloc)?;
+    ).expect(rt, "no header");
+    let mut bytes = header.as_bytes().to_vec(rt.alloc()).expect(rt, "no bytes");
     for _ in 0..width {
         for _ in 0..height {
-            bytes.push(0)?;
+            bytes.push(0).expect(rt, "no byte");
         }
     }
-    Ok((Name::of(String::from_str(alloc, name)?), bytes))
+    bytes
 }
 
-fn files(alloc: Global, sides: (u32, u32)) -> Result<Vec<(Name, Vec<u8>)>, AllocError> {
-    let mut files = Vec::new(alloc);
+// Adds the file of a frame.
+fn add_file(
+    rt: &(impl Abort + AllocGlobal),
+    files: &mut Vec<(Name, Vec<u8>)>,
+    name: &str,
+    sides: (u32, u32),
+) {
+    let name = String::from_str(rt.alloc(), name).expect(rt, "no name");
+    let file = (Name::of(name), zeros(rt, sides));
+    files.push(file).expect(rt, "no file");
+}
+
+fn library(rt: &(impl Abort + AllocGlobal), sides: (u32, u32)) -> SureLibrary {
+    let mut files = Vec::new(rt.alloc());
     for name in ["s0.pam", "s1.pam", "s2.pam"] {
-        files.push(file(alloc, name, sides)?)?;
+        add_file(rt, &mut files, name, sides);
     }
-    Ok(files)
+    SureLibrary::new(rt.alloc(), files)
 }
 
 // The scene of a graph with the frames that it wants at a frame.
-fn scene_of(alloc: Global, filmed: Filmed<'_>, at: u32) -> Result<Scene<Shipped>, Fail>
+fn scene_of(rt: &(impl Abort + AllocGlobal), filmed: Filmed<'_>, at: u32) -> Scene<Shipped>
     requires { at ≤ 999999 }
 {
-    let graph = graph_of(alloc, filmed).ok().ok_or("refused")?;
-    let wanted = wants(alloc, &graph, at, at)?;
-    let mut library = SureLibrary::new(alloc, files(alloc, filmed.frames)?);
-    let store = Store::fill(alloc, &mut library, &wanted, 1_000_000, 8192)
-        .ok()
-        .ok_or("no frames")?;
+    let graph = graph_of(rt, filmed);
+    let wanted = wants(rt.alloc(), &graph, at, at).expect(rt, "no memory");
+    let mut library = library(rt, filmed.frames);
+    let store = Store::fill(rt.alloc(), &mut library, &wanted, 1_000_000, 8192);
+    let store = store.expect(rt, "no frames");
     let (scene, _permit) = Scene::new(graph, store, 7);
-    Ok(scene)
+    scene
 }
 
-fn told_rect(alloc: Global, r: Rect) -> Result<String, AllocError> {
-    format!(in alloc; "({},{},{},{})", r.x1, r.y1, r.x2, r.y2)
+fn told_rect(rt: &(impl Abort + AllocGlobal), r: Rect) -> String {
+    format!(in rt.alloc(); "({},{},{},{})", r.x1, r.y1, r.x2, r.y2).expect(rt, "no text")
 }
 
 fn told_depth(step: &Step) -> &'static str {
@@ -372,26 +383,26 @@ fn told_depth(step: &Step) -> &'static str {
     }
 }
 
-fn told_steps(alloc: Global, through: &Steps) -> Result<String, AllocError> {
-    let mut text = String::new(alloc);
+fn told_steps(rt: &(impl Abort + AllocGlobal), through: &Steps) -> String {
+    let mut text = String::new(rt.alloc());
     for step in through.items() {
-        text.push_str(told_depth(step))?;
+        text.push_str(told_depth(step)).expect(rt, "no text");
     }
-    Ok(text)
+    text
 }
 
-fn told_end(alloc: Global, end: &End) -> Result<String, AllocError> {
+fn told_end(rt: &(impl Abort + AllocGlobal), end: &End) -> String {
     match end {
-        End::Void => String::from_str(alloc, "nowhere"),
+        End::Void => String::from_str(rt.alloc(), "nowhere").expect(rt, "no text"),
         End::Frame {
             node,
             frame,
             region,
             through,
         } => {
-            let r = told_rect(alloc, *region)?;
-            let steps = told_steps(alloc, through)?;
-            format!(in alloc; "frame {frame} of {node} {r}{steps}")
+            let r = told_rect(rt, *region);
+            let steps = told_steps(rt, through);
+            format!(in rt.alloc(); "frame {frame} of {node} {r}{steps}").expect(rt, "no text")
         }
         End::Render {
             node,
@@ -400,26 +411,26 @@ fn told_end(alloc: Global, end: &End) -> Result<String, AllocError> {
             cut: _,
             through,
         } => {
-            let r = told_rect(alloc, *region)?;
-            let steps = told_steps(alloc, through)?;
-            format!(in alloc; "node {node} at {frame} {r}{steps}")
+            let r = told_rect(rt, *region);
+            let steps = told_steps(rt, through);
+            format!(in rt.alloc(); "node {node} at {frame} {r}{steps}").expect(rt, "no text")
         }
     }
 }
 
-fn told_need(alloc: Global, need: &Need) -> Result<String, AllocError> {
+fn told_need(rt: &(impl Abort + AllocGlobal), need: &Need) -> String {
     let (clip, frame) = (need.clip, need.frame);
-    let end = told_end(alloc, &need.end)?;
-    format!(in alloc; "{clip}@{frame}: {end}\n")
+    let end = told_end(rt, &need.end);
+    format!(in rt.alloc(); "{clip}@{frame}: {end}\n").expect(rt, "no text")
 }
 
-fn told_needs(alloc: Global, needs: &[Need]) -> Result<String, AllocError> {
-    let mut text = String::new(alloc);
+fn told_needs(rt: &(impl Abort + AllocGlobal), needs: &[Need]) -> String {
+    let mut text = String::new(rt.alloc());
     for need in needs {
-        let one = told_need(alloc, need)?;
-        text.push_str(one.as_str())?;
+        let one = told_need(rt, need);
+        text.push_str(one.as_str()).expect(rt, "no text");
     }
-    Ok(text)
+    text
 }
 
 fn rect_of(bounds: [i64; 4]) -> Rect {
@@ -428,73 +439,59 @@ fn rect_of(bounds: [i64; 4]) -> Rect {
 }
 
 // Where a region of the output is found at a frame.
-fn found(alloc: Global, scene: &Scene<Shipped>, at: u32, region: Rect) -> Result<String, Memory>
+fn found(alloc: Global, scene: &Scene<Shipped>, at: u32, region: Rect) -> Result<End, Memory>
     requires { at ≤ 999999 }
 {
     let frame = i64::from(at);
     let regions = Regions::of(alloc, scene, frame)?;
-    let end = follow(alloc, scene, &regions, scene.graph().output, frame, region)?;
-    Ok(told_end(alloc, &end)?)
+    follow(alloc, scene, &regions, scene.graph().output, frame, region)
 }
 
 // What a region of the output needs at a frame, by tiles of side 64.
-fn needed(alloc: Global, scene: &Scene<Shipped>, at: u32, region: Rect) -> Result<String, Memory>
+fn needed(alloc: Global, scene: &Scene<Shipped>, at: u32, region: Rect) -> Result<Vec<Need>, Memory>
     requires { at ≤ 999999 }
 {
     let (node, frame) = (scene.graph().output, i64::from(at));
     let regions = Regions::of(alloc, scene, frame)?;
     let within = region.meet(regions.rod(node, frame));
     let grid = Grid { side: 64 };
-    let needs = demand(alloc, scene, &regions, node, frame, within, grid)?;
-    Ok(told_needs(alloc, needs.as_slice())?)
+    demand(alloc, scene, &regions, node, frame, within, grid)
 }
 
 #[test]
-fn regions_are_found_where_identities_lead(rt: HostRuntime) -> Result<(), Fail> {
-    let alloc = rt.alloc();
+fn regions_are_found_where_identities_lead(rt: HostRuntime) {
     for (filmed, at, region, expected) in ENDS {
         let at = (*at).min(9);
-        let scene = scene_of(alloc, *filmed, at)?;
-        same_at(
-            &rt,
-            &(&at, &filmed.nodes),
-            found(alloc, &scene, at, rect_of(*region))?.as_str(),
-            *expected,
-        );
+        let scene = scene_of(&rt, *filmed, at);
+        let end = found(rt.alloc(), &scene, at, rect_of(*region)).expect(&rt, "no memory");
+        let told = told_end(&rt, &end);
+        same_at(&rt, &(&at, &filmed.nodes), told.as_str(), *expected);
     }
-    Ok(())
 }
 
 #[test]
-fn regions_need_the_tiles_of_their_interest(rt: HostRuntime) -> Result<(), Fail> {
-    let alloc = rt.alloc();
+fn regions_need_the_tiles_of_their_interest(rt: HostRuntime) {
     for (filmed, at, region, expected) in NEEDS {
         let at = (*at).min(9);
-        let scene = scene_of(alloc, *filmed, at)?;
-        same_at(
-            &rt,
-            &(&at, &filmed.nodes),
-            needed(alloc, &scene, at, rect_of(*region))?.as_str(),
-            *expected,
-        );
+        let scene = scene_of(&rt, *filmed, at);
+        let needs = needed(rt.alloc(), &scene, at, rect_of(*region)).expect(&rt, "no memory");
+        let told = told_needs(&rt, &needs);
+        same_at(&rt, &(&at, &filmed.nodes), told.as_str(), *expected);
     }
-    Ok(())
 }
 
 // There are 2 * 6^20 ways from the output to the source, at the frames -11 to 29.
 #[test]
-fn regions_take_time_by_what_is_reached(rt: HostRuntime) -> Result<(), Fail> {
-    let alloc = rt.alloc();
+fn regions_take_time_by_what_is_reached(rt: HostRuntime) {
     let source = r#"{"name":"n0","source":"s#.pam","first":0,"last":2}"#;
-    let nodes = deep_diamond(alloc, source, 20)?;
+    let nodes = deep_diamond(&rt, source, 20);
     let filmed = Filmed {
         project: (192, 192),
         frames: (192, 192),
         nodes: nodes.as_str(),
     };
-    let scene = scene_of(alloc, filmed, 9)?;
-    let regions = Regions::of(alloc, &scene, 9)?;
+    let scene = scene_of(&rt, filmed, 9);
+    let regions = Regions::of(rt.alloc(), &scene, 9).expect(&rt, "no memory");
     let rod = regions.rod(scene.graph().output, 9);
     same(&rt, rod, Rect::of(0, 0, 192, 192));
-    Ok(())
 }

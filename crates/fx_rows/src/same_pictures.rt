@@ -6,11 +6,9 @@ use crate::engines::{Engine, are_same, by_frames, by_tiles};
 use crate::numbers::{NumberGraph, draw_graph};
 use crate::worked::{GRAPHS, STRIPS, Whole, library, strip_text};
 use fx_outside::SureLibrary;
-use std::alloc::Global;
 use std::process::Abort;
 use std::rt::Clock;
 use std::sync::Wait;
-use std::test::Fail;
 use std::thread::Threads;
 
 // The side of a tile, and how many tiles may be kept: each with each.
@@ -32,57 +30,51 @@ const EACH: &[(u32, u32)] = &[
 const SOME: &[(u32, u32)] = &[(64, 4096), (1024, 0)];
 
 // The frame is the same by each of these as by whole frames.
-fn frame_is_the_same<R: Threads + Wait + Clock + Sync + Abort>(
+fn frame_is_the_same<R: Threads + Wait + Clock + Sync + Abort + AllocGlobal>(
     rt: &R,
-    alloc: Global,
     library: &mut SureLibrary,
     text: &str,
     at: u32,
     workers: u32,
     engines: &[(u32, u32)],
-) -> Result<(), Fail>
+)
     requires at { at ≤ 999999 }
     requires workers { (1 ≤ workers) × (workers ≤ 64) }
 {
-    let whole = by_frames(rt, alloc, library, text, at)?;
+    let whole = by_frames(rt, library, text, at);
     for &(side, cache) in engines {
         let engine = Engine {
             side,
             cache,
             workers,
         };
-        let (tiled, _) = by_tiles(rt, alloc, library, text, at, engine)?;
+        let (tiled, _) = by_tiles(rt, library, text, at, engine);
         assert!(rt;
             are_same(&tiled, &whole),
             "frame {at} by {engine:?} of {text}"
         );
     }
-    Ok(())
 }
 
 #[test]
-fn worked_graphs_are_the_same(rt: HostRuntime) -> Result<(), Fail> {
-    let alloc = rt.alloc();
-    let mut library = library(alloc)?;
+fn worked_graphs_are_the_same(rt: HostRuntime) {
+    let mut library = library(&rt);
     for &whole in GRAPHS {
-        let text = whole.text(alloc)?;
+        let text = whole.text(&rt);
         for at in 0..whole.last.min(2) + 1 {
-            frame_is_the_same(&rt, alloc, &mut library, text.as_str(), at, 1, EACH)?;
+            frame_is_the_same(&rt, &mut library, text.as_str(), at, 1, EACH);
         }
     }
-    Ok(())
 }
 
 #[test]
-fn worked_strips_are_the_same(rt: HostRuntime) -> Result<(), Fail> {
-    let alloc = rt.alloc();
-    let mut library = library(alloc)?;
+fn worked_strips_are_the_same(rt: HostRuntime) {
+    let mut library = library(&rt);
     for strip in STRIPS {
         let &(_, _, at) = strip;
-        let text = strip_text(alloc, strip)?;
-        frame_is_the_same(&rt, alloc, &mut library, text.as_str(), at.min(1), 1, EACH)?;
+        let text = strip_text(&rt, strip);
+        frame_is_the_same(&rt, &mut library, text.as_str(), at.min(1), 1, EACH);
     }
-    Ok(())
 }
 
 // Of a blur that is wider than an image may be, so that whole frames make it in two pieces.
@@ -94,11 +86,11 @@ const WIDE: Whole<'static> = Whole {
 };
 
 #[test]
-fn a_wide_picture_is_the_same(rt: HostRuntime) -> Result<(), Fail> {
+fn a_wide_picture_is_the_same(rt: HostRuntime) {
     let alloc = rt.alloc();
-    let text = WIDE.text(alloc)?;
+    let text = WIDE.text(&rt);
     let mut library = SureLibrary::new(alloc, Vec::new(alloc));
-    frame_is_the_same(&rt, alloc, &mut library, text.as_str(), 0, 1, SOME)
+    frame_is_the_same(&rt, &mut library, text.as_str(), 0, 1, SOME);
 }
 
 // The engines of a graph by the number of its effects less one. Each side comes with each number of tiles that are
@@ -113,58 +105,48 @@ const ENGINES: [&[(u32, u32)]; 5] = [
 ];
 
 // A frame of the graph of a number, by one worker, and for some numbers by eight too.
-fn number_is_the_same<R: Threads + Wait + Clock + Sync + Abort>(
-    rt: &R,
-    alloc: Global,
-    number: u32,
-) -> Result<(), Fail> {
+fn number_is_the_same<R: Threads + Wait + Clock + Sync + Abort + AllocGlobal>(rt: &R, number: u32) {
     let (effects, at) = (number % 5, number % 3);
-    let NumberGraph { text, files } = draw_graph(alloc, number, effects + 1)?;
+    let NumberGraph { text, files } = draw_graph(rt, number, effects + 1);
     let engines = ENGINES[effects as usize];
     let text = text.as_str();
-    let mut library = SureLibrary::new(alloc, files);
-    frame_is_the_same(rt, alloc, &mut library, text, at, 1, engines)?;
+    let mut library = SureLibrary::new(rt.alloc(), files);
+    frame_is_the_same(rt, &mut library, text, at, 1, engines);
     if number % 12 == 0 {
-        frame_is_the_same(rt, alloc, &mut library, text, at, 8, engines)?;
+        frame_is_the_same(rt, &mut library, text, at, 8, engines);
     }
-    Ok(())
 }
 
 // The same of twenty numbers from this one on.
-fn twenty_are_the_same<R: Threads + Wait + Clock + Sync + Abort>(
-    rt: &R,
-    alloc: Global,
-    first: u32,
-) -> Result<(), Fail>
+fn twenty_are_the_same<R: Threads + Wait + Clock + Sync + Abort + AllocGlobal>(rt: &R, first: u32)
     requires { first ≤ 80 }
 {
     for number in first..first + 20 {
-        number_is_the_same(rt, alloc, number)?;
+        number_is_the_same(rt, number);
     }
-    Ok(())
 }
 
 #[test]
-fn numbers_from_0_are_the_same(rt: HostRuntime) -> Result<(), Fail> {
-    twenty_are_the_same(&rt, rt.alloc(), 0)
+fn numbers_from_0_are_the_same(rt: HostRuntime) {
+    twenty_are_the_same(&rt, 0);
 }
 
 #[test]
-fn numbers_from_20_are_the_same(rt: HostRuntime) -> Result<(), Fail> {
-    twenty_are_the_same(&rt, rt.alloc(), 20)
+fn numbers_from_20_are_the_same(rt: HostRuntime) {
+    twenty_are_the_same(&rt, 20);
 }
 
 #[test]
-fn numbers_from_40_are_the_same(rt: HostRuntime) -> Result<(), Fail> {
-    twenty_are_the_same(&rt, rt.alloc(), 40)
+fn numbers_from_40_are_the_same(rt: HostRuntime) {
+    twenty_are_the_same(&rt, 40);
 }
 
 #[test]
-fn numbers_from_60_are_the_same(rt: HostRuntime) -> Result<(), Fail> {
-    twenty_are_the_same(&rt, rt.alloc(), 60)
+fn numbers_from_60_are_the_same(rt: HostRuntime) {
+    twenty_are_the_same(&rt, 60);
 }
 
 #[test]
-fn numbers_from_80_are_the_same(rt: HostRuntime) -> Result<(), Fail> {
-    twenty_are_the_same(&rt, rt.alloc(), 80)
+fn numbers_from_80_are_the_same(rt: HostRuntime) {
+    twenty_are_the_same(&rt, 80);
 }

@@ -1,16 +1,14 @@
 //! Which source frames a run wants, and what each node reads, over the effects that are shipped, worked by hand.
 use crate::same::{same, same_at};
 use crate::worked::Whole;
-use fx_base::Memory;
 use fx_graph::{Graph, accept};
 use fx_scene::laws::{value_depends_on_reach, value_is_mix, zero_outside_area};
 use fx_scene::{NodeFrame, reach, reads_of, shown_frame, wants};
 use fx_seq::Wanted;
 use fx_shipped::Shipped;
-use fx_text::{GraphFault, read_graph};
-use std::alloc::{AllocError, Global};
+use fx_text::read_graph;
 use std::collections::BTreeSet;
-use std::test::Fail;
+use std::process::Abort;
 
 // A source of the frames 3 to 5, black or held outside of them, and one of the frames 0 to 9.
 const BLACK: &str = r#"{"name":"s","source":"s##.pam","first":3,"last":5}"#;
@@ -43,17 +41,17 @@ const APART: &str =
     r#",{"name":"u","source":"u.pam","first":4,"last":4},{"name":"n","effect":"frameblend","clips":{"Source":"u"},"params":{"radius":1}}"#;
 
 // The graph of these nodes, whose output is the node n.
-fn graph_of(alloc: Global, source: &str, effects: &str) -> Result<Graph<Shipped>, GraphFault> {
-    let nodes = format!(in alloc; "{source}{effects}")?;
+fn graph_of(rt: &(impl Abort + AllocGlobal), source: &str, effects: &str) -> Graph<Shipped> {
+    let nodes = format!(in rt.alloc(); "{source}{effects}").expect(rt, "no text");
     let whole = Whole {
         project: r#""width":4,"height":2,"depth":"byte","components":"RGBA""#,
         format: "RGB",
         last: 9,
         nodes: nodes.as_str(),
     };
-    let text = whole.text(alloc)?;
-    let raw = read_graph(alloc, text.as_bytes(), 256, 4096)?;
-    accept(alloc, raw)
+    let text = whole.text(rt);
+    let raw = read_graph(rt.alloc(), text.as_bytes(), 256, 4096).expect(rt, "refused");
+    accept(rt.alloc(), raw).expect(rt, "refused")
 }
 
 // The source's node, the effects behind it, the first and last frame of a run, and what it wants: node, frame
@@ -106,75 +104,69 @@ const CASES: &[(&str, &str, u32, u32, &str)] = &[
     (TEN, APART, 4, 4, "1 4 u.pam, "),
 ];
 
-// What a run to this last frame wants, where it is a frame.
+// What a run to this last frame wants.
 fn wanted_by(
-    alloc: Global,
+    rt: &(impl Abort + AllocGlobal),
     graph: &Graph<Shipped>,
     first: u32,
     last: u32,
-) -> Result<Vec<Wanted>, Memory> {
-    if last > 999_999 {
-        return Err(Memory);
-    }
-    wants(alloc, graph, first, last)
+) -> Vec<Wanted> {
+    assert!(rt; last <= 999_999);
+    wants(rt.alloc(), graph, first, last).expect(rt, "no memory")
 }
 
 // Node, frame and name of each.
-fn told(alloc: Global, wanted: &[Wanted]) -> Result<String, AllocError> {
-    let mut text = String::new(alloc);
+fn told(rt: &(impl Abort + AllocGlobal), wanted: &[Wanted]) -> String {
+    let mut text = String::new(rt.alloc());
     for w in wanted {
         let (node, frame, name) = (w.node, w.frame, w.name.text());
-        let one = format!(in alloc; "{node} {frame} {name}, ")?;
-        text.push_str(one.as_str())?;
+        let one = format!(in rt.alloc(); "{node} {frame} {name}, ");
+        let one = one.expect(rt, "no text");
+        text.push_str(one.as_str()).expect(rt, "no text");
     }
-    Ok(text)
+    text
 }
 
 #[test]
-fn the_frames_that_are_reached_are_wanted(rt: HostRuntime) -> Result<(), Fail> {
-    let alloc = rt.alloc();
+fn the_frames_that_are_reached_are_wanted(rt: HostRuntime) {
     for (source, effects, first, last, expected) in CASES {
-        let graph = graph_of(alloc, source, effects).ok().ok_or("refused")?;
-        let wanted = wanted_by(alloc, &graph, *first, *last)?;
+        let graph = graph_of(&rt, source, effects);
+        let wanted = wanted_by(&rt, &graph, *first, *last);
+        let told = told(&rt, &wanted);
         same_at(
             &rt,
             &(&first, &last, &source, &effects),
-            told(alloc, &wanted)?.as_str(),
+            told.as_str(),
             *expected,
         );
     }
-    Ok(())
 }
 
 // Node and frame of each.
-fn told_node_frames(
-    alloc: Global,
-    node_frames: &BTreeSet<NodeFrame>,
-) -> Result<String, AllocError> {
-    let mut text = String::new(alloc);
+fn told_node_frames(rt: &(impl Abort + AllocGlobal), node_frames: &BTreeSet<NodeFrame>) -> String {
+    let mut text = String::new(rt.alloc());
     for node_frame in node_frames {
         let (node, frame) = (node_frame.node, node_frame.frame);
-        let one = format!(in alloc; "{node} {frame}, ")?;
-        text.push_str(one.as_str())?;
+        let one = format!(in rt.alloc(); "{node} {frame}, ");
+        let one = one.expect(rt, "no text");
+        text.push_str(one.as_str()).expect(rt, "no text");
     }
-    Ok(text)
+    text
 }
 
 #[test]
-fn what_is_reached_stands_by_node_and_frame(rt: HostRuntime) -> Result<(), Fail> {
+fn what_is_reached_stands_by_node_and_frame(rt: HostRuntime) {
     let alloc = rt.alloc();
-    let graph = graph_of(alloc, TEN, TWICE).ok().ok_or("refused")?;
-    let node_frames = reach(alloc, &graph, 4, 4)?;
-    same(
-        &rt,
-        told_node_frames(alloc, &node_frames)?.as_str(),
-        "0 2, 0 3, 0 4, 0 5, 0 6, 1 3, 1 4, 1 5, 2 4, ",
-    );
-    same(&rt, reach(alloc, &graph, 4, 3)?.len(), 0);
+    let graph = graph_of(&rt, TEN, TWICE);
+    let node_frames = reach(alloc, &graph, 4, 4).expect(&rt, "no memory");
+    let told = told_node_frames(&rt, &node_frames);
+    let expected = "0 2, 0 3, 0 4, 0 5, 0 6, 1 3, 1 4, 1 5, 2 4, ";
+    same(&rt, told.as_str(), expected);
+    let none = reach(alloc, &graph, 4, 3).expect(&rt, "no memory");
+    same(&rt, none.len(), 0);
     value_depends_on_reach(&graph);
     value_is_mix();
     zero_outside_area();
-    Ok(())
 }
 
 // A source beside the first one, and an effect over both, without a mask and with one.
@@ -233,70 +225,78 @@ const READS: &[(&str, u32, i64, &str)] = &[
 
 // What a node of the graph reads at a frame from -9 to 99.
 fn read_by(
-    alloc: Global,
+    rt: &(impl Abort + AllocGlobal),
     graph: &Graph<Shipped>,
     node: u32,
     frame: i64,
-) -> Result<BTreeSet<NodeFrame>, Memory> {
-    if node as usize >= graph.nodes.len() || frame < -9 || 99 < frame {
-        return Err(Memory);
-    }
-    reads_of(alloc, graph, NodeFrame { node, frame })
+) -> BTreeSet<NodeFrame> {
+    assert!(rt; (node as usize) < graph.nodes.len());
+    assert!(rt; -9 <= frame);
+    assert!(rt; frame <= 99);
+    reads_of(rt.alloc(), graph, NodeFrame { node, frame }).expect(rt, "no memory")
 }
 
 #[test]
-fn a_node_reads_its_clips(rt: HostRuntime) -> Result<(), Fail> {
-    let alloc = rt.alloc();
+fn a_node_reads_its_clips(rt: HostRuntime) {
     for (effects, node, frame, expected) in READS {
-        let graph = graph_of(alloc, BLACK, effects).ok().ok_or("refused")?;
-        let reads = read_by(alloc, &graph, *node, *frame)?;
-        same_at(
-            &rt,
-            &(&node, &frame, &effects),
-            told_node_frames(alloc, &reads)?.as_str(),
-            *expected,
-        );
+        let graph = graph_of(&rt, BLACK, effects);
+        let reads = read_by(&rt, &graph, *node, *frame);
+        let told = told_node_frames(&rt, &reads);
+        same_at(&rt, &(&node, &frame, &effects), told.as_str(), *expected);
     }
-    Ok(())
 }
 
 /// The source `n0`, and so many levels of effects: each blends three frames of the one before and merges the blend with
 /// itself. The node `n` merges the last with itself. With k levels, 2 * 6^k ways lead to the source.
-pub(crate) fn deep_diamond(alloc: Global, source: &str, levels: u32) -> Result<String, AllocError> {
-    let mut nodes = String::from_str(alloc, source)?;
+pub(crate) fn deep_diamond(rt: &(impl Abort + AllocGlobal), source: &str, levels: u32) -> String {
+    let mut nodes = String::from_str(rt.alloc(), source).expect(rt, "no text");
     let mut below = 0;
     for level in 1..=levels {
-        let blend = format!(in alloc;
-            r#",{{"name":"m{level}","effect":"frameblend","clips":{{"Source":"n{below}"}}}}"#
-        )?;
-        nodes.push_str(blend.as_str())?;
-        let merge = format!(in alloc;
-            r#",{{"name":"n{level}","effect":"merge","clips":{{"A":"m{level}","B":"m{level}"}}}}"#
-        )?;
-        nodes.push_str(merge.as_str())?;
+        add_level(rt, &mut nodes, below, level);
         below = level;
     }
-    let last = format!(in alloc;
-        r#",{{"name":"n","effect":"merge","clips":{{"A":"n{levels}","B":"n{levels}"}}}}"#
-    )?;
-    nodes.push_str(last.as_str())?;
-    Ok(nodes)
+    add_last(rt, &mut nodes, levels);
+    nodes
+}
+
+// Appends the blend of a level and the merge of it.
+fn add_level(rt: &(impl Abort + AllocGlobal), nodes: &mut String, below: u32, level: u32) {
+    let blend = format!(in rt.alloc();
+        r#",{{"name":"m{level}","effect":"frameblend","clips":{{"Source":"n{below}"}}}}"#
+    ).expect(rt, "no text");
+    nodes.push_str(blend.as_str()).expect(rt, "no text");
+    let merge = format!(in rt.alloc();
+        r#",{{"name":"n{level}","effect":"merge","clips":{{"A":"m{level}","B":"m{level}"}}}}"#
+    ).expect(rt, "no text");
+    nodes.push_str(merge.as_str()).expect(rt, "no text");
+}
+
+// Appends the merge of the last level.
+fn add_last(rt: &(impl Abort + AllocGlobal), nodes: &mut String, level: u32) {
+    let merge = format!(in rt.alloc();
+        r#",{{"name":"n","effect":"merge","clips":{{"A":"n{level}","B":"n{level}"}}}}"#
+    ).expect(rt, "no text");
+    nodes.push_str(merge.as_str()).expect(rt, "no text");
+}
+
+fn frame_at(wanted: &[Wanted], row: usize) -> Option<i64> {
+    Some(wanted.get(row)?.frame)
 }
 
 #[test]
-fn a_deep_diamond_is_reached_by_its_edges(rt: HostRuntime) -> Result<(), Fail> {
+fn a_deep_diamond_is_reached_by_its_edges(rt: HostRuntime) {
     let alloc = rt.alloc();
     let source = r#"{"name":"n0","source":"s###.pam","first":0,"last":999}"#;
-    let nodes = deep_diamond(alloc, source, 63)?;
-    let graph = graph_of(alloc, nodes.as_str(), "").ok().ok_or("refused")?;
+    let nodes = deep_diamond(&rt, source, 63);
+    let graph = graph_of(&rt, nodes.as_str(), "");
     // The blend and the merge of the level that is k below the highest are reached at 2 k + 1 frames, in all at
     // 2 * 63^2 nodes at frames; the output at one, and the source at 127.
-    same(&rt, reach(alloc, &graph, 300, 300)?.len(), 8066);
-    let wanted = wants(alloc, &graph, 300, 300)?;
+    let reached = reach(alloc, &graph, 300, 300).expect(&rt, "no memory");
+    same(&rt, reached.len(), 8066);
+    let wanted = wants(alloc, &graph, 300, 300).expect(&rt, "no memory");
     same(&rt, wanted.len(), 127);
-    same(&rt, wanted[0].frame, 237);
-    same(&rt, wanted[126].frame, 363);
-    Ok(())
+    same(&rt, frame_at(&wanted, 0), Some(237));
+    same(&rt, frame_at(&wanted, 126), Some(363));
 }
 
 // A frame, whether a source of the frames 3 to 5 holds, and what it shows.

@@ -5,11 +5,9 @@ use crate::worked::Whole;
 use fx_base::Name;
 use fx_outside::SureLibrary;
 use fx_tile::TileCount;
-use std::alloc::{AllocError, Global};
 use std::process::Abort;
 use std::rt::Clock;
 use std::sync::Wait;
-use std::test::Fail;
 use std::thread::Threads;
 
 // What becomes of the tiles: void_tiles, passed, asked, landed and hits.
@@ -233,54 +231,61 @@ const CASES: &[Case] = &[
 ];
 
 // The text of a case's graph.
-fn text_of(alloc: Global, &(_, (width, height), nodes, _, _): &Case) -> Result<String, AllocError> {
-    let project = format!(in alloc;
+fn text_of(rt: &(impl Abort + AllocGlobal), &(_, (width, height), nodes, _, _): &Case) -> String {
+    let project = format!(in rt.alloc();
         r#""width":{width},"height":{height},"depth":"byte","components":"RGBA""#
-    )?;
-    let nodes = format!(in alloc; "{SOURCES},{nodes}")?;
+    ).expect(rt, "no text");
+    let nodes = format!(in rt.alloc(); "{SOURCES},{nodes}").expect(rt, "no text");
     let whole = Whole {
         project: project.as_str(),
         format: "RGB_ALPHA",
         last: 1,
         nodes: nodes.as_str(),
     };
-    whole.text(alloc)
+    whole.text(rt)
 }
 
-// A file of grey samples, of which each differs from those beside it.
-fn file(
-    alloc: Global,
-    name: &str,
-    (width, height): (u32, u32),
-    first: u8,
-) -> Result<(Name, Vec<u8>), AllocError> {
-    let head = format!(in alloc;
+// The bytes of a file of grey samples, of which each differs from those beside it.
+fn greys(rt: &(impl Abort + AllocGlobal), (width, height): (u32, u32), first: u8) -> Vec<u8> {
+    let head = format!(in rt.alloc();
         "P7\nWIDTH {width}\nHEIGHT {height}\nDEPTH 1\nMAXVAL 255\nENDHDR\n"
-    )?;
-    let mut bytes = head.as_bytes().to_vec(alloc)?;
+    ).expect(rt, "no header");
+    let mut bytes = head.as_bytes().to_vec(rt.alloc()).expect(rt, "no bytes");
     let mut sample = first;
     for _ in 0..height {
         sample = sample.wrapping_add(11);
         for _ in 0..width {
             sample = sample.wrapping_add(7);
-            bytes.push(sample)?;
+            bytes.push(sample).expect(rt, "no byte");
         }
     }
-    Ok((Name::of(String::from_str(alloc, name)?), bytes))
+    bytes
+}
+
+fn add_file(
+    rt: &(impl Abort + AllocGlobal),
+    files: &mut Vec<(Name, Vec<u8>)>,
+    name: &str,
+    sides: (u32, u32),
+    first: u8,
+) {
+    let name = String::from_str(rt.alloc(), name).expect(rt, "no name");
+    let file = (Name::of(name), greys(rt, sides, first));
+    files.push(file).expect(rt, "no file");
 }
 
 // The files of the sources' frames.
-fn files(alloc: Global, sides: (u32, u32)) -> Result<SureLibrary, AllocError> {
-    let mut files = Vec::new(alloc);
+fn files(rt: &(impl Abort + AllocGlobal), sides: (u32, u32)) -> SureLibrary {
+    let mut files = Vec::new(rt.alloc());
     for (name, first) in [
         ("s0.pam", 0),
         ("s1.pam", 60),
         ("s2.pam", 130),
         ("t.pam", 99),
     ] {
-        files.push(file(alloc, name, sides, first)?)?;
+        add_file(rt, &mut files, name, sides, first);
     }
-    Ok(SureLibrary::new(alloc, files))
+    SureLibrary::new(rt.alloc(), files)
 }
 
 fn counts(count: TileCount) -> Counts {
@@ -293,32 +298,26 @@ fn counts(count: TileCount) -> Counts {
     )
 }
 
-fn case_is_right<R: Threads + Wait + Clock + Sync + Abort>(
-    rt: &R,
-    alloc: Global,
-    case: &Case,
-) -> Result<(), Fail> {
+fn case_is_right<R: Threads + Wait + Clock + Sync + Abort + AllocGlobal>(rt: &R, case: &Case) {
     let &(sides, _, nodes, side, engines) = case;
-    let text = text_of(alloc, case)?;
-    let mut library = files(alloc, sides)?;
-    let whole = by_frames(rt, alloc, &mut library, text.as_str(), 1)?;
+    let text = text_of(rt, case);
+    let mut library = files(rt, sides);
+    let whole = by_frames(rt, &mut library, text.as_str(), 1);
     for &(cache, became) in engines {
         let engine = Engine {
             side,
             cache,
             workers: 1,
         };
-        let (tiled, count) = by_tiles(rt, alloc, &mut library, text.as_str(), 1, engine)?;
+        let (tiled, count) = by_tiles(rt, &mut library, text.as_str(), 1, engine);
         same_at(rt, &(&engine, &nodes), counts(count), became);
         assert!(rt; are_same(&tiled, &whole), "by {engine:?} of {nodes}");
     }
-    Ok(())
 }
 
 #[test]
-fn tiles_are_counted(rt: HostRuntime) -> Result<(), Fail> {
+fn tiles_are_counted(rt: HostRuntime) {
     for case in CASES {
-        case_is_right(&rt, rt.alloc(), case)?;
+        case_is_right(&rt, case);
     }
-    Ok(())
 }

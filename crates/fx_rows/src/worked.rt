@@ -1,7 +1,7 @@
 //! Graphs whose pictures the cases of fx_cases have, worked by hand, and the files that they read.
 use fx_base::Name;
 use fx_outside::SureLibrary;
-use std::alloc::{AllocError, Global};
+use std::process::Abort;
 
 /// A graph whose output is the node `n`, whose files are `o#.pam` and whose range begins at 0: the project's members,
 /// the format of the files, the last frame, and the nodes.
@@ -14,16 +14,16 @@ pub(crate) struct Whole<'a> {
 }
 
 impl Whole<'_> {
-    pub(crate) fn text(&self, alloc: Global) -> Result<String, AllocError> {
+    pub(crate) fn text(&self, rt: &(impl Abort + AllocGlobal)) -> String {
         let Whole {
             project,
             format,
             last,
             nodes,
         } = *self;
-        format!(in alloc;
+        format!(in rt.alloc();
             r#"{{"ofxr":1,"project":{{{project}}},"output":{{"node":"n","file":"o#.pam","format":"{format}"}},"range":{{"first":0,"last":{last}}},"nodes":[{nodes}]}}"#
-        )
+        ).expect(rt, "no text")
     }
 }
 
@@ -68,13 +68,23 @@ const FILES: &[(&str, &[u8])] = &[
 ];
 
 /// The library of these files.
-pub(crate) fn library(alloc: Global) -> Result<SureLibrary, AllocError> {
-    let mut files = Vec::new(alloc);
+pub(crate) fn library(rt: &(impl Abort + AllocGlobal)) -> SureLibrary {
+    let mut files = Vec::new(rt.alloc());
     for (name, bytes) in FILES {
-        let name = Name::of(String::from_str(alloc, *name)?);
-        files.push((name, bytes.to_vec(alloc)?))?;
+        add_file(rt, &mut files, name, bytes);
     }
-    Ok(SureLibrary::new(alloc, files))
+    SureLibrary::new(rt.alloc(), files)
+}
+
+fn add_file(
+    rt: &(impl Abort + AllocGlobal),
+    files: &mut Vec<(Name, Vec<u8>)>,
+    name: &str,
+    bytes: &[u8],
+) {
+    let name = String::from_str(rt.alloc(), name).expect(rt, "no name");
+    let bytes = bytes.to_vec(rt.alloc()).expect(rt, "no bytes");
+    files.push((Name::of(name), bytes)).expect(rt, "no file");
 }
 
 /// Graphs of several nodes.
@@ -244,16 +254,17 @@ pub(crate) const STRIPS: &[Strip] = &[
 ];
 
 /// The text of a strip's graph over the frames 0 and 1.
-pub(crate) fn strip_text(alloc: Global, &(effect, width, _): &Strip) -> Result<String, AllocError> {
-    let project = format!(in alloc;
+pub(crate) fn strip_text(rt: &(impl Abort + AllocGlobal), &(effect, width, _): &Strip) -> String {
+    let project = format!(in rt.alloc();
         r#""width":{width},"height":1,"depth":"byte","components":"RGBA""#
-    )?;
-    let nodes = format!(in alloc; r#"{SOURCES},{{"name":"n","effect":{effect}}}"#)?;
+    ).expect(rt, "no text");
+    let nodes = format!(in rt.alloc(); r#"{SOURCES},{{"name":"n","effect":{effect}}}"#);
+    let nodes = nodes.expect(rt, "no text");
     let whole = Whole {
         project: project.as_str(),
         format: "RGB_ALPHA",
         last: 1,
         nodes: nodes.as_str(),
     };
-    whole.text(alloc)
+    whole.text(rt)
 }

@@ -8,9 +8,9 @@ use Rattle.fx_rows.proofs.engines.by_tiles.Goals as goal
 
 pub render_moment-made-requires-clause-holds : goal.render_moment-made-requires-clause-holds
 render_moment-made-requires-clause-holds g c κs within =
-    let scene = c.in_ok-scene.scene in
+    let scene = c.scene_of-scene.result.0 in
     let fits : SFits w64 c.from-at.result = search rules in
     let same : to_z w64 (of_z w64 c.from-at.result) ≡ pos c.args.at =
     to_z-of_z w64 c.from-at.result fits ∙ c.from-at.ensures in
     subst (λ (t : ℤ). HasWanted meaning_of scene.graph (images_in scene.store) scene.graph.output t) (sym same)
-    c.in_ok-scene.ensures
+    c.scene_of-scene.ensures
