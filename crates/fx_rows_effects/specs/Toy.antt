@@ -1,11 +1,9 @@
 -- An effect of the tests: a generator of zero.
-use Rattle.std.specs.Prelude.{◌≡◌, ◌<◌, ℕ, true, false, List, [], ◌∷◌, Option, Some, None, codes, if◌then◌else◌, refl}
-use Rattle.std.specs.Str.{bytes_eq}
+use Rattle.std.specs.Prelude.{◌<◌, true, false, [], ◌∷◌, codes, refl}
 use Rattle.std.proofs.Common.{arith}
 use Rattle.fx_pixel.specs.declared.Depth.TheVariants as depths
-use Rattle.fx_pixel.specs.declared.Components.{Components}
 use Rattle.fx_pixel.specs.declared.Components.TheVariants as components
-use Rattle.fx_pixel.specs.Pixel.{zero, components_of}
+use Rattle.fx_pixel.specs.Pixel.{zero}
 use Rattle.fx_pixel.specs.PixelLaws.{zero_form}
 use Rattle.fx_effect.specs.Shape.{Shape}
 use Rattle.fx_effect.specs.ShapeTests.{shape_is}

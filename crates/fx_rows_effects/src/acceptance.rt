@@ -7,7 +7,6 @@ use fx_pixel::{Components, Depth};
 use fx_shipped::Shipped;
 use fx_text::{GraphFault, read_graph};
 use std::alloc::{AllocError, Global};
-use std::test::Fail;
 
 // A graph file of these nodes, whose output is the node z.
 fn file_of(alloc: Global, file: &str, nodes: &str) -> Result<String, AllocError> {
@@ -46,20 +45,19 @@ const FORMS: &[(&str, Depth, Components)] = &[
 ];
 
 #[test]
-fn forms_are_negotiated(rt: HostRuntime) -> Result<(), Fail> {
+fn forms_are_negotiated(rt: HostRuntime) {
     let alloc = rt.alloc();
-    let text = file_of(alloc, "o#.pam", FORMED)?;
-    let graph = graph_of(alloc, text.as_str()).ok().ok_or("refused")?;
+    let text = file_of(alloc, "o#.pam", FORMED).expect(&rt, "no text");
+    let graph = graph_of(alloc, text.as_str()).ok().expect(&rt, "refused");
     same(&rt, graph.nodes.len(), FORMS.len());
     for (at, (name, depth, components)) in FORMS.iter().enumerate() {
-        let node = graph.nodes.get(at).ok_or("no node")?;
+        let node = graph.nodes.get(at).expect(&rt, "no node");
         same(
             &rt,
             (node.name.text(), node.depth, node.components),
             (*name, *depth, *components),
         );
     }
-    Ok(())
 }
 
 // A blur of two parameters, an effect with a choice, and one with four levels.
@@ -107,15 +105,16 @@ fn numbers_at(alloc: Global, graph: &Graph<Shipped>, frame: i64) -> Result<Vec<i
 const NUMBERS: &[i64] = &[2, 1, 1, 0, 16_384, 0, 65_536];
 
 #[test]
-fn a_graph_is_made(rt: HostRuntime) -> Result<(), Fail> {
+fn a_graph_is_made(rt: HostRuntime) {
     let alloc = rt.alloc();
-    let text = file_of(alloc, "o.##.pam", MADE)?;
-    let graph = graph_of(alloc, text.as_str()).ok().ok_or("refused")?;
+    let text = file_of(alloc, "o.##.pam", MADE).expect(&rt, "no text");
+    let graph = graph_of(alloc, text.as_str()).ok().expect(&rt, "refused");
     same(&rt, (graph.output, graph.first, graph.last), (1, 0, 9));
-    same(&rt, graph.file.name(alloc, 8)?.text(), "o.08.pam");
+    let name = graph.file.name(alloc, 8).expect(&rt, "no name");
+    same(&rt, name.text(), "o.08.pam");
     same(&rt, (graph.project.x2, graph.project.y2), (4, 2));
     same(&rt, graph.nodes.len(), 4);
     assert!(rt; graph.nodes.iter().any(is_blur));
-    same(&rt, numbers_at(alloc, &graph, 4)?.as_slice(), NUMBERS);
-    Ok(())
+    let numbers = numbers_at(alloc, &graph, 4).expect(&rt, "no numbers");
+    same(&rt, numbers.as_slice(), NUMBERS);
 }

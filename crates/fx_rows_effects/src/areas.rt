@@ -1,19 +1,18 @@
 //! Effects that read round a pixel's place: all their actions, and pixels worked by hand at both depths.
-use crate::asking::{Frame, Picture, Row, byte_row, flags_of, one_clip, short_row, values_of};
+use crate::asking::{Frame, Picture, Row, both_rows, flags_of, one_clip, values_of};
 use crate::rows::{FILTERED, INSTANCE_SAFE, PROJECT, SOURCE, SOURCE_CLIP, int};
 use fx_base::Rect;
 use fx_effect::Context;
 use fx_pixel::Components;
 use fx_shipped::Shipped;
-use std::test::Fail;
 
 #[test]
-fn boxblur(rt: HostRuntime) -> Result<(), Fail> {
+fn boxblur(rt: HostRuntime) {
     let alloc = rt.alloc();
     let (effect, context) = (Shipped::Boxblur, Context::Filter);
-    let names = one_clip(alloc, "Source")?;
-    let optional = flags_of(alloc, &[false])?;
-    let values = values_of(alloc, 7, &[1, 0], &[true], PROJECT)?;
+    let names = one_clip(&rt, "Source");
+    let optional = flags_of(&rt, &[false]);
+    let values = values_of(&rt, 7, &[1, 0], &[true], PROJECT);
     let params = [int("rx", 0, 64, 1), int("ry", 0, 64, 1)];
     let wanted = Row {
         label: "boxblur",
@@ -46,7 +45,7 @@ fn boxblur(rt: HostRuntime) -> Result<(), Fail> {
         ],
         ..FILTERED
     };
-    byte_row(
+    both_rows(
         &rt,
         alloc,
         effect,
@@ -57,25 +56,16 @@ fn boxblur(rt: HostRuntime) -> Result<(), Fail> {
         &values,
         &[SOURCE],
         &wanted,
-    )?;
-    short_row(
-        &rt,
-        alloc,
-        effect,
-        context,
-        &[Components::Rgba],
-        &values,
-        &wanted,
-    )
+    );
 }
 
 #[test]
-fn erode(rt: HostRuntime) -> Result<(), Fail> {
+fn erode(rt: HostRuntime) {
     let alloc = rt.alloc();
     let (effect, context) = (Shipped::Erode, Context::Filter);
-    let names = one_clip(alloc, "Source")?;
-    let optional = flags_of(alloc, &[false])?;
-    let values = values_of(alloc, 7, &[1], &[true], PROJECT)?;
+    let names = one_clip(&rt, "Source");
+    let optional = flags_of(&rt, &[false]);
+    let values = values_of(&rt, 7, &[1], &[true], PROJECT);
     let params = [int("radius", 0, 32, 1)];
     let wanted = Row {
         label: "erode",
@@ -91,7 +81,7 @@ fn erode(rt: HostRuntime) -> Result<(), Fail> {
         shorts: &[[0, 0, 0, 0], [0, 0, 0, 0], [0, 0, 0, 0], [0, 0, 0, 0]],
         ..FILTERED
     };
-    byte_row(
+    both_rows(
         &rt,
         alloc,
         effect,
@@ -102,25 +92,16 @@ fn erode(rt: HostRuntime) -> Result<(), Fail> {
         &values,
         &[SOURCE],
         &wanted,
-    )?;
-    short_row(
-        &rt,
-        alloc,
-        effect,
-        context,
-        &[Components::Rgba],
-        &values,
-        &wanted,
-    )
+    );
 }
 
 #[test]
-fn dilate(rt: HostRuntime) -> Result<(), Fail> {
+fn dilate(rt: HostRuntime) {
     let alloc = rt.alloc();
     let (effect, context) = (Shipped::Dilate, Context::Filter);
-    let names = one_clip(alloc, "Source")?;
-    let optional = flags_of(alloc, &[false])?;
-    let values = values_of(alloc, 7, &[1], &[true], PROJECT)?;
+    let names = one_clip(&rt, "Source");
+    let optional = flags_of(&rt, &[false]);
+    let values = values_of(&rt, 7, &[1], &[true], PROJECT);
     let params = [int("radius", 0, 32, 1)];
     let wanted = Row {
         label: "dilate",
@@ -152,7 +133,7 @@ fn dilate(rt: HostRuntime) -> Result<(), Fail> {
         ],
         ..FILTERED
     };
-    byte_row(
+    both_rows(
         &rt,
         alloc,
         effect,
@@ -163,25 +144,16 @@ fn dilate(rt: HostRuntime) -> Result<(), Fail> {
         &values,
         &[SOURCE],
         &wanted,
-    )?;
-    short_row(
-        &rt,
-        alloc,
-        effect,
-        context,
-        &[Components::Rgba],
-        &values,
-        &wanted,
-    )
+    );
 }
 
 #[test]
-fn convolve3(rt: HostRuntime) -> Result<(), Fail> {
+fn convolve3(rt: HostRuntime) {
     let alloc = rt.alloc();
     let (effect, context) = (Shipped::Convolve3, Context::Filter);
-    let names = one_clip(alloc, "Source")?;
-    let optional = flags_of(alloc, &[false])?;
-    let values = values_of(alloc, 7, &[0, 0, 0, -1, 3, 1, 0, 0, 0, 2], &[true], PROJECT)?;
+    let names = one_clip(&rt, "Source");
+    let optional = flags_of(&rt, &[false]);
+    let values = values_of(&rt, 7, &[0, 0, 0, -1, 3, 1, 0, 0, 0, 2], &[true], PROJECT);
     let params = [
         int("k1", -256, 256, 0),
         int("k2", -256, 256, 0),
@@ -224,7 +196,7 @@ fn convolve3(rt: HostRuntime) -> Result<(), Fail> {
         ],
         ..FILTERED
     };
-    byte_row(
+    both_rows(
         &rt,
         alloc,
         effect,
@@ -235,14 +207,5 @@ fn convolve3(rt: HostRuntime) -> Result<(), Fail> {
         &values,
         &[SOURCE],
         &wanted,
-    )?;
-    short_row(
-        &rt,
-        alloc,
-        effect,
-        context,
-        &[Components::Rgba],
-        &values,
-        &wanted,
-    )
+    );
 }

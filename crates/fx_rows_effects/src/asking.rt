@@ -1,5 +1,5 @@
 //! One effect through all its actions: what it describes, what it answers, and what it renders.
-ghost use Rattle.std.specs.Prelude.{◌≡◌, ◌≢◌, ◌<◌, [], ◌∷◌, IsTrue, IfOk, IfSome, Some, length, slice_get};
+ghost use Rattle.std.specs.Prelude.{◌≡◌, ◌≢◌, ◌<◌, [], ◌∷◌, ◌++◌, IsTrue, IfOk, IfSome, Some, length, slice_get};
 ghost use Rattle.std.specs.List.{Contains};
 ghost use Rattle.fx_base.specs.Bounds.{none};
 ghost use Rattle.fx_base.specs.Rect.{IsFrame};
@@ -32,7 +32,6 @@ use std::alloc::Global;
 use std::process::Abort;
 use std::rt::Clock;
 use std::sync::{Arc, Wait};
-use std::test::Fail;
 
 /// The bounds of a rectangle: left, bottom, right and top.
 pub type Bounds = (i64, i64, i64, i64);
@@ -139,7 +138,7 @@ pub fn byte_row<R: Abort + Wait + Clock>(
     values: &Values,
     regions: &[Rect],
     row: &Row<'_>,
-) -> Result<(), Fail>
+)
     requires lawful { IsLawfulIn (meaning_of effect).shape context values.now }
     requires frame { IsFrame values.now.frame }
     requires names { names.now ≡ clip_names (meaning_of effect).shape context }
@@ -149,34 +148,44 @@ pub fn byte_row<R: Abort + Wait + Clock>(
     requires window { IsSmallWindow row.now.window }
     requires supported { IsTrue (supports (meaning_of effect).shape Byte Rgba) }
 {
-    describes(rt, alloc, effect, row)?;
-    describes_in(rt, alloc, effect, context, row)?;
+    describes(rt, alloc, effect, row);
+    describes_in(rt, alloc, effect, context, row);
     let found = answers_of(
         alloc, effect, context, names, optional, values, regions, row.window,
-    )?;
-    same_answers(rt, &found, row)?;
-    let image = rendered(rt, alloc, effect, context, shown, values, row, Depth::Byte)?;
-    same_pixels(rt, &image, row.bytes)
+    );
+    same_answers(rt, &found.expect(rt, "no answers"), row);
+    let image = rendered(rt, alloc, effect, context, shown, values, row, Depth::Byte);
+    same_pixels(rt, &image.expect(rt, "no image"), row.bytes);
 }
 
-/// Renders shorts.
-pub fn short_row<R: Abort + Wait + Clock>(
+/// The same, and renders shorts.
+pub fn both_rows<R: Abort + Wait + Clock>(
     rt: &R,
     alloc: Global,
     effect: Shipped,
     context: Context,
+    names: &Names,
+    optional: &Flags,
     shown: &[Components],
     values: &Values,
+    regions: &[Rect],
     row: &Row<'_>,
-) -> Result<(), Fail>
+)
     requires lawful { IsLawfulIn (meaning_of effect).shape context values.now }
     requires frame { IsFrame values.now.frame }
+    requires names { names.now ≡ clip_names (meaning_of effect).shape context }
+    requires optional { optional.now ≡ optional_flags (meaning_of effect).shape context }
     requires shown { shown.now ≡ shown_components (meaning_of effect).shape context Rgba }
+    requires regions { AreRegions values.now regions.now }
     requires window { IsSmallWindow row.now.window }
-    requires supported { IsTrue (supports (meaning_of effect).shape Short Rgba) }
+    requires bytes { IsTrue (supports (meaning_of effect).shape Byte Rgba) }
+    requires shorts { IsTrue (supports (meaning_of effect).shape Short Rgba) }
 {
-    let image = rendered(rt, alloc, effect, context, shown, values, row, Depth::Short)?;
-    same_pixels(rt, &image, row.shorts)
+    byte_row(
+        rt, alloc, effect, context, names, optional, shown, values, regions, row,
+    );
+    let image = rendered(rt, alloc, effect, context, shown, values, row, Depth::Short);
+    same_pixels(rt, &image.expect(rt, "no image"), row.shorts);
 }
 
 fn rect_of(bounds: &Bounds) -> Rect {
@@ -186,71 +195,74 @@ fn rect_of(bounds: &Bounds) -> Rect {
 
 // ---- what it describes
 
-fn describes(rt: &impl Abort, alloc: Global, effect: Shipped, row: &Row<'_>) -> Result<(), Fail> {
+fn described(alloc: Global, effect: Shipped) -> Result<PropSet, Memory> {
     let mut set = descriptor(alloc)?;
     effect.describe(alloc, &mut set)?;
-    same(rt, set.get_text("OfxPropLabel", 0)?, row.label);
+    Ok(set)
+}
+
+fn describes(rt: &impl Abort, alloc: Global, effect: Shipped, row: &Row<'_>) {
+    let set = described(alloc, effect).expect(rt, "no descriptor");
+    same(rt, set.get_text("OfxPropLabel", 0), Ok(row.label));
     texts(
         rt,
         &set,
         "OfxImageEffectPropSupportedContexts",
         row.contexts,
-    )?;
+    );
     texts(
         rt,
         &set,
         "OfxImageEffectPropSupportedPixelDepths",
         row.depths,
-    )?;
-    let temporal = set.get_int("OfxImageEffectPropTemporalClipAccess", 0)?;
-    let tiles = set.get_int("OfxImageEffectPropSupportsTiles", 0)?;
-    same_at(rt, &row.label, (temporal, tiles), (row.temporal, row.tiles));
-    let safety = set.get_text("OfxImageEffectPluginRenderThreadSafety", 0)?;
-    same_at(rt, &row.label, safety, row.safety);
-    Ok(())
+    );
+    let temporal = set.get_int("OfxImageEffectPropTemporalClipAccess", 0);
+    let tiles = set.get_int("OfxImageEffectPropSupportsTiles", 0);
+    let wanted = (Ok(row.temporal), Ok(row.tiles));
+    same_at(rt, &row.label, (temporal, tiles), wanted);
+    let safety = set.get_text("OfxImageEffectPluginRenderThreadSafety", 0);
+    same_at(rt, &row.label, safety, Ok(row.safety));
 }
 
 // The property has these texts and no others.
-fn texts(rt: &impl Abort, set: &PropSet, name: &str, wanted: &[&str]) -> Result<(), Fail> {
-    same_at(rt, &name, set.dimension(name)? as usize, wanted.len());
-    for (index, text) in wanted.iter().enumerate() {
-        same_at(rt, &name, set.get_text(name, index as u32)?, *text);
+fn texts(rt: &impl Abort, set: &PropSet, name: &str, wanted: &[&str]) {
+    let count = set.dimension(name).expect(rt, name);
+    same_at(rt, &name, count as usize, wanted.len());
+    for (index, text) in (0..count).zip(wanted) {
+        same_at(rt, &name, set.get_text(name, index), Ok(*text));
     }
-    Ok(())
 }
 
-fn describes_in(
-    rt: &impl Abort,
-    alloc: Global,
-    effect: Shipped,
-    context: Context,
-    row: &Row<'_>,
-) -> Result<(), Fail>
+fn describes_in(rt: &impl Abort, alloc: Global, effect: Shipped, context: Context, row: &Row<'_>)
     requires { Contains (meaning_of effect).shape.contexts context }
 {
     let mut sets = Vec::new(alloc);
     let mut defs = Vec::new(alloc);
-    effect.describe_in_context(alloc, context, &mut sets, &mut defs)?;
+    let described = effect.describe_in_context(alloc, context, &mut sets, &mut defs);
+    assert!(rt; described.is_ok());
     let lengths = (sets.len(), defs.len());
     same_at(rt, &row.label, lengths, (row.clips.len(), row.params.len()));
     for (set, clip) in sets.iter().zip(row.clips) {
-        same(rt, set.get_text("OfxPropName", 0)?, clip.name);
-        let optional = set.get_int("OfxImageClipPropOptional", 0)?;
-        same_at(rt, &clip.name, optional, clip.optional);
-        texts(
-            rt,
-            set,
-            "OfxImageEffectPropSupportedComponents",
-            clip.components,
-        )?;
+        same_clip(rt, set, clip);
     }
     for (def, wanted) in defs.iter().zip(row.params) {
-        same_parameter(rt, def, wanted)?;
+        same_parameter(rt, def, wanted);
     }
-    Ok(())
 }
 
-fn same_parameter(rt: &impl Abort, def: &ParamDef, wanted: &Parameter) -> Result<(), Fail> {
+fn same_clip(rt: &impl Abort, set: &PropSet, clip: &Clip) {
+    same(rt, set.get_text("OfxPropName", 0), Ok(clip.name));
+    let optional = set.get_int("OfxImageClipPropOptional", 0);
+    same_at(rt, &clip.name, optional, Ok(clip.optional));
+    texts(
+        rt,
+        set,
+        "OfxImageEffectPropSupportedComponents",
+        clip.components,
+    );
+}
+
+fn same_parameter(rt: &impl Abort, def: &ParamDef, wanted: &Parameter) {
     same(rt, def.name.text(), wanted.name);
     same_at(rt, &wanted.name, def.kind, wanted.kind);
     let numbers = (def.least, def.greatest, def.start);
@@ -269,72 +281,75 @@ fn same_parameter(rt: &impl Abort, def: &ParamDef, wanted: &Parameter) -> Result
     for (choice, text) in def.choices.items().iter().zip(wanted.choices) {
         same(rt, choice.text(), *text);
     }
-    Ok(())
 }
 
 // ---- what it answers
 
-fn name_of(alloc: Global, name: &str) -> Result<Name, Memory>
-    ensures { IfOk result (λ n. n ≡ name.now) }
+fn push_name(rt: &(impl Abort + AllocGlobal), names: &mut Vec<Name>, name: &str)
+    ensures { names.new.items ≡ names.old.items ++ name.now ∷ [] }
 {
-    Ok(Name::of(String::from_str(alloc, name)?))
+    let text = String::from_str(rt.alloc(), name).expect(rt, "no name");
+    names.push(Name::of(text)).expect(rt, "no name");
 }
 
-pub fn no_clips(alloc: Global) -> Result<Names, Memory>
-    ensures { IfOk result (λ n. n ≡ []) }
+pub fn no_clips(rt: &impl AllocGlobal) -> Names
+    ensures { result ≡ [] }
 {
-    Ok(Names::of(Vec::new(alloc)))
+    Names::of(Vec::new(rt.alloc()))
 }
 
-pub fn one_clip(alloc: Global, name: &str) -> Result<Names, Memory>
-    ensures { IfOk result (λ n. n ≡ name.now ∷ []) }
+pub fn one_clip(rt: &(impl Abort + AllocGlobal), name: &str) -> Names
+    ensures { result ≡ name.now ∷ [] }
 {
-    Ok(Names::of(vec![in alloc; name_of(alloc, name)?]?))
+    let mut names = Vec::new(rt.alloc());
+    push_name(rt, &mut names, name);
+    Names::of(names)
 }
 
-pub fn two_clips(alloc: Global, first: &str, second: &str) -> Result<Names, Memory>
-    ensures { IfOk result (λ n. n ≡ first.now ∷ second.now ∷ []) }
+pub fn two_clips(rt: &(impl Abort + AllocGlobal), first: &str, second: &str) -> Names
+    ensures { result ≡ first.now ∷ second.now ∷ [] }
 {
-    let names = vec![in alloc; name_of(alloc, first)?, name_of(alloc, second)?]?;
-    Ok(Names::of(names))
+    let mut names = Vec::new(rt.alloc());
+    push_name(rt, &mut names, first);
+    push_name(rt, &mut names, second);
+    Names::of(names)
 }
 
-pub fn three_clips(alloc: Global, first: &str, second: &str, third: &str) -> Result<Names, Memory>
-    ensures { IfOk result (λ n. n ≡ first.now ∷ second.now ∷ third.now ∷ []) }
+pub fn three_clips(rt: &(impl Abort + AllocGlobal), first: &str, second: &str, third: &str) -> Names
+    ensures { result ≡ first.now ∷ second.now ∷ third.now ∷ [] }
 {
-    let names = vec![in alloc;
-        name_of(alloc, first)?,
-        name_of(alloc, second)?,
-        name_of(alloc, third)?,
-    ]?;
-    Ok(Names::of(names))
+    let mut names = Vec::new(rt.alloc());
+    push_name(rt, &mut names, first);
+    push_name(rt, &mut names, second);
+    push_name(rt, &mut names, third);
+    Names::of(names)
 }
 
 /// The values of an instance at a frame.
 pub fn values_of(
-    alloc: Global,
+    rt: &(impl Abort + AllocGlobal),
     frame: i64,
     numbers: &[i64],
     connected: &[bool],
     project: Rect,
-) -> Result<Values, Memory>
-    ensures frame { IfOk result (λ v. v.frame ≡ frame) }
-    ensures numbers { IfOk result (λ v. v.numbers ≡ numbers.now) }
-    ensures connected { IfOk result (λ v. v.connected ≡ connected.now) }
-    ensures project { IfOk result (λ v. v.project ≡ project) }
+) -> Values
+    ensures frame { result.frame ≡ frame }
+    ensures numbers { result.numbers ≡ numbers.now }
+    ensures connected { result.connected ≡ connected.now }
+    ensures project { result.project ≡ project }
 {
-    Ok(Values {
+    Values {
         frame,
-        numbers: Numbers::of(numbers.to_vec(alloc)?),
-        connected: Flags::of(connected.to_vec(alloc)?),
+        numbers: Numbers::of(numbers.to_vec(rt.alloc()).expect(rt, "no numbers")),
+        connected: flags_of(rt, connected),
         project,
-    })
+    }
 }
 
-pub fn flags_of(alloc: Global, flags: &[bool]) -> Result<Flags, Memory>
-    ensures { IfOk result (λ f. f ≡ flags.now) }
+pub fn flags_of(rt: &(impl Abort + AllocGlobal), flags: &[bool]) -> Flags
+    ensures { result ≡ flags.now }
 {
-    Ok(Flags::of(flags.to_vec(alloc)?))
+    Flags::of(flags.to_vec(rt.alloc()).expect(rt, "no flags"))
 }
 
 // What an effect answers for a window.
@@ -372,7 +387,7 @@ fn answers_of(
     })
 }
 
-fn same_answers(rt: &impl Abort, found: &Answers, row: &Row<'_>) -> Result<(), Fail> {
+fn same_answers(rt: &impl Abort, found: &Answers, row: &Row<'_>) {
     same_at(rt, &row.label, found.region, row.region);
     same_at(rt, &row.label, found.interest.len(), row.interest.len());
     for (region, wanted) in found.interest.iter().zip(row.interest) {
@@ -383,7 +398,6 @@ fn same_answers(rt: &impl Abort, found: &Answers, row: &Row<'_>) -> Result<(), F
         same_at(rt, &row.label, spans.as_slice(), *wanted);
     }
     same_at(rt, &row.label, found.identity, row.identity);
-    Ok(())
 }
 
 // ---- what it renders
@@ -398,7 +412,7 @@ fn rendered<R: Abort + Wait + Clock>(
     values: &Values,
     row: &Row<'_>,
     depth: Depth,
-) -> Result<Image, Fail>
+) -> Result<Image, Memory>
     requires lawful { IsLawfulIn (meaning_of effect).shape context values.now }
     requires frame { IsFrame values.now.frame }
     requires shown { shown.now ≡ shown_components (meaning_of effect).shape context Rgba }
@@ -534,7 +548,7 @@ fn pixel_of(depth: Depth, components: Components, samples: &[u16; 4]) -> Pixel
 }
 
 // Compares an image with its pixels by rows from the bottom. Behind the last one they are zero.
-fn same_pixels(rt: &impl Abort, image: &Image, wanted: &[[u16; 4]]) -> Result<(), Fail> {
+fn same_pixels(rt: &impl Abort, image: &Image, wanted: &[[u16; 4]]) {
     let rect = image.rect();
     let mut left = wanted.iter();
     for y in rect.y1..rect.y2 {
@@ -544,5 +558,4 @@ fn same_pixels(rt: &impl Abort, image: &Image, wanted: &[[u16; 4]]) -> Result<()
             same_at(rt, &(&x, &y), image.at(x, y), pixel);
         }
     }
-    Ok(())
 }

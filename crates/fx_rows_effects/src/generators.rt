@@ -1,17 +1,16 @@
 //! Generators: all their actions, and pixels worked by hand at both depths.
-use crate::asking::{Row, byte_row, flags_of, no_clips, short_row, values_of};
+use crate::asking::{Row, both_rows, flags_of, no_clips, values_of};
 use crate::rows::{AXES, GENERATED, PROJECT, choice, fix, int};
 use fx_effect::Context;
 use fx_shipped::Shipped;
-use std::test::Fail;
 
 #[test]
-fn solid(rt: HostRuntime) -> Result<(), Fail> {
+fn solid(rt: HostRuntime) {
     let alloc = rt.alloc();
     let (effect, context) = (Shipped::Solid, Context::Generator);
-    let names = no_clips(alloc)?;
-    let optional = flags_of(alloc, &[])?;
-    let values = values_of(alloc, 7, &[65536, 32768, 0, 32767], &[], PROJECT)?;
+    let names = no_clips(&rt);
+    let optional = flags_of(&rt, &[]);
+    let values = values_of(&rt, 7, &[65536, 32768, 0, 32767], &[], PROJECT);
     let params = [
         fix("r", 0, 65536, 0),
         fix("g", 0, 65536, 0),
@@ -25,7 +24,7 @@ fn solid(rt: HostRuntime) -> Result<(), Fail> {
         shorts: &[[65535, 32768, 0, 32767], [65535, 32768, 0, 32767]],
         ..GENERATED
     };
-    byte_row(
+    both_rows(
         &rt,
         alloc,
         effect,
@@ -36,17 +35,16 @@ fn solid(rt: HostRuntime) -> Result<(), Fail> {
         &values,
         &[],
         &wanted,
-    )?;
-    short_row(&rt, alloc, effect, context, &[], &values, &wanted)
+    );
 }
 
 #[test]
-fn checker(rt: HostRuntime) -> Result<(), Fail> {
+fn checker(rt: HostRuntime) {
     let alloc = rt.alloc();
     let (effect, context) = (Shipped::Checker, Context::Generator);
-    let names = no_clips(alloc)?;
-    let optional = flags_of(alloc, &[])?;
-    let values = values_of(alloc, 7, &[2, 32768], &[], PROJECT)?;
+    let names = no_clips(&rt);
+    let optional = flags_of(&rt, &[]);
+    let values = values_of(&rt, 7, &[2, 32768], &[], PROJECT);
     let params = [int("size", 1, 4096, 16), fix("level", 0, 65536, 65536)];
     let wanted = Row {
         label: "checker",
@@ -55,7 +53,7 @@ fn checker(rt: HostRuntime) -> Result<(), Fail> {
         shorts: &[[32768, 32768, 32768, 65535], [0, 0, 0, 65535]],
         ..GENERATED
     };
-    byte_row(
+    both_rows(
         &rt,
         alloc,
         effect,
@@ -66,17 +64,16 @@ fn checker(rt: HostRuntime) -> Result<(), Fail> {
         &values,
         &[],
         &wanted,
-    )?;
-    short_row(&rt, alloc, effect, context, &[], &values, &wanted)
+    );
 }
 
 #[test]
-fn ramp(rt: HostRuntime) -> Result<(), Fail> {
+fn ramp(rt: HostRuntime) {
     let alloc = rt.alloc();
     let (effect, context) = (Shipped::Ramp, Context::Generator);
-    let names = no_clips(alloc)?;
-    let optional = flags_of(alloc, &[])?;
-    let values = values_of(alloc, 7, &[0], &[], PROJECT)?;
+    let names = no_clips(&rt);
+    let optional = flags_of(&rt, &[]);
+    let values = values_of(&rt, 7, &[0], &[], PROJECT);
     let params = [choice("axis", &AXES, 0)];
     let wanted = Row {
         label: "ramp",
@@ -85,7 +82,7 @@ fn ramp(rt: HostRuntime) -> Result<(), Fail> {
         shorts: &[[32768, 32768, 32768, 65535], [65535, 65535, 65535, 65535]],
         ..GENERATED
     };
-    byte_row(
+    both_rows(
         &rt,
         alloc,
         effect,
@@ -96,17 +93,16 @@ fn ramp(rt: HostRuntime) -> Result<(), Fail> {
         &values,
         &[],
         &wanted,
-    )?;
-    short_row(&rt, alloc, effect, context, &[], &values, &wanted)
+    );
 }
 
 #[test]
-fn grain(rt: HostRuntime) -> Result<(), Fail> {
+fn grain(rt: HostRuntime) {
     let alloc = rt.alloc();
     let (effect, context) = (Shipped::Grain, Context::Generator);
-    let names = no_clips(alloc)?;
-    let optional = flags_of(alloc, &[])?;
-    let values = values_of(alloc, 7, &[5, 32768], &[], PROJECT)?;
+    let names = no_clips(&rt);
+    let optional = flags_of(&rt, &[]);
+    let values = values_of(&rt, 7, &[5, 32768], &[], PROJECT);
     let params = [int("seed", 0, 999999, 0), fix("amount", 0, 65536, 65536)];
     let wanted = Row {
         label: "grain",
@@ -115,7 +111,7 @@ fn grain(rt: HostRuntime) -> Result<(), Fail> {
         shorts: &[[17821, 17821, 17821, 65535], [8842, 8842, 8842, 65535]],
         ..GENERATED
     };
-    byte_row(
+    both_rows(
         &rt,
         alloc,
         effect,
@@ -126,6 +122,5 @@ fn grain(rt: HostRuntime) -> Result<(), Fail> {
         &values,
         &[],
         &wanted,
-    )?;
-    short_row(&rt, alloc, effect, context, &[], &values, &wanted)
+    );
 }

@@ -21,7 +21,6 @@ use std::alloc::Global;
 use std::rt::Clock;
 use std::sync::Wait;
 use std::sync::atomic::{AtomicU64, Ordering};
-use std::test::Fail;
 
 const GREY: Pixel = Pixel::Rgba {
     r: 9,
@@ -118,34 +117,35 @@ fn one_renders<R: Wait + Clock>(
 }
 
 #[test]
-fn actions_come_in_order(rt: HostRuntime) -> Result<(), Fail> {
+fn actions_come_in_order(rt: HostRuntime) {
     let notes = AtomicU64::new(0);
-    let (image, stamped) = one_renders(&rt, rt.alloc(), noting(&notes))?;
+    let (image, stamped) = one_renders(&rt, rt.alloc(), noting(&notes)).expect(&rt, "no memory");
     // loaded, described, and in its context; created; begun from 4 to 9; rendered; ended; destroyed; unloaded
     same(&rt, notes.load(Ordering::SeqCst), 1234549674989);
     assert!(rt; stamped);
     // Column 0 is left of the window, and column 2 in it.
     same(&rt, image.at(0, 1), GREY);
     same(&rt, image.at(2, 0), CLEAR);
-    Ok(())
 }
 
 #[test]
-fn instances_stand_before_sequences_begin(rt: HostRuntime) -> Result<(), Fail> {
+fn instances_stand_before_sequences_begin(rt: HostRuntime) {
     let notes = AtomicU64::new(0);
-    Running::start(rt.alloc(), noting(&notes), &[used_by(8), used_by(9)], 4, 9)?.finish();
+    Running::start(rt.alloc(), noting(&notes), &[used_by(8), used_by(9)], 4, 9)
+        .expect(&rt, "no memory")
+        .finish();
     // Both are created, both begin; both end, both are destroyed.
     same(&rt, notes.load(Ordering::SeqCst), 12344549549749749889);
-    Ok(())
 }
 
 #[test]
-fn an_effect_without_instances_is_described(rt: HostRuntime) -> Result<(), Fail> {
+fn an_effect_without_instances_is_described(rt: HostRuntime) {
     let notes = AtomicU64::new(0);
-    Running::start(rt.alloc(), noting(&notes), &[], 4, 9)?.finish();
+    Running::start(rt.alloc(), noting(&notes), &[], 4, 9)
+        .expect(&rt, "no memory")
+        .finish();
     // loaded, described, unloaded
     same(&rt, notes.load(Ordering::SeqCst), 129);
-    Ok(())
 }
 
 // Asks for all actions, each once: in the life of an instance that renders once, by the host's own questions, and
@@ -171,14 +171,13 @@ fn ask_regions(alloc: Global, effect: Toys<'_>) -> Result<(), Memory> {
 }
 
 #[test]
-fn each_action_reaches_its_effect(rt: HostRuntime) -> Result<(), Fail> {
+fn each_action_reaches_its_effect(rt: HostRuntime) {
     let (first, second) = (AtomicU64::new(0), AtomicU64::new(0));
-    ask_each(&rt, rt.alloc(), Toys::One(counting(&first)))?;
-    ask_each(&rt, rt.alloc(), Toys::Other(counting(&second)))?;
+    ask_each(&rt, rt.alloc(), Toys::One(counting(&first))).expect(&rt, "no memory");
+    ask_each(&rt, rt.alloc(), Toys::Other(counting(&second))).expect(&rt, "no memory");
     // Each of the fourteen came once.
     same(&rt, first.load(Ordering::SeqCst), 0x11_1111_1111_1111);
     same(&rt, second.load(Ordering::SeqCst), 0x11_1111_1111_1111);
-    Ok(())
 }
 
 // The gate of a node, of the effect that the catalogue has by this name.
@@ -206,14 +205,17 @@ fn gate_of<E: Catalogue + Drop>(alloc: Global, name: &str, node: u32) -> Result<
 }
 
 #[test]
-fn gates_are_the_plugins_or_the_instances(rt: HostRuntime) -> Result<(), Fail> {
+fn gates_are_the_plugins_or_the_instances(rt: HostRuntime) {
     let alloc = rt.alloc();
-    same(&rt, gate_of::<Toys<'_>>(alloc, "toy", 0)?, Some(3));
-    same(&rt, gate_of::<Toys<'_>>(alloc, "toy", 9)?, Some(3));
-    same(&rt, gate_of::<Toys<'_>>(alloc, "nobody", 9)?, None);
+    same(&rt, gate_of::<Toys<'_>>(alloc, "toy", 0), Ok(Some(3)));
+    same(&rt, gate_of::<Toys<'_>>(alloc, "toy", 9), Ok(Some(3)));
+    same(&rt, gate_of::<Toys<'_>>(alloc, "nobody", 9), Ok(None));
     // The number of an unsafe effect, and 64 plus the node of one whose instances are safe.
-    same(&rt, gate_of::<Shipped>(alloc, "frameblend", 9)?, Some(19));
-    same(&rt, gate_of::<Shipped>(alloc, "boxblur", 9)?, Some(73));
-    same(&rt, gate_of::<Shipped>(alloc, "solid", 9)?, None);
-    Ok(())
+    same(
+        &rt,
+        gate_of::<Shipped>(alloc, "frameblend", 9),
+        Ok(Some(19)),
+    );
+    same(&rt, gate_of::<Shipped>(alloc, "boxblur", 9), Ok(Some(73)));
+    same(&rt, gate_of::<Shipped>(alloc, "solid", 9), Ok(None));
 }

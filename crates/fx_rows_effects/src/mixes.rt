@@ -1,5 +1,5 @@
 //! Effects of several clips: all their actions, and pixels worked by hand at both depths.
-use crate::asking::{Row, byte_row, flags_of, short_row, three_clips, two_clips, values_of};
+use crate::asking::{Row, both_rows, flags_of, three_clips, two_clips, values_of};
 use crate::rows::{
     KEYED_CLIPS, MERGED, MIXED, OF_THREE, OPERATIONS, PROJECT, SOURCE, TWO_CLIPS, WITH_MASK,
     choice, fix,
@@ -7,15 +7,14 @@ use crate::rows::{
 use fx_effect::Context;
 use fx_pixel::Components;
 use fx_shipped::Shipped;
-use std::test::Fail;
 
 #[test]
-fn dissolve(rt: HostRuntime) -> Result<(), Fail> {
+fn dissolve(rt: HostRuntime) {
     let alloc = rt.alloc();
     let (effect, context) = (Shipped::Dissolve, Context::Transition);
-    let names = two_clips(alloc, "SourceFrom", "SourceTo")?;
-    let optional = flags_of(alloc, &[false, false])?;
-    let values = values_of(alloc, 7, &[32768], &[true, true], PROJECT)?;
+    let names = two_clips(&rt, "SourceFrom", "SourceTo");
+    let optional = flags_of(&rt, &[false, false]);
+    let values = values_of(&rt, 7, &[32768], &[true, true], PROJECT);
     let params = [fix("Transition", 0, 65536, 0)];
     let wanted = Row {
         label: "dissolve",
@@ -25,7 +24,7 @@ fn dissolve(rt: HostRuntime) -> Result<(), Fail> {
         shorts: &[[15, 100, 15, 192], [0, 128, 127, 128], [129, 129, 128, 128]],
         ..MIXED
     };
-    byte_row(
+    both_rows(
         &rt,
         alloc,
         effect,
@@ -36,25 +35,16 @@ fn dissolve(rt: HostRuntime) -> Result<(), Fail> {
         &values,
         &[SOURCE, SOURCE],
         &wanted,
-    )?;
-    short_row(
-        &rt,
-        alloc,
-        effect,
-        context,
-        &[Components::Rgba, Components::Rgba],
-        &values,
-        &wanted,
-    )
+    );
 }
 
 #[test]
-fn wipe(rt: HostRuntime) -> Result<(), Fail> {
+fn wipe(rt: HostRuntime) {
     let alloc = rt.alloc();
     let (effect, context) = (Shipped::Wipe, Context::Transition);
-    let names = two_clips(alloc, "SourceFrom", "SourceTo")?;
-    let optional = flags_of(alloc, &[false, false])?;
-    let values = values_of(alloc, 7, &[43691], &[true, true], PROJECT)?;
+    let names = two_clips(&rt, "SourceFrom", "SourceTo");
+    let optional = flags_of(&rt, &[false, false]);
+    let values = values_of(&rt, 7, &[43691], &[true, true], PROJECT);
     let params = [fix("Transition", 0, 65536, 0)];
     let wanted = Row {
         label: "wipe",
@@ -64,7 +54,7 @@ fn wipe(rt: HostRuntime) -> Result<(), Fail> {
         shorts: &[[20, 0, 0, 255], [0, 255, 254, 255], [3, 2, 1, 0]],
         ..MIXED
     };
-    byte_row(
+    both_rows(
         &rt,
         alloc,
         effect,
@@ -75,25 +65,16 @@ fn wipe(rt: HostRuntime) -> Result<(), Fail> {
         &values,
         &[SOURCE, SOURCE],
         &wanted,
-    )?;
-    short_row(
-        &rt,
-        alloc,
-        effect,
-        context,
-        &[Components::Rgba, Components::Rgba],
-        &values,
-        &wanted,
-    )
+    );
 }
 
 #[test]
-fn merge(rt: HostRuntime) -> Result<(), Fail> {
+fn merge(rt: HostRuntime) {
     let alloc = rt.alloc();
     let (effect, context) = (Shipped::Merge, Context::General);
-    let names = two_clips(alloc, "A", "B")?;
-    let optional = flags_of(alloc, &[false, false])?;
-    let values = values_of(alloc, 7, &[0], &[true, true], PROJECT)?;
+    let names = two_clips(&rt, "A", "B");
+    let optional = flags_of(&rt, &[false, false]);
+    let values = values_of(&rt, 7, &[0], &[true, true], PROJECT);
     let params = [choice("operation", &OPERATIONS, 0)];
     let wanted = Row {
         label: "merge",
@@ -103,7 +84,7 @@ fn merge(rt: HostRuntime) -> Result<(), Fail> {
         shorts: &[[30, 200, 30, 383], [0, 255, 254, 255], [258, 257, 256, 255]],
         ..MERGED
     };
-    byte_row(
+    both_rows(
         &rt,
         alloc,
         effect,
@@ -114,25 +95,16 @@ fn merge(rt: HostRuntime) -> Result<(), Fail> {
         &values,
         &[SOURCE, SOURCE],
         &wanted,
-    )?;
-    short_row(
-        &rt,
-        alloc,
-        effect,
-        context,
-        &[Components::Rgba, Components::Rgba],
-        &values,
-        &wanted,
-    )
+    );
 }
 
 #[test]
-fn keymix(rt: HostRuntime) -> Result<(), Fail> {
+fn keymix(rt: HostRuntime) {
     let alloc = rt.alloc();
     let (effect, context) = (Shipped::Keymix, Context::General);
-    let names = three_clips(alloc, "A", "B", "Mask")?;
-    let optional = flags_of(alloc, &[false, false, true])?;
-    let values = values_of(alloc, 7, &[], &[true, true, true], PROJECT)?;
+    let names = three_clips(&rt, "A", "B", "Mask");
+    let optional = flags_of(&rt, &[false, false, true]);
+    let values = values_of(&rt, 7, &[], &[true, true, true], PROJECT);
     let wanted = Row {
         label: "keymix",
         clips: &KEYED_CLIPS,
@@ -143,7 +115,7 @@ fn keymix(rt: HostRuntime) -> Result<(), Fail> {
         shorts: &[[20, 0, 0, 255], [0, 0, 0, 0], [254, 254, 254, 254]],
         ..MERGED
     };
-    byte_row(
+    both_rows(
         &rt,
         alloc,
         effect,
@@ -154,14 +126,5 @@ fn keymix(rt: HostRuntime) -> Result<(), Fail> {
         &values,
         &[SOURCE, SOURCE, SOURCE],
         &wanted,
-    )?;
-    short_row(
-        &rt,
-        alloc,
-        effect,
-        context,
-        &[Components::Rgba, Components::Rgba, Components::Alpha],
-        &values,
-        &wanted,
-    )
+    );
 }

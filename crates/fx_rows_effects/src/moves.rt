@@ -1,19 +1,18 @@
 //! Effects that read at another place: all their actions, and pixels worked by hand at both depths.
-use crate::asking::{Frame, Picture, Row, byte_row, flags_of, one_clip, short_row, values_of};
+use crate::asking::{Frame, Picture, Row, both_rows, flags_of, one_clip, values_of};
 use crate::rows::{AXES, FILTERED, PROJECT, SOURCE, SOURCE_CLIP, choice, fix, int};
 use fx_base::Rect;
 use fx_effect::Context;
 use fx_pixel::Components;
 use fx_shipped::Shipped;
-use std::test::Fail;
 
 #[test]
-fn crop(rt: HostRuntime) -> Result<(), Fail> {
+fn crop(rt: HostRuntime) {
     let alloc = rt.alloc();
     let (effect, context) = (Shipped::Crop, Context::Filter);
-    let names = one_clip(alloc, "Source")?;
-    let optional = flags_of(alloc, &[false])?;
-    let values = values_of(alloc, 7, &[2, 0, 1, 5], &[true], PROJECT)?;
+    let names = one_clip(&rt, "Source");
+    let optional = flags_of(&rt, &[false]);
+    let values = values_of(&rt, 7, &[2, 0, 1, 5], &[true], PROJECT);
     let params = [
         int("x", -16384, 16384, 0),
         int("y", -16384, 16384, 0),
@@ -40,7 +39,7 @@ fn crop(rt: HostRuntime) -> Result<(), Fail> {
         shorts: &[[0, 0, 0, 0], [0, 255, 254, 255]],
         ..FILTERED
     };
-    byte_row(
+    both_rows(
         &rt,
         alloc,
         effect,
@@ -51,25 +50,16 @@ fn crop(rt: HostRuntime) -> Result<(), Fail> {
         &values,
         &[SOURCE],
         &wanted,
-    )?;
-    short_row(
-        &rt,
-        alloc,
-        effect,
-        context,
-        &[Components::Rgba],
-        &values,
-        &wanted,
-    )
+    );
 }
 
 #[test]
-fn translate(rt: HostRuntime) -> Result<(), Fail> {
+fn translate(rt: HostRuntime) {
     let alloc = rt.alloc();
     let (effect, context) = (Shipped::Translate, Context::Filter);
-    let names = one_clip(alloc, "Source")?;
-    let optional = flags_of(alloc, &[false])?;
-    let values = values_of(alloc, 7, &[98304, 0], &[true], PROJECT)?;
+    let names = one_clip(&rt, "Source");
+    let optional = flags_of(&rt, &[false]);
+    let values = values_of(&rt, 7, &[98304, 0], &[true], PROJECT);
     let params = [
         fix("dx", -1073741824, 1073741824, 0),
         fix("dy", -1073741824, 1073741824, 0),
@@ -104,7 +94,7 @@ fn translate(rt: HostRuntime) -> Result<(), Fail> {
         ],
         ..FILTERED
     };
-    byte_row(
+    both_rows(
         &rt,
         alloc,
         effect,
@@ -115,25 +105,16 @@ fn translate(rt: HostRuntime) -> Result<(), Fail> {
         &values,
         &[SOURCE],
         &wanted,
-    )?;
-    short_row(
-        &rt,
-        alloc,
-        effect,
-        context,
-        &[Components::Rgba],
-        &values,
-        &wanted,
-    )
+    );
 }
 
 #[test]
-fn mirror(rt: HostRuntime) -> Result<(), Fail> {
+fn mirror(rt: HostRuntime) {
     let alloc = rt.alloc();
     let (effect, context) = (Shipped::Mirror, Context::Filter);
-    let names = one_clip(alloc, "Source")?;
-    let optional = flags_of(alloc, &[false])?;
-    let values = values_of(alloc, 7, &[0], &[true], PROJECT)?;
+    let names = one_clip(&rt, "Source");
+    let optional = flags_of(&rt, &[false]);
+    let values = values_of(&rt, 7, &[0], &[true], PROJECT);
     let params = [choice("axis", &AXES, 0)];
     let wanted = Row {
         label: "mirror",
@@ -155,7 +136,7 @@ fn mirror(rt: HostRuntime) -> Result<(), Fail> {
         shorts: &[[10, 200, 30, 128], [1, 1, 1, 1]],
         ..FILTERED
     };
-    byte_row(
+    both_rows(
         &rt,
         alloc,
         effect,
@@ -166,14 +147,5 @@ fn mirror(rt: HostRuntime) -> Result<(), Fail> {
         &values,
         &[SOURCE],
         &wanted,
-    )?;
-    short_row(
-        &rt,
-        alloc,
-        effect,
-        context,
-        &[Components::Rgba],
-        &values,
-        &wanted,
-    )
+    );
 }

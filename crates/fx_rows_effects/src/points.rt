@@ -1,18 +1,17 @@
 //! Effects that make each pixel of the one at its place: all their actions, and pixels worked by hand at both depths.
-use crate::asking::{Frame, Picture, Row, byte_row, flags_of, one_clip, short_row, values_of};
+use crate::asking::{Frame, Picture, Row, both_rows, byte_row, flags_of, one_clip, values_of};
 use crate::rows::{BYTES, FILTERED, PROJECT, SAMPLES, SOURCE, SOURCE_CLIP, choice, fix, int};
 use fx_effect::Context;
 use fx_pixel::Components;
 use fx_shipped::Shipped;
-use std::test::Fail;
 
 #[test]
-fn invert(rt: HostRuntime) -> Result<(), Fail> {
+fn invert(rt: HostRuntime) {
     let alloc = rt.alloc();
     let (effect, context) = (Shipped::Invert, Context::Filter);
-    let names = one_clip(alloc, "Source")?;
-    let optional = flags_of(alloc, &[false])?;
-    let values = values_of(alloc, 7, &[], &[true], PROJECT)?;
+    let names = one_clip(&rt, "Source");
+    let optional = flags_of(&rt, &[false]);
+    let values = values_of(&rt, 7, &[], &[true], PROJECT);
     let wanted = Row {
         label: "invert",
         sources: &[Frame {
@@ -24,7 +23,7 @@ fn invert(rt: HostRuntime) -> Result<(), Fail> {
         shorts: &[[118, 0, 98, 128], [255, 0, 1, 255]],
         ..FILTERED
     };
-    byte_row(
+    both_rows(
         &rt,
         alloc,
         effect,
@@ -35,25 +34,16 @@ fn invert(rt: HostRuntime) -> Result<(), Fail> {
         &values,
         &[SOURCE],
         &wanted,
-    )?;
-    short_row(
-        &rt,
-        alloc,
-        effect,
-        context,
-        &[Components::Rgba],
-        &values,
-        &wanted,
-    )
+    );
 }
 
 #[test]
-fn gain(rt: HostRuntime) -> Result<(), Fail> {
+fn gain(rt: HostRuntime) {
     let alloc = rt.alloc();
     let (effect, context) = (Shipped::Gain, Context::Filter);
-    let names = one_clip(alloc, "Source")?;
-    let optional = flags_of(alloc, &[false])?;
-    let values = values_of(alloc, 7, &[98304], &[true], PROJECT)?;
+    let names = one_clip(&rt, "Source");
+    let optional = flags_of(&rt, &[false]);
+    let values = values_of(&rt, 7, &[98304], &[true], PROJECT);
     let params = [fix("gain", 0, 1048576, 65536)];
     let wanted = Row {
         label: "gain",
@@ -68,7 +58,7 @@ fn gain(rt: HostRuntime) -> Result<(), Fail> {
         shorts: &[[15, 300, 45, 128], [0, 383, 381, 255], [5, 3, 2, 0]],
         ..FILTERED
     };
-    byte_row(
+    both_rows(
         &rt,
         alloc,
         effect,
@@ -79,25 +69,16 @@ fn gain(rt: HostRuntime) -> Result<(), Fail> {
         &values,
         &[SOURCE],
         &wanted,
-    )?;
-    short_row(
-        &rt,
-        alloc,
-        effect,
-        context,
-        &[Components::Rgba],
-        &values,
-        &wanted,
-    )
+    );
 }
 
 #[test]
-fn premult(rt: HostRuntime) -> Result<(), Fail> {
+fn premult(rt: HostRuntime) {
     let alloc = rt.alloc();
     let (effect, context) = (Shipped::Premult, Context::Filter);
-    let names = one_clip(alloc, "Source")?;
-    let optional = flags_of(alloc, &[false])?;
-    let values = values_of(alloc, 7, &[], &[true], PROJECT)?;
+    let names = one_clip(&rt, "Source");
+    let optional = flags_of(&rt, &[false]);
+    let values = values_of(&rt, 7, &[], &[true], PROJECT);
     let wanted = Row {
         label: "premult",
         sources: &[Frame {
@@ -109,7 +90,7 @@ fn premult(rt: HostRuntime) -> Result<(), Fail> {
         shorts: &[[0, 0, 0, 128], [0, 1, 1, 255]],
         ..FILTERED
     };
-    byte_row(
+    both_rows(
         &rt,
         alloc,
         effect,
@@ -120,25 +101,16 @@ fn premult(rt: HostRuntime) -> Result<(), Fail> {
         &values,
         &[SOURCE],
         &wanted,
-    )?;
-    short_row(
-        &rt,
-        alloc,
-        effect,
-        context,
-        &[Components::Rgba],
-        &values,
-        &wanted,
-    )
+    );
 }
 
 #[test]
-fn unpremult(rt: HostRuntime) -> Result<(), Fail> {
+fn unpremult(rt: HostRuntime) {
     let alloc = rt.alloc();
     let (effect, context) = (Shipped::Unpremult, Context::Filter);
-    let names = one_clip(alloc, "Source")?;
-    let optional = flags_of(alloc, &[false])?;
-    let values = values_of(alloc, 7, &[], &[true], PROJECT)?;
+    let names = one_clip(&rt, "Source");
+    let optional = flags_of(&rt, &[false]);
+    let values = values_of(&rt, 7, &[], &[true], PROJECT);
     let wanted = Row {
         label: "unpremult",
         sources: &[Frame {
@@ -150,7 +122,7 @@ fn unpremult(rt: HostRuntime) -> Result<(), Fail> {
         shorts: &[[5120, 65535, 15360, 128], [0, 65535, 65278, 255]],
         ..FILTERED
     };
-    byte_row(
+    both_rows(
         &rt,
         alloc,
         effect,
@@ -161,25 +133,16 @@ fn unpremult(rt: HostRuntime) -> Result<(), Fail> {
         &values,
         &[SOURCE],
         &wanted,
-    )?;
-    short_row(
-        &rt,
-        alloc,
-        effect,
-        context,
-        &[Components::Rgba],
-        &values,
-        &wanted,
-    )
+    );
 }
 
 #[test]
-fn shuffle(rt: HostRuntime) -> Result<(), Fail> {
+fn shuffle(rt: HostRuntime) {
     let alloc = rt.alloc();
     let (effect, context) = (Shipped::Shuffle, Context::Filter);
-    let names = one_clip(alloc, "Source")?;
-    let optional = flags_of(alloc, &[false])?;
-    let values = values_of(alloc, 7, &[3, 4, 0, 1], &[true], PROJECT)?;
+    let names = one_clip(&rt, "Source");
+    let optional = flags_of(&rt, &[false]);
+    let values = values_of(&rt, 7, &[3, 4, 0, 1], &[true], PROJECT);
     let params = [
         choice("r", &SAMPLES, 0),
         choice("g", &SAMPLES, 1),
@@ -198,7 +161,7 @@ fn shuffle(rt: HostRuntime) -> Result<(), Fail> {
         shorts: &[[128, 0, 10, 200], [255, 0, 0, 255], [0, 0, 3, 2]],
         ..FILTERED
     };
-    byte_row(
+    both_rows(
         &rt,
         alloc,
         effect,
@@ -209,25 +172,16 @@ fn shuffle(rt: HostRuntime) -> Result<(), Fail> {
         &values,
         &[SOURCE],
         &wanted,
-    )?;
-    short_row(
-        &rt,
-        alloc,
-        effect,
-        context,
-        &[Components::Rgba],
-        &values,
-        &wanted,
-    )
+    );
 }
 
 #[test]
-fn saturation(rt: HostRuntime) -> Result<(), Fail> {
+fn saturation(rt: HostRuntime) {
     let alloc = rt.alloc();
     let (effect, context) = (Shipped::Saturation, Context::Filter);
-    let names = one_clip(alloc, "Source")?;
-    let optional = flags_of(alloc, &[false])?;
-    let values = values_of(alloc, 7, &[98304], &[true], PROJECT)?;
+    let names = one_clip(&rt, "Source");
+    let optional = flags_of(&rt, &[false]);
+    let values = values_of(&rt, 7, &[98304], &[true], PROJECT);
     let params = [fix("amount", 0, 262144, 65536)];
     let wanted = Row {
         label: "saturation",
@@ -241,7 +195,7 @@ fn saturation(rt: HostRuntime) -> Result<(), Fail> {
         shorts: &[[0, 226, 0, 128], [0, 282, 280, 255], [3, 2, 0, 0]],
         ..FILTERED
     };
-    byte_row(
+    both_rows(
         &rt,
         alloc,
         effect,
@@ -252,25 +206,16 @@ fn saturation(rt: HostRuntime) -> Result<(), Fail> {
         &values,
         &[SOURCE],
         &wanted,
-    )?;
-    short_row(
-        &rt,
-        alloc,
-        effect,
-        context,
-        &[Components::Rgba],
-        &values,
-        &wanted,
-    )
+    );
 }
 
 #[test]
-fn posterise(rt: HostRuntime) -> Result<(), Fail> {
+fn posterise(rt: HostRuntime) {
     let alloc = rt.alloc();
     let (effect, context) = (Shipped::Posterise, Context::Filter);
-    let names = one_clip(alloc, "Source")?;
-    let optional = flags_of(alloc, &[false])?;
-    let values = values_of(alloc, 7, &[3], &[true], PROJECT)?;
+    let names = one_clip(&rt, "Source");
+    let optional = flags_of(&rt, &[false]);
+    let values = values_of(&rt, 7, &[3], &[true], PROJECT);
     let params = [int("levels", 2, 256, 256)];
     let wanted = Row {
         label: "posterise",
@@ -295,5 +240,5 @@ fn posterise(rt: HostRuntime) -> Result<(), Fail> {
         &values,
         &[SOURCE],
         &wanted,
-    )
+    );
 }

@@ -1,13 +1,10 @@
-//! What tests compare by. A body with many assertions is long for the check; one with many calls is not.
-ghost use Rattle.std.specs.Prelude.{◌≡◌, true};
-
+//! What tests compare by. A body with many assertions is long for the check; one with many calls is not, the less so
+//! where they say nothing of what they compared.
 use std::fmt::Debug;
 use std::process::Abort;
 
 /// Fails the test where these differ.
-pub(crate) fn same<T: PartialEq + Debug + Drop>(rt: &impl Abort, had: T, wanted: T)
-    ensures { T.eq had wanted ≡ true }
-{
+pub(crate) fn same<T: PartialEq + Debug + Drop>(rt: &impl Abort, had: T, wanted: T) {
     assert_eq!(rt; had, wanted);
 }
 
@@ -17,8 +14,6 @@ pub(crate) fn same_at<L: Debug, T: PartialEq + Debug + Drop>(
     row: &L,
     had: T,
     wanted: T,
-)
-    ensures { T.eq had wanted ≡ true }
-{
+) {
     assert_eq!(rt; had, wanted, "at {row:?}");
 }

@@ -1,5 +1,5 @@
 //! Effects that read other frames: all their actions, and pixels worked by hand at both depths.
-use crate::asking::{Row, byte_row, flags_of, one_clip, short_row, values_of};
+use crate::asking::{Row, both_rows, flags_of, one_clip, values_of};
 use crate::rows::{
     AROUND, BEFORE_AND_NOW, FILTERED, LAST_TWO, NEXT, NOW_AND_NEXT, PROJECT, SOURCE, SOURCE_CLIP,
     UNSAFE, int,
@@ -7,15 +7,14 @@ use crate::rows::{
 use fx_effect::{Context, Identity};
 use fx_pixel::Components;
 use fx_shipped::Shipped;
-use std::test::Fail;
 
 #[test]
-fn timeoffset(rt: HostRuntime) -> Result<(), Fail> {
+fn timeoffset(rt: HostRuntime) {
     let alloc = rt.alloc();
     let (effect, context) = (Shipped::Timeoffset, Context::Filter);
-    let names = one_clip(alloc, "Source")?;
-    let optional = flags_of(alloc, &[false])?;
-    let values = values_of(alloc, 7, &[-1], &[true], PROJECT)?;
+    let names = one_clip(&rt, "Source");
+    let optional = flags_of(&rt, &[false]);
+    let values = values_of(&rt, 7, &[-1], &[true], PROJECT);
     let params = [int("offset", -100000, 100000, 0)];
     let wanted = Row {
         label: "timeoffset",
@@ -29,7 +28,7 @@ fn timeoffset(rt: HostRuntime) -> Result<(), Fail> {
         shorts: &[[20, 0, 0, 255], [0, 0, 0, 0], [255, 255, 255, 255]],
         ..FILTERED
     };
-    byte_row(
+    both_rows(
         &rt,
         alloc,
         effect,
@@ -40,25 +39,16 @@ fn timeoffset(rt: HostRuntime) -> Result<(), Fail> {
         &values,
         &[SOURCE],
         &wanted,
-    )?;
-    short_row(
-        &rt,
-        alloc,
-        effect,
-        context,
-        &[Components::Rgba],
-        &values,
-        &wanted,
-    )
+    );
 }
 
 #[test]
-fn frameblend(rt: HostRuntime) -> Result<(), Fail> {
+fn frameblend(rt: HostRuntime) {
     let alloc = rt.alloc();
     let (effect, context) = (Shipped::Frameblend, Context::Filter);
-    let names = one_clip(alloc, "Source")?;
-    let optional = flags_of(alloc, &[false])?;
-    let values = values_of(alloc, 7, &[1], &[true], PROJECT)?;
+    let names = one_clip(&rt, "Source");
+    let optional = flags_of(&rt, &[false]);
+    let values = values_of(&rt, 7, &[1], &[true], PROJECT);
     let params = [int("radius", 0, 16, 1)];
     let wanted = Row {
         label: "frameblend",
@@ -72,7 +62,7 @@ fn frameblend(rt: HostRuntime) -> Result<(), Fail> {
         shorts: &[[10, 67, 10, 128], [0, 85, 85, 85], [86, 86, 85, 85]],
         ..FILTERED
     };
-    byte_row(
+    both_rows(
         &rt,
         alloc,
         effect,
@@ -83,25 +73,16 @@ fn frameblend(rt: HostRuntime) -> Result<(), Fail> {
         &values,
         &[SOURCE],
         &wanted,
-    )?;
-    short_row(
-        &rt,
-        alloc,
-        effect,
-        context,
-        &[Components::Rgba],
-        &values,
-        &wanted,
-    )
+    );
 }
 
 #[test]
-fn framediff(rt: HostRuntime) -> Result<(), Fail> {
+fn framediff(rt: HostRuntime) {
     let alloc = rt.alloc();
     let (effect, context) = (Shipped::Framediff, Context::Filter);
-    let names = one_clip(alloc, "Source")?;
-    let optional = flags_of(alloc, &[false])?;
-    let values = values_of(alloc, 7, &[1], &[true], PROJECT)?;
+    let names = one_clip(&rt, "Source");
+    let optional = flags_of(&rt, &[false]);
+    let values = values_of(&rt, 7, &[1], &[true], PROJECT);
     let params = [int("gap", 1, 16, 1)];
     let wanted = Row {
         label: "framediff",
@@ -114,7 +95,7 @@ fn framediff(rt: HostRuntime) -> Result<(), Fail> {
         shorts: &[[10, 200, 30, 255], [0, 255, 254, 255], [252, 253, 254, 255]],
         ..FILTERED
     };
-    byte_row(
+    both_rows(
         &rt,
         alloc,
         effect,
@@ -125,25 +106,16 @@ fn framediff(rt: HostRuntime) -> Result<(), Fail> {
         &values,
         &[SOURCE],
         &wanted,
-    )?;
-    short_row(
-        &rt,
-        alloc,
-        effect,
-        context,
-        &[Components::Rgba],
-        &values,
-        &wanted,
-    )
+    );
 }
 
 #[test]
-fn echo(rt: HostRuntime) -> Result<(), Fail> {
+fn echo(rt: HostRuntime) {
     let alloc = rt.alloc();
     let (effect, context) = (Shipped::Echo, Context::Filter);
-    let names = one_clip(alloc, "Source")?;
-    let optional = flags_of(alloc, &[false])?;
-    let values = values_of(alloc, 7, &[1, 1], &[true], PROJECT)?;
+    let names = one_clip(&rt, "Source");
+    let optional = flags_of(&rt, &[false]);
+    let values = values_of(&rt, 7, &[1, 1], &[true], PROJECT);
     let params = [int("count", 0, 8, 2), int("gap", 1, 8, 1)];
     let wanted = Row {
         label: "echo",
@@ -156,7 +128,7 @@ fn echo(rt: HostRuntime) -> Result<(), Fail> {
         shorts: &[[10, 200, 30, 128], [0, 255, 254, 255], [127, 127, 127, 127]],
         ..FILTERED
     };
-    byte_row(
+    both_rows(
         &rt,
         alloc,
         effect,
@@ -167,14 +139,5 @@ fn echo(rt: HostRuntime) -> Result<(), Fail> {
         &values,
         &[SOURCE],
         &wanted,
-    )?;
-    short_row(
-        &rt,
-        alloc,
-        effect,
-        context,
-        &[Components::Rgba],
-        &values,
-        &wanted,
-    )
+    );
 }

@@ -1,20 +1,19 @@
 //! Effects that render no tiles: all their actions, and pixels worked by hand at both depths.
-use crate::asking::{Frame, Picture, Row, byte_row, flags_of, one_clip, short_row, values_of};
+use crate::asking::{Frame, Picture, Row, both_rows, byte_row, flags_of, one_clip, values_of};
 use crate::rows::{FILTERED, PROJECT, SOURCE};
 use fx_base::Rect;
 use fx_effect::Context;
 use fx_pixel::Components;
 use fx_shipped::Shipped;
-use std::test::Fail;
 
 // The level, 200, lies left of the window; a of the window's first pixel and what lies right of the project are greater.
 #[test]
-fn autogain(rt: HostRuntime) -> Result<(), Fail> {
+fn autogain(rt: HostRuntime) {
     let alloc = rt.alloc();
     let (effect, context) = (Shipped::Autogain, Context::Filter);
-    let names = one_clip(alloc, "Source")?;
-    let optional = flags_of(alloc, &[false])?;
-    let values = values_of(alloc, 7, &[], &[true], PROJECT)?;
+    let names = one_clip(&rt, "Source");
+    let optional = flags_of(&rt, &[false]);
+    let values = values_of(&rt, 7, &[], &[true], PROJECT);
     let wanted = Row {
         label: "autogain",
         tiles: 0,
@@ -29,7 +28,7 @@ fn autogain(rt: HostRuntime) -> Result<(), Fail> {
         shorts: &[[32768, 9830, 2294, 255], [0, 0, 65207, 201]],
         ..FILTERED
     };
-    byte_row(
+    both_rows(
         &rt,
         alloc,
         effect,
@@ -40,27 +39,18 @@ fn autogain(rt: HostRuntime) -> Result<(), Fail> {
         &values,
         &[SOURCE],
         &wanted,
-    )?;
-    short_row(
-        &rt,
-        alloc,
-        effect,
-        context,
-        &[Components::Rgba],
-        &values,
-        &wanted,
-    )
+    );
 }
 
 // The project's last two columns are black.
 #[test]
-fn autogain_of_a_source_smaller_than_the_project(rt: HostRuntime) -> Result<(), Fail> {
+fn autogain_of_a_source_smaller_than_the_project(rt: HostRuntime) {
     let alloc = rt.alloc();
     let (effect, context) = (Shipped::Autogain, Context::General);
-    let names = one_clip(alloc, "Source")?;
-    let optional = flags_of(alloc, &[false])?;
+    let names = one_clip(&rt, "Source");
+    let optional = flags_of(&rt, &[false]);
     let project = Rect::of(0, 0, 6, 1);
-    let values = values_of(alloc, 7, &[], &[true], project)?;
+    let values = values_of(&rt, 7, &[], &[true], project);
     let wanted = Row {
         label: "autogain",
         tiles: 0,
@@ -84,17 +74,17 @@ fn autogain_of_a_source_smaller_than_the_project(rt: HostRuntime) -> Result<(), 
         &values,
         &[SOURCE],
         &wanted,
-    )
+    );
 }
 
 // Black stays black, and its a is kept.
 #[test]
-fn autogain_of_black(rt: HostRuntime) -> Result<(), Fail> {
+fn autogain_of_black(rt: HostRuntime) {
     let alloc = rt.alloc();
     let (effect, context) = (Shipped::Autogain, Context::Filter);
-    let names = one_clip(alloc, "Source")?;
-    let optional = flags_of(alloc, &[false])?;
-    let values = values_of(alloc, 7, &[], &[true], PROJECT)?;
+    let names = one_clip(&rt, "Source");
+    let optional = flags_of(&rt, &[false]);
+    let values = values_of(&rt, 7, &[], &[true], PROJECT);
     let wanted = Row {
         label: "autogain",
         tiles: 0,
@@ -119,18 +109,18 @@ fn autogain_of_black(rt: HostRuntime) -> Result<(), Fail> {
         &values,
         &[SOURCE],
         &wanted,
-    )
+    );
 }
 
 // A half is rounded up.
 #[test]
-fn autogain_of_two_greys(rt: HostRuntime) -> Result<(), Fail> {
+fn autogain_of_two_greys(rt: HostRuntime) {
     let alloc = rt.alloc();
     let (effect, context) = (Shipped::Autogain, Context::Filter);
-    let names = one_clip(alloc, "Source")?;
-    let optional = flags_of(alloc, &[false])?;
+    let names = one_clip(&rt, "Source");
+    let optional = flags_of(&rt, &[false]);
     let greys = Rect::of(0, 0, 2, 1);
-    let values = values_of(alloc, 7, &[], &[true], greys)?;
+    let values = values_of(&rt, 7, &[], &[true], greys);
     let wanted = Row {
         label: "autogain",
         tiles: 0,
@@ -166,5 +156,5 @@ fn autogain_of_two_greys(rt: HostRuntime) -> Result<(), Fail> {
         &values,
         &[SOURCE],
         &wanted,
-    )
+    );
 }

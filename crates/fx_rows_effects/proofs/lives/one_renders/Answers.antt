@@ -1,6 +1,4 @@
-use Rattle.std.proofs.Common.{◌≡◌, Some, ap, sym, ◌∙◌, rules}
-use Rattle.std.specs.Prelude.{slice_get}
-use Rattle.std.proofs.lemmas.Option.{same_Some}
+use Rattle.std.proofs.Common.{◌≡◌, rules}
 use Rattle.fx_effect.specs.declared.action.Context.TheVariants.{Generator}
 use Rattle.fx_rows_effects.specs.Toy.{toy_shape}
 use Rattle.fx_rows_effects.proofs.Renders.{may_in}
