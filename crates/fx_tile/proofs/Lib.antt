@@ -15,6 +15,7 @@ pub mod BandLemmas
 pub mod WholeLemmas
 pub mod WriteLemmas
 pub mod CountLemmas
+pub mod BatchLemmas
 pub mod FoundTileLemmas
 pub mod SeatLemmas
 pub mod FilledLemmas

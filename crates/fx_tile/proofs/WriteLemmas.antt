@@ -10,21 +10,18 @@ use Rattle.fx_base.specs.Bounds.{Bounds}
 use Rattle.fx_base.specs.Rect.{Holds, meet, within}
 use Rattle.fx_base.specs.declared.memory.Memory.{Memory}
 use Rattle.fx_base.proofs.RectLemmas.{within-meet}
-use Rattle.fx_image.specs.Bands.{AreBands, AreWhole, ShowBands, band_rect, layout_of}
-use Rattle.fx_image.specs.Image.{Image, SameImage, pixel_at}
+use Rattle.fx_image.specs.Image.{Image, pixel_at}
 use Rattle.fx_image.specs.Part.{IsWritten, narrowed}
-use Rattle.fx_image.specs.Stored.{SameFrame, Stored, image_of, shown}
-use Rattle.fx_image.specs.declared.layout.Layout.{Layout}
-use Rattle.fx_image.proofs.BandLaws.{same_layout, still_bands}
+use Rattle.fx_image.specs.Stored.{SameFrame, Stored, shown}
 use Rattle.fx_effect.specs.Meaning.{Meaning}
+use Rattle.fx_graph.specs.Shown.{GraphShown}
 use Rattle.fx_pool.specs.Weights.{plus, weigh}
 use Rattle.fx_pool.specs.Working.{EachRight}
 use Rattle.fx_image.specs.declared.part.Part.{Part}
 use Rattle.fx_image.proofs.ImageLaws.{place_from}
 use Rattle.fx_tile.specs.declared.bands.BandJob.{BandJob}
 use Rattle.fx_tile.specs.declared.found.FoundTile.{FoundTile}
-use Rattle.fx_tile.specs.Moments.{AreInBands, Cover, IsBand, IsFoundTile, MayWrite, ShowsPicture, ShowsTiles, WritesTile, job_picture, layout_over, rects_of}
-use Rattle.fx_tile.proofs.WholeLemmas.{whole_picture}
+use Rattle.fx_tile.specs.Moments.{AreBandsOf, Cover, IsBand, IsFoundTile, MayWrite, ShowEach, ShowsPicture, ShowsTiles, WritesTile, job_picture, rects_of}
 
 pub frame_same : (a : Stored) → SameFrame a a
 frame_same a = record { rect = refl; depth = refl; components = refl; pitch = refl; height = refl; step = refl; blocks = refl }
@@ -84,8 +81,8 @@ shows_all picture tiles old new same cover shows x y here =
     shows tile.0 tile.1 x y tile.2 (subst (λ (r : Bounds). Holds r x y) (sym same.rect) here)
 
 -- what was written is a band still
-pub band_still : {E : Type 0} {c e : _} (job : BandJob E c e) (old new : Stored) → SameFrame old new → IsBand job old → IsBand job new
-band_still job old new same is =
+pub band_still : {E : Type 0} (graph : GraphShown E) (old new : Stored) → SameFrame old new → IsBand graph old → IsBand graph new
+band_still graph old new same is =
     record {
       within = λ x y here. is.within x y (subst (λ (r : Bounds). Holds r x y) same.rect here);
       depth = same.depth ∙ is.depth;
@@ -101,47 +98,22 @@ slice_rects found k n c is =
 
 -- ---- all bands
 
-module _ {E : Type 0} {c e : _} (meaning : E → Meaning) (job : BandJob E c e) (l : Layout) (bands : List Stored)
-    (found : All (λ f. IsFoundTile meaning job.setup.now job.frame f.1) job.found.now)
-    (is : let g = job.setup.now.scene.now.graph in l ≡ layout_over g.project g.depth g.format job.setup.now.shared.now.grid)
-    (have : AreInBands l job.columns (rects_of job.found.now) bands) where
+module _ {E : Type 0} {c e : _} (meaning : E → Meaning) (job : BandJob E c e) (bands : List Stored) where
   -- each may be written
-  pub may_write : (k : ℕ) (d : Stored) → k < length bands → MayWrite meaning job k (get_or bands k d)
-  may_write k d low =
-      let own = have.are.each k d low in
-      let at : (get_or bands k d).rect ≡ band_rect l.rect l.band_rows k = ap (λ (m : Layout). m.rect) own in
+  pub may_write : All (λ f. IsFoundTile meaning job.setup.now job.frame f.1) job.found.now
+      → AreBandsOf job.setup.now.scene.now.graph job.columns (rects_of job.found.now) bands
+      → (k : ℕ) (d : Stored) → k < length bands → MayWrite meaning job k (get_or bands k d)
+  may_write found are k d low =
       let long = length-map job.found.now (λ (f : ℕ × FoundTile). f.1.tile) in
-      let many = have.many in
+      let many = are.many in
       let up : suc k * job.columns ≤ length bands * job.columns = mul-le-mul_right job.columns low in
       let next = suc-mul k job.columns in
-      record {
-        found = found;
-        row = omega (arith, long, many, up, next);
-        cover = have.cover k d low;
-        is = record {
-          within = λ x y here.
-              subst (λ (r : Bounds). Holds r x y) (ap (λ (m : Layout). m.rect) is)
-              (have.whole.within k low x y (subst (λ (r : Bounds). Holds r x y) at here));
-          depth = ap (λ (m : Layout). m.depth) own ∙ ap (λ (m : Layout). m.depth) is;
-          components = ap (λ (m : Layout). m.components) own ∙ ap (λ (m : Layout). m.components) is;
-        };
-      }
+      record { found = found; row = omega (arith, long, many, up, next); cover = are.cover k d low; is = are.each k d low }
 
-  -- what was written is the bands of the picture
-  module _ (after : List Stored) (outs : List (Unit {0})) (many : length after ≡ length bands)
-      (right : EachRight (λ _ b a out. ShowsPicture (job_picture meaning job) b a) bands after outs) where
-    pub are_bands : AreBands l after
-    are_bands = still_bands l bands after have.are many (λ k d low. same_layout (get_or bands k d) (get_or after k d) (right k d tt low).frame)
-
-    pub is_picture : (image : Stored) → layout_of image ≡ l → AreWhole l after → ShowBands image after
-        → SameImage (image_of image) (job_picture meaning job)
-    is_picture image laid whole show =
-        whole_picture l image after (job_picture meaning job) laid whole show
-        (λ k low x y here.
-        let there : k < length bands = subst (λ n. k < n) many low in
-        let at : (get_or bands k image).rect ≡ band_rect l.rect l.band_rows k = ap (λ (m : Layout). m.rect) (have.are.each k image there) in
-        (right k image tt there).pixels x y (subst (λ (r : Bounds). Holds r x y) (sym at) here))
-        (ap (λ (m : Layout). m.rect) is) (ap (λ (m : Layout). m.depth) is) (ap (λ (m : Layout). m.components) is)
+  -- each was written
+  pub show_each : (after : List Stored) (outs : List (Unit {0})) → length after ≡ length bands
+      → EachRight (λ _ b a out. ShowsPicture (job_picture meaning job) b a) bands after outs → ShowEach (job_picture meaning job) bands after
+  show_each after outs many right k d low = right k d tt (omega (arith, many, low))
 
 -- what weighs nothing adds nothing
 none_each : {A : Type 0} (xs : List A) → sum_by (λ x. 0) xs ≡ 0

@@ -12,6 +12,7 @@ use Rattle.fx_image.specs.declared.layout.Layout.{Layout}
 use Rattle.fx_directory.specs.Seats.{FindsNone}
 use Rattle.fx_effect.specs.Meaning.{Meaning}
 use Rattle.fx_pam.specs.Laws.{components_for}
+use Rattle.fx_graph.specs.Shown.{GraphShown}
 use Rattle.fx_scene.specs.Nodes.{Nodes}
 use Rattle.fx_scene.specs.Scenes.{Shot, images_in, picture}
 use Rattle.fx_region.specs.Counts.{is_asked, is_passed, is_void, window_tiles}
@@ -151,16 +152,29 @@ pub record IsDrawn {E : Type 0} {c e : _} (meaning : E → Meaning) (job : TileJ
 abbrev pub rects_of : List (ℕ × FoundTile) → List Bounds
 rects_of found = map (λ f. f.1.tile) found
 
+-- the picture of the frame
+abbrev pub picture_at : {E : Type 0} {c e : _} → (E → Meaning) → Setup E c e → ℤ → Image
+picture_at meaning setup frame =
+    let scene = setup.scene.now in picture meaning scene.graph (images_in scene.store) frame
+
 -- the picture of the frame of these tiles
 abbrev pub job_picture : {E : Type 0} {c e : _} → (E → Meaning) → BandJob E c e → Image
-job_picture meaning job =
-    let scene = job.setup.now.scene.now in picture meaning scene.graph (images_in scene.store) job.frame
+job_picture meaning job = picture_at meaning job.setup.now job.frame
 
 -- a band of an image like the picture
-pub record IsBand {E : Type 0} {c e : _} (job : BandJob E c e) (band : Stored) : Type 0 where
-  pub within : IsWithin band.rect job.setup.now.scene.now.graph.project
-  pub depth : band.depth ≡ job.setup.now.scene.now.graph.depth
-  pub components : band.components ≡ components_for job.setup.now.scene.now.graph.format
+pub record IsBand {E : Type 0} (graph : GraphShown E) (band : Stored) : Type 0 where
+  pub within : IsWithin band.rect graph.project
+  pub depth : band.depth ≡ graph.depth
+  pub components : band.components ≡ components_for graph.format
+
+-- bands of the picture, and the tiles that cover them band by band, so many to each
+pub record AreBandsOf {E : Type 0} (graph : GraphShown E) (columns : ℕ) (tiles : List Bounds) (bands : List Stored)
+    : Type 0 where
+  pub many : length bands * columns ≡ length tiles
+  pub cover :
+      (k : ℕ) (d : Stored) → k < length bands
+      → Cover (tiles_of_band columns tiles k) (slice_index_or bands k d).rect
+  pub each : All (IsBand graph) bands
 
 -- the tiles were found, and this is a band that the tiles of its row cover
 pub record MayWrite {E : Type 0} {c e : _} (meaning : E → Meaning) (job : BandJob E c e) (index : ℕ) (band : Stored)
@@ -168,7 +182,7 @@ pub record MayWrite {E : Type 0} {c e : _} (meaning : E → Meaning) (job : Band
   pub found : All (λ f. IsFoundTile meaning job.setup.now job.frame f.1) job.found.now
   pub row : index * job.columns + job.columns ≤ length job.found.now
   pub cover : Cover (tiles_of_band job.columns (rects_of job.found.now) index) band.rect
-  pub is : IsBand job band
+  pub is : IsBand job.setup.now.scene.now.graph band
 
 -- where the tile and the band overlap the band shows the picture now, and elsewhere what it did
 pub record WritesTile (picture : Image) (tile : Bounds) (old new : Stored) : Type 0 where
@@ -185,6 +199,12 @@ ShowsTiles picture tiles band =
 pub record ShowsPicture (picture : Image) (old new : Stored) : Type 0 where
   pub frame : SameFrame old new
   pub pixels : (x y : ℤ) → Holds old.rect x y → shown new x y ≡ pixel_at picture x y
+
+-- each band that was drawn, in place of the one before
+abbrev pub ShowEach : Image → List Stored → List Stored → Type 0
+ShowEach picture before after =
+    (k : ℕ) (d : Stored) → k < length after
+    → ShowsPicture picture (slice_index_or before k d) (slice_index_or after k d)
 
 -- ---- the count
 
@@ -211,3 +231,13 @@ pub record CountsTiles (nodes : Nodes) (side : ℕ) (ends : List EndShown) (coun
   pub asked : count.asked ≡ count_by is_asked ends
   pub enough : count.asked ≤ count.landed + count.hits
   pub none_kept : count.hits ≡ 0 → count.asked + renders_for nodes side ends ≤ count.landed
+
+-- the first of the bands were drawn, and these are the counts of their tiles together
+pub record AreDrawn {E : Type 0} {c e : _} (meaning : E → Meaning) (setup : Setup E c e) (frame : ℤ) (columns : ℕ)
+    (tiles : List Bounds) (bands drawn : List Stored) (count : TileCount) : Type 0 where
+  pub few : length drawn ≤ length bands
+  pub show : ShowEach (picture_at meaning setup frame) bands drawn
+  pub counts :
+      let nodes = scene_nodes meaning setup.scene.now in
+      let end = end_of nodes setup.scene.now.graph.output frame in
+      CountsTiles nodes setup.shared.now.grid (map end (take (length drawn * columns) tiles)) count

@@ -73,7 +73,7 @@ impl<E: Catalogue> BandJob<'_, E> {
         band: &mut Image,
     ) -> Result<(), Memory>
         requires found { All (λ f. IsFoundTile E.meaning self.now.setup.now self.now.frame f.1) tiles.now }
-        requires band { IsBand self.now band.old }
+        requires band { IsBand self.now.setup.now.scene.now.graph band.old }
         ensures frame { SameFrame band.old band.new }
         ensures tiles { OnOk result (ShowsTiles (job_picture E.meaning self.now) (rects_of tiles.now) band.new) }
     {
@@ -86,7 +86,7 @@ impl<E: Catalogue> BandJob<'_, E> {
     // Writes as much of a tile as lies in the band.
     fn write_tile(&self, alloc: Global, found: &FoundTile, band: &mut Image) -> Result<(), Memory>
         requires found { IsFoundTile E.meaning self.now.setup.now self.now.frame found.now }
-        requires band { IsBand self.now band.old }
+        requires band { IsBand self.now.setup.now.scene.now.graph band.old }
         ensures frame { SameFrame band.old band.new }
         ensures writes { OnOk result
             (WritesTile (job_picture E.meaning self.now) found.now.tile band.old band.new) }

@@ -3,6 +3,7 @@
 #![tactic(auto)]
 
 mod bands;
+mod batch;
 mod count;
 mod found;
 mod ground;

@@ -1,34 +1,26 @@
-//! The picture of a frame, by workers: they find its tiles one by one, and then write its bands one by one.
-ghost use Rattle.std.specs.Prelude.{◌≡◌, ◌↔◌, ◌+◌, ◌^◌, ◌≤◌, ◌≤ℤ◌, pos, neg_ℤ, All, IfErr, IfOk, IfSome, IsSome, length, map, vec_len};
+//! The picture of a frame, by workers, who draw its bands batch by batch.
+ghost use Rattle.std.specs.Prelude.{◌≡◌, ◌+◌, ◌≤◌, ◌≤ℤ◌, pos, neg_ℤ, All, IfErr, IfOk, length, vec_len};
 ghost use Rattle.fx_base.specs.declared.limits.TheConstants.{LAST_FRAME};
-ghost use Rattle.fx_image.specs.Bands.{IsLayout};
 ghost use Rattle.fx_image.specs.Image.{SameImage};
 ghost use Rattle.fx_image.specs.Stored.{image_of};
 ghost use Rattle.fx_life.specs.Posts.{HasLife};
 ghost use Rattle.fx_pool.specs.Weights.{plus, weigh};
 ghost use Rattle.fx_region.specs.Counts.{window_ends};
-ghost use Rattle.fx_region.specs.Ends.{end_of};
-ghost use Rattle.fx_region.specs.Tables.{Has};
 ghost use Rattle.fx_scene.specs.Right.{HasWanted};
 ghost use Rattle.fx_scene.specs.Sites.{scene_nodes};
 ghost use Rattle.fx_scene.specs.Scenes.{images_in, picture};
-ghost use Rattle.fx_tile.specs.Counts.{CanCount};
-ghost use Rattle.fx_tile.specs.Moments.{AreInBands, CountsTiles, IsFoundTile, IsFree, IsWindowTile, count_of_all, count_weight, layout_over, rects_of, seat_weight};
-ghost use Rattle.fx_tile.specs.Setups.{IsSetup};
+ghost use Rattle.fx_tile.specs.Moments.{CountsTiles, IsFree, count_weight, seat_weight};
 
-use crate::bands::BandJob;
+use crate::batch::{Drawn, batch_of, draw_bands};
 use crate::count::TileCount;
-use crate::found::FoundTile;
 use crate::ground::{Ground, ground_of};
-use crate::job::TileJob;
 use crate::setup::Setup;
 use crate::share::{Shared, TileSeat};
-use fx_base::{Memory, Rect};
+use fx_base::Memory;
 use fx_effect::Catalogue;
-use fx_image::{Image, Layout};
+use fx_image::Image;
 use fx_life::Life;
 use fx_outside::Pace;
-use fx_pool::{Worked, WorkedItems, work, work_items};
 use fx_scene::Scene;
 use std::alloc::Global;
 use std::rt::Clock;
@@ -95,125 +87,20 @@ pub fn render_moment<R: Threads + Wait + Clock + Sync, E: Catalogue + Send + Syn
         bands,
     } = ground;
     let setup = Setup::of(scene, &regions, life, shared);
-    let all = find_all(rt, alloc, pace, &setup, frame, &tiles, seats)?;
-    let Found {
-        tiles: found,
+    let batch = batch_of(&layout);
+    let Drawn {
+        bands,
         count,
         seats,
-    } = all;
-    let job = BandJob {
-        setup: &setup,
-        frame,
-        found: found.as_slice(),
-        columns,
-    };
-    let (picture, seats) = write_all(rt, alloc, pace, &job, &layout, bands, seats)?;
-    Ok(Rendered {
-        picture,
-        count,
-        seats,
-    })
-}
-
-// The window tiles of a frame as they were found, what became of them together, and the seats of those who found them.
-#[derive(Drop)]
-struct Found<E: Catalogue> {
-    tiles: Vec<(u64, FoundTile)>,
-    count: TileCount,
-    seats: Vec<TileSeat<E>>,
-}
-
-// Finds the window tiles of a frame.
-fn find_all<R: Threads + Wait + Clock + Sync, E: Catalogue + Send + Sync + Drop, P: Pace>(
-    rt: &R,
-    alloc: Global,
-    pace: &P,
-    setup: &Setup<'_, E>,
-    frame: i64,
-    tiles: &[Rect],
-    seats: Vec<TileSeat<E>>,
-) -> Result<Found<E>, (Vec<TileSeat<E>>, Memory)>
-    requires setup { IsSetup E.meaning E.number_of setup.now }
-    requires reached { Has setup.now.regions.now setup.now.scene.now.graph.output frame }
-    requires tiles { All (IsWindowTile setup.now.scene.now.graph.project) tiles.now }
-    requires few { length tiles.now ≤ 2 ^ 32 }
-    requires workers { (1 ≤ vec_len seats) × (vec_len seats ≤ 64) }
-    requires seats { All (IsFree setup.now.shared.now) seats.items }
-    ensures tiles { IfOk result (λ r. rects_of r.tiles.items ≡ tiles.now) }
-    ensures found { IfOk result (λ r. All (λ f. IsFoundTile E.meaning setup.now frame f.1) r.tiles.items) }
-    ensures count { let nodes = scene_nodes E.meaning setup.now.scene.now in
-        let ends = map (end_of nodes setup.now.scene.now.graph.output frame) tiles.now in
-        IfOk result (λ r. CountsTiles nodes setup.now.shared.now.grid ends r.count) }
-    ensures rises { IfOk result (λ r.
-        weigh seat_weight r.seats.items ≡ plus (weigh seat_weight seats.items) (count_weight r.count)) }
-    ensures seats { IfOk result (λ r.
-        (vec_len r.seats ≡ vec_len seats) × All (IsFree setup.now.shared.now) r.seats.items) }
-    ensures back { IfErr result (λ r.
-        (vec_len r.0 ≡ vec_len seats) × All (IsFree setup.now.shared.now) r.0.items) }
-{
-    let job = TileJob {
-        setup,
-        frame,
-        tiles,
-    };
-    let Worked { seats, outs: tiles } = work(rt, alloc, pace, tiles.len() as u64, seats, &job)?;
-    match count_all(&tiles) {
-        Some(count) => Ok(Found {
-            tiles,
+    } = draw_bands(
+        rt, alloc, pace, &setup, frame, &tiles, columns, batch, bands, seats,
+    )?;
+    match Image::of_bands(alloc, &layout, bands) {
+        Ok(picture) => Ok(Rendered {
+            picture,
             count,
             seats,
         }),
-        None => Err((seats, Memory)),
-    }
-}
-
-// The counts of all tiles together, where no sum is past the greatest number.
-fn count_all(tiles: &[(u64, FoundTile)]) -> Option<TileCount>
-    ensures some { IsSome result ↔ CanCount (count_of_all tiles.now) }
-    ensures sum { IfSome result (λ sum. sum ≡ count_of_all tiles.now) }
-{
-    let mut sum = TileCount::none();
-    for (_, found) in tiles {
-        sum = sum.plus(found.count)?;
-    }
-    Some(sum)
-}
-
-// Writes the bands of the picture of a frame, and puts it together.
-fn write_all<R: Threads + Wait + Clock + Sync, E: Catalogue + Send + Sync + Drop, P: Pace>(
-    rt: &R,
-    alloc: Global,
-    pace: &P,
-    job: &BandJob<'_, E>,
-    layout: &Layout,
-    bands: Vec<Image>,
-    seats: Vec<TileSeat<E>>,
-) -> Result<(Image, Vec<TileSeat<E>>), (Vec<TileSeat<E>>, Memory)>
-    requires found { let setup = job.now.setup.now in
-        All (λ f. IsFoundTile E.meaning setup job.now.frame f.1) job.now.found.now }
-    requires layout { let g = job.now.setup.now.scene.now.graph in let side = job.now.setup.now.shared.now.grid in
-        layout.now ≡ layout_over g.project g.depth g.format side }
-    requires laid { IsLayout layout.now }
-    requires bands { AreInBands layout.now job.now.columns (rects_of job.now.found.now) bands.items }
-    requires few { vec_len bands ≤ 2 ^ 32 }
-    requires workers { (1 ≤ vec_len seats) × (vec_len seats ≤ 64) }
-    requires seats { All (IsFree job.now.setup.now.shared.now) seats.items }
-    ensures picture { let scene = job.now.setup.now.scene.now in
-        let picture = picture E.meaning scene.graph (images_in scene.store) job.now.frame in
-        IfOk result (λ r. SameImage (image_of r.0) picture) }
-    ensures rises { IfOk result (λ r. weigh seat_weight r.1.items ≡ weigh seat_weight seats.items) }
-    ensures seats { IfOk result (λ r.
-        (vec_len r.1 ≡ vec_len seats) × All (IsFree job.now.setup.now.shared.now) r.1.items) }
-    ensures back { IfErr result (λ r.
-        (vec_len r.0 ≡ vec_len seats) × All (IsFree job.now.setup.now.shared.now) r.0.items) }
-{
-    let WorkedItems {
-        seats,
-        items,
-        outs: _,
-    } = work_items(rt, alloc, pace, bands, seats, job)?;
-    match Image::of_bands(alloc, layout, items) {
-        Ok(picture) => Ok((picture, seats)),
         Err(memory) => Err((seats, memory)),
     }
 }

@@ -14,7 +14,7 @@ write_tile-requires-clause-found g c =
     (c.requires.found c.loop-found.found-index out c.loop-found-test.true)
 
 pub write_tile-requires-clause-band : goal.write_tile-requires-clause-band
-write_tile-requires-clause-band g c = band_still c.args.self.now c.args.band.now c.loop-found.band c.loop-found.invariant.frame c.requires.band
+write_tile-requires-clause-band g c = band_still c.args.self.now.setup.now.scene.now.graph c.args.band.now c.loop-found.band c.loop-found.invariant.frame c.requires.band
 
 pub loop-found-preserved : goal.loop-found-preserved
 loop-found-preserved g c =

@@ -10,7 +10,7 @@ use Rattle.fx_tile.specs.declared.count.TileCount.{TileCount}
 use Rattle.fx_tile.specs.Moments.{CountsTiles, count_of_all, count_weight, seat_weight}
 use Rattle.fx_tile.proofs.CountLemmas.{counts_found}
 use Rattle.fx_tile.proofs.FoundTileLemmas.{all_found, found_rects}
-use Rattle.fx_tile.proofs.moment.find_all.Goals as goal
+use Rattle.fx_tile.proofs.batch.find_all.Goals as goal
 
 pub work-requires-clause-takes : goal.work-requires-clause-takes
 work-requires-clause-takes g c = λ κs within k low.
