@@ -5,6 +5,8 @@
 #[cfg(test)]
 mod engines;
 #[cfg(test)]
+mod files;
+#[cfg(test)]
 mod numbers;
 #[cfg(test)]
 mod regions;

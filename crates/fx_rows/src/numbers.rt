@@ -1,6 +1,7 @@
 //! Graphs that are made of numbers, with the files of their sources.
 ghost use Rattle.std.specs.Prelude.{◌<◌, ◌≤◌};
 
+use crate::files::add_file;
 use crate::worked::Whole;
 use fx_base::Name;
 use std::process::Abort;
@@ -282,17 +283,6 @@ fn drawn_bytes(rt: &(impl Abort + AllocGlobal), draws: &mut Draws) -> Vec<u8> {
     bytes
 }
 
-fn add_file(
-    rt: &(impl Abort + AllocGlobal),
-    draws: &mut Draws,
-    files: &mut Vec<(Name, Vec<u8>)>,
-    name: &str,
-) {
-    let bytes = drawn_bytes(rt, draws);
-    let name = String::from_str(rt.alloc(), name).expect(rt, "no name");
-    files.push((Name::of(name), bytes)).expect(rt, "no file");
-}
-
 /// A graph's text, and the files of its sources.
 #[derive(Drop)]
 pub(crate) struct NumberGraph {
@@ -308,7 +298,7 @@ pub(crate) fn draw_graph(rt: &(impl Abort + AllocGlobal), number: u32, effects: 
     let text = graph_text(rt, &mut draws, effects);
     let mut files = Vec::new(rt.alloc());
     for name in ["s0.pam", "s1.pam", "s2.pam", "t.pam"] {
-        add_file(rt, &mut draws, &mut files, name);
+        add_file(rt, &mut files, name, drawn_bytes(rt, &mut draws));
     }
     NumberGraph { text, files }
 }

@@ -1,10 +1,11 @@
 //! Where regions are found, and what they need, over the effects that are shipped, worked by hand.
 ghost use Rattle.std.specs.Prelude.{◌≤◌};
 
+use crate::files::add_file;
 use crate::same::{same, same_at};
 use crate::scenes::deep_diamond;
 use crate::worked::Whole;
-use fx_base::{Grid, Memory, Name, Rect};
+use fx_base::{Grid, Memory, Rect};
 use fx_effect::{Step, Steps};
 use fx_graph::{Graph, accept};
 use fx_outside::SureLibrary;
@@ -339,22 +340,10 @@ fn zeros(rt: &(impl Abort + AllocGlobal), sides: (u32, u32)) -> Vec<u8> {
     bytes
 }
 
-// Adds the file of a frame.
-fn add_file(
-    rt: &(impl Abort + AllocGlobal),
-    files: &mut Vec<(Name, Vec<u8>)>,
-    name: &str,
-    sides: (u32, u32),
-) {
-    let name = String::from_str(rt.alloc(), name).expect(rt, "no name");
-    let file = (Name::of(name), zeros(rt, sides));
-    files.push(file).expect(rt, "no file");
-}
-
 fn library(rt: &(impl Abort + AllocGlobal), sides: (u32, u32)) -> SureLibrary {
     let mut files = Vec::new(rt.alloc());
     for name in ["s0.pam", "s1.pam", "s2.pam"] {
-        add_file(rt, &mut files, name, sides);
+        add_file(rt, &mut files, name, zeros(rt, sides));
     }
     SureLibrary::new(rt.alloc(), files)
 }

@@ -1,8 +1,8 @@
 //! What becomes of tiles on one thread, worked by hand.
 use crate::engines::{Engine, are_same, by_frames, by_tiles};
+use crate::files::add_file;
 use crate::same::same_at;
 use crate::worked::Whole;
-use fx_base::Name;
 use fx_outside::SureLibrary;
 use fx_tile::TileCount;
 use std::process::Abort;
@@ -262,18 +262,6 @@ fn greys(rt: &(impl Abort + AllocGlobal), (width, height): (u32, u32), first: u8
     bytes
 }
 
-fn add_file(
-    rt: &(impl Abort + AllocGlobal),
-    files: &mut Vec<(Name, Vec<u8>)>,
-    name: &str,
-    sides: (u32, u32),
-    first: u8,
-) {
-    let name = String::from_str(rt.alloc(), name).expect(rt, "no name");
-    let file = (Name::of(name), greys(rt, sides, first));
-    files.push(file).expect(rt, "no file");
-}
-
 // The files of the sources' frames.
 fn files(rt: &(impl Abort + AllocGlobal), sides: (u32, u32)) -> SureLibrary {
     let mut files = Vec::new(rt.alloc());
@@ -283,7 +271,7 @@ fn files(rt: &(impl Abort + AllocGlobal), sides: (u32, u32)) -> SureLibrary {
         ("s2.pam", 130),
         ("t.pam", 99),
     ] {
-        add_file(rt, &mut files, name, sides, first);
+        add_file(rt, &mut files, name, greys(rt, sides, first));
     }
     SureLibrary::new(rt.alloc(), files)
 }

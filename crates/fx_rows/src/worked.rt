@@ -1,5 +1,5 @@
 //! Graphs whose pictures the cases of fx_cases have, worked by hand, and the files that they read.
-use fx_base::Name;
+use crate::files::add_file;
 use fx_outside::SureLibrary;
 use std::process::Abort;
 
@@ -71,20 +71,10 @@ const FILES: &[(&str, &[u8])] = &[
 pub(crate) fn library(rt: &(impl Abort + AllocGlobal)) -> SureLibrary {
     let mut files = Vec::new(rt.alloc());
     for (name, bytes) in FILES {
+        let bytes = bytes.to_vec(rt.alloc()).expect(rt, "no bytes");
         add_file(rt, &mut files, name, bytes);
     }
     SureLibrary::new(rt.alloc(), files)
-}
-
-fn add_file(
-    rt: &(impl Abort + AllocGlobal),
-    files: &mut Vec<(Name, Vec<u8>)>,
-    name: &str,
-    bytes: &[u8],
-) {
-    let name = String::from_str(rt.alloc(), name).expect(rt, "no name");
-    let bytes = bytes.to_vec(rt.alloc()).expect(rt, "no bytes");
-    files.push((Name::of(name), bytes)).expect(rt, "no file");
 }
 
 /// Graphs of several nodes.

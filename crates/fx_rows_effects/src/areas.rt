@@ -1,19 +1,17 @@
 //! Effects that read round a pixel's place: all their actions, and pixels worked by hand at both depths.
-use crate::asking::{Frame, Picture, Row, both_rows, flags_of, one_clip, values_of};
-use crate::rows::{FILTERED, INSTANCE_SAFE, PROJECT, SOURCE, SOURCE_CLIP, int};
+use crate::asking::{Asked, Frame, Picture, Row, both_rows};
+use crate::rows::{ASKED_OF_ONE, FILTERED, INSTANCE_SAFE, SOURCE, SOURCE_CLIP, int};
 use fx_base::Rect;
-use fx_effect::Context;
-use fx_pixel::Components;
 use fx_shipped::Shipped;
 
 #[test]
 fn boxblur(rt: HostRuntime) {
-    let alloc = rt.alloc();
-    let (effect, context) = (Shipped::Boxblur, Context::Filter);
-    let names = one_clip(&rt, "Source");
-    let optional = flags_of(&rt, &[false]);
-    let values = values_of(&rt, 7, &[1, 0], &[true], PROJECT);
     let params = [int("rx", 0, 64, 1), int("ry", 0, 64, 1)];
+    let asked = Asked {
+        effect: Shipped::Boxblur,
+        numbers: &[1, 0],
+        ..ASKED_OF_ONE
+    };
     let wanted = Row {
         label: "boxblur",
         safety: INSTANCE_SAFE,
@@ -45,28 +43,17 @@ fn boxblur(rt: HostRuntime) {
         ],
         ..FILTERED
     };
-    both_rows(
-        &rt,
-        alloc,
-        effect,
-        context,
-        &names,
-        &optional,
-        &[Components::Rgba],
-        &values,
-        &[SOURCE],
-        &wanted,
-    );
+    both_rows(&rt, &asked, &[SOURCE], &wanted);
 }
 
 #[test]
 fn erode(rt: HostRuntime) {
-    let alloc = rt.alloc();
-    let (effect, context) = (Shipped::Erode, Context::Filter);
-    let names = one_clip(&rt, "Source");
-    let optional = flags_of(&rt, &[false]);
-    let values = values_of(&rt, 7, &[1], &[true], PROJECT);
     let params = [int("radius", 0, 32, 1)];
+    let asked = Asked {
+        effect: Shipped::Erode,
+        numbers: &[1],
+        ..ASKED_OF_ONE
+    };
     let wanted = Row {
         label: "erode",
         clips: &SOURCE_CLIP,
@@ -81,28 +68,17 @@ fn erode(rt: HostRuntime) {
         shorts: &[[0, 0, 0, 0], [0, 0, 0, 0], [0, 0, 0, 0], [0, 0, 0, 0]],
         ..FILTERED
     };
-    both_rows(
-        &rt,
-        alloc,
-        effect,
-        context,
-        &names,
-        &optional,
-        &[Components::Rgba],
-        &values,
-        &[SOURCE],
-        &wanted,
-    );
+    both_rows(&rt, &asked, &[SOURCE], &wanted);
 }
 
 #[test]
 fn dilate(rt: HostRuntime) {
-    let alloc = rt.alloc();
-    let (effect, context) = (Shipped::Dilate, Context::Filter);
-    let names = one_clip(&rt, "Source");
-    let optional = flags_of(&rt, &[false]);
-    let values = values_of(&rt, 7, &[1], &[true], PROJECT);
     let params = [int("radius", 0, 32, 1)];
+    let asked = Asked {
+        effect: Shipped::Dilate,
+        numbers: &[1],
+        ..ASKED_OF_ONE
+    };
     let wanted = Row {
         label: "dilate",
         clips: &SOURCE_CLIP,
@@ -133,27 +109,11 @@ fn dilate(rt: HostRuntime) {
         ],
         ..FILTERED
     };
-    both_rows(
-        &rt,
-        alloc,
-        effect,
-        context,
-        &names,
-        &optional,
-        &[Components::Rgba],
-        &values,
-        &[SOURCE],
-        &wanted,
-    );
+    both_rows(&rt, &asked, &[SOURCE], &wanted);
 }
 
 #[test]
 fn convolve3(rt: HostRuntime) {
-    let alloc = rt.alloc();
-    let (effect, context) = (Shipped::Convolve3, Context::Filter);
-    let names = one_clip(&rt, "Source");
-    let optional = flags_of(&rt, &[false]);
-    let values = values_of(&rt, 7, &[0, 0, 0, -1, 3, 1, 0, 0, 0, 2], &[true], PROJECT);
     let params = [
         int("k1", -256, 256, 0),
         int("k2", -256, 256, 0),
@@ -166,6 +126,11 @@ fn convolve3(rt: HostRuntime) {
         int("k9", -256, 256, 0),
         int("divisor", 1, 65536, 1),
     ];
+    let asked = Asked {
+        effect: Shipped::Convolve3,
+        numbers: &[0, 0, 0, -1, 3, 1, 0, 0, 0, 2],
+        ..ASKED_OF_ONE
+    };
     let wanted = Row {
         label: "convolve3",
         clips: &SOURCE_CLIP,
@@ -196,16 +161,5 @@ fn convolve3(rt: HostRuntime) {
         ],
         ..FILTERED
     };
-    both_rows(
-        &rt,
-        alloc,
-        effect,
-        context,
-        &names,
-        &optional,
-        &[Components::Rgba],
-        &values,
-        &[SOURCE],
-        &wanted,
-    );
+    both_rows(&rt, &asked, &[SOURCE], &wanted);
 }

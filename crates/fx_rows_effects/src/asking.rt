@@ -10,8 +10,9 @@ ghost use Rattle.fx_pixel.specs.declared.Components.TheVariants.{Rgba};
 ghost use Rattle.fx_effect.specs.Shape.{IsLawfulIn, clip_names, optional_flags, shown_components, supports};
 ghost use Rattle.fx_effect.specs.Asked.{AreRegions, IsWindow};
 ghost use Rattle.fx_life.specs.Plugin.{MayRenderIn, Rendering};
+ghost use Rattle.fx_props.specs.Entries.{texts_of};
 ghost use Rattle.fx_shipped.specs.Shipped.{meaning_of};
-ghost use Rattle.fx_rows_effects.specs.Asked.{IsSmallWindow};
+ghost use Rattle.fx_rows_effects.specs.Asked.{IsSmallWindow, values_at_7};
 
 use crate::same::{same, same_at};
 use fx_actions::{frames_needed, identity, region_of_definition, regions_of_interest};
@@ -126,65 +127,91 @@ pub struct Frame {
     pub picture: Picture,
 }
 
+/// How an effect is asked at frame 7: the clips of its use, whether each may be left unconnected, the components that
+/// each shows, and its values.
+#[derive(Clone, Copy)]
+pub struct Asked<'a> {
+    pub effect: Shipped,
+    pub context: Context,
+    pub clips: &'a [&'a str],
+    pub optional: &'a [bool],
+    pub shown: &'a [Components],
+    pub numbers: &'a [i64],
+    pub connected: &'a [bool],
+    pub project: Rect,
+}
+
 /// Takes an effect through all its actions, and renders bytes.
-pub fn byte_row<R: Abort + Wait + Clock>(
+pub fn byte_row<R: Abort + Wait + Clock + AllocGlobal>(
     rt: &R,
-    alloc: Global,
-    effect: Shipped,
-    context: Context,
-    names: &Names,
-    optional: &Flags,
-    shown: &[Components],
-    values: &Values,
+    asked: &Asked<'_>,
     regions: &[Rect],
     row: &Row<'_>,
 )
-    requires lawful { IsLawfulIn (meaning_of effect).shape context values.now }
-    requires frame { IsFrame values.now.frame }
-    requires names { names.now ≡ clip_names (meaning_of effect).shape context }
-    requires optional { optional.now ≡ optional_flags (meaning_of effect).shape context }
-    requires shown { shown.now ≡ shown_components (meaning_of effect).shape context Rgba }
-    requires regions { AreRegions values.now regions.now }
+    requires lawful { let a = asked.now in
+        IsLawfulIn (meaning_of a.effect).shape a.context (values_at_7 a.numbers.now a.connected.now a.project) }
+    requires names { let a = asked.now in texts_of a.clips.now ≡ clip_names (meaning_of a.effect).shape a.context }
+    requires optional { let a = asked.now in a.optional.now ≡ optional_flags (meaning_of a.effect).shape a.context }
+    requires shown { let a = asked.now in a.shown.now ≡ shown_components (meaning_of a.effect).shape a.context Rgba }
+    requires regions { let a = asked.now in
+        AreRegions (values_at_7 a.numbers.now a.connected.now a.project) regions.now }
     requires window { IsSmallWindow row.now.window }
-    requires supported { IsTrue (supports (meaning_of effect).shape Byte Rgba) }
+    requires supported { IsTrue (supports (meaning_of asked.now.effect).shape Byte Rgba) }
 {
+    let (alloc, effect, context) = (rt.alloc(), asked.effect, asked.context);
     describes(rt, alloc, effect, row);
     describes_in(rt, alloc, effect, context, row);
+    let names = names_of(rt, asked.clips);
+    let optional = flags_of(rt, asked.optional);
+    let values = values_of(rt, asked.numbers, asked.connected, asked.project);
     let found = answers_of(
-        alloc, effect, context, names, optional, values, regions, row.window,
+        alloc, effect, context, &names, &optional, &values, regions, row.window,
     );
     same_answers(rt, &found.expect(rt, "no answers"), row);
-    let image = rendered(rt, alloc, effect, context, shown, values, row, Depth::Byte);
+    let image = rendered(
+        rt,
+        alloc,
+        effect,
+        context,
+        asked.shown,
+        &values,
+        row,
+        Depth::Byte,
+    );
     same_pixels(rt, &image.expect(rt, "no image"), row.bytes);
 }
 
 /// The same, and renders shorts.
-pub fn both_rows<R: Abort + Wait + Clock>(
+pub fn both_rows<R: Abort + Wait + Clock + AllocGlobal>(
     rt: &R,
-    alloc: Global,
-    effect: Shipped,
-    context: Context,
-    names: &Names,
-    optional: &Flags,
-    shown: &[Components],
-    values: &Values,
+    asked: &Asked<'_>,
     regions: &[Rect],
     row: &Row<'_>,
 )
-    requires lawful { IsLawfulIn (meaning_of effect).shape context values.now }
-    requires frame { IsFrame values.now.frame }
-    requires names { names.now ≡ clip_names (meaning_of effect).shape context }
-    requires optional { optional.now ≡ optional_flags (meaning_of effect).shape context }
-    requires shown { shown.now ≡ shown_components (meaning_of effect).shape context Rgba }
-    requires regions { AreRegions values.now regions.now }
+    requires lawful { let a = asked.now in
+        IsLawfulIn (meaning_of a.effect).shape a.context (values_at_7 a.numbers.now a.connected.now a.project) }
+    requires names { let a = asked.now in texts_of a.clips.now ≡ clip_names (meaning_of a.effect).shape a.context }
+    requires optional { let a = asked.now in a.optional.now ≡ optional_flags (meaning_of a.effect).shape a.context }
+    requires shown { let a = asked.now in a.shown.now ≡ shown_components (meaning_of a.effect).shape a.context Rgba }
+    requires regions { let a = asked.now in
+        AreRegions (values_at_7 a.numbers.now a.connected.now a.project) regions.now }
     requires window { IsSmallWindow row.now.window }
-    requires bytes { IsTrue (supports (meaning_of effect).shape Byte Rgba) }
-    requires shorts { IsTrue (supports (meaning_of effect).shape Short Rgba) }
+    requires bytes { IsTrue (supports (meaning_of asked.now.effect).shape Byte Rgba) }
+    requires shorts { IsTrue (supports (meaning_of asked.now.effect).shape Short Rgba) }
 {
-    byte_row(
-        rt, alloc, effect, context, names, optional, shown, values, regions, row,
+    byte_row(rt, asked, regions, row);
+    let values = values_of(rt, asked.numbers, asked.connected, asked.project);
+    let (alloc, effect, context) = (rt.alloc(), asked.effect, asked.context);
+    let image = rendered(
+        rt,
+        alloc,
+        effect,
+        context,
+        asked.shown,
+        &values,
+        row,
+        Depth::Short,
     );
-    let image = rendered(rt, alloc, effect, context, shown, values, row, Depth::Short);
     same_pixels(rt, &image.expect(rt, "no image"), row.shorts);
 }
 
@@ -285,68 +312,40 @@ fn same_parameter(rt: &impl Abort, def: &ParamDef, wanted: &Parameter) {
 
 // ---- what it answers
 
-fn push_name(rt: &(impl Abort + AllocGlobal), names: &mut Vec<Name>, name: &str)
-    ensures { names.new.items ≡ names.old.items ++ name.now ∷ [] }
+fn named(rt: &(impl Abort + AllocGlobal), text: &str) -> Name
+    ensures { result ≡ text.now }
 {
-    let text = String::from_str(rt.alloc(), name).expect(rt, "no name");
-    names.push(Name::of(text)).expect(rt, "no name");
+    Name::of(String::from_str(rt.alloc(), text).expect(rt, "no name"))
 }
 
-pub fn no_clips(rt: &impl AllocGlobal) -> Names
-    ensures { result ≡ [] }
-{
-    Names::of(Vec::new(rt.alloc()))
-}
-
-pub fn one_clip(rt: &(impl Abort + AllocGlobal), name: &str) -> Names
-    ensures { result ≡ name.now ∷ [] }
+fn names_of(rt: &(impl Abort + AllocGlobal), texts: &[&str]) -> Names
+    ensures { result ≡ texts_of texts.now }
 {
     let mut names = Vec::new(rt.alloc());
-    push_name(rt, &mut names, name);
+    for text in texts {
+        names.push(named(rt, text)).expect(rt, "no name");
+    }
     Names::of(names)
 }
 
-pub fn two_clips(rt: &(impl Abort + AllocGlobal), first: &str, second: &str) -> Names
-    ensures { result ≡ first.now ∷ second.now ∷ [] }
-{
-    let mut names = Vec::new(rt.alloc());
-    push_name(rt, &mut names, first);
-    push_name(rt, &mut names, second);
-    Names::of(names)
-}
-
-pub fn three_clips(rt: &(impl Abort + AllocGlobal), first: &str, second: &str, third: &str) -> Names
-    ensures { result ≡ first.now ∷ second.now ∷ third.now ∷ [] }
-{
-    let mut names = Vec::new(rt.alloc());
-    push_name(rt, &mut names, first);
-    push_name(rt, &mut names, second);
-    push_name(rt, &mut names, third);
-    Names::of(names)
-}
-
-/// The values of an instance at a frame.
-pub fn values_of(
+/// The values of an instance at frame 7.
+fn values_of(
     rt: &(impl Abort + AllocGlobal),
-    frame: i64,
     numbers: &[i64],
     connected: &[bool],
     project: Rect,
 ) -> Values
-    ensures frame { result.frame ≡ frame }
-    ensures numbers { result.numbers ≡ numbers.now }
-    ensures connected { result.connected ≡ connected.now }
-    ensures project { result.project ≡ project }
+    ensures { result ≡ values_at_7 numbers.now connected.now project }
 {
     Values {
-        frame,
+        frame: 7,
         numbers: Numbers::of(numbers.to_vec(rt.alloc()).expect(rt, "no numbers")),
         connected: flags_of(rt, connected),
         project,
     }
 }
 
-pub fn flags_of(rt: &(impl Abort + AllocGlobal), flags: &[bool]) -> Flags
+fn flags_of(rt: &(impl Abort + AllocGlobal), flags: &[bool]) -> Flags
     ensures { result ≡ flags.now }
 {
     Flags::of(flags.to_vec(rt.alloc()).expect(rt, "no flags"))

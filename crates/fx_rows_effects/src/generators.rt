@@ -1,22 +1,21 @@
 //! Generators: all their actions, and pixels worked by hand at both depths.
-use crate::asking::{Row, both_rows, flags_of, no_clips, values_of};
-use crate::rows::{AXES, GENERATED, PROJECT, choice, fix, int};
-use fx_effect::Context;
+use crate::asking::{Asked, Row, both_rows};
+use crate::rows::{ASKED_OF_NONE, AXES, GENERATED, choice, fix, int};
 use fx_shipped::Shipped;
 
 #[test]
 fn solid(rt: HostRuntime) {
-    let alloc = rt.alloc();
-    let (effect, context) = (Shipped::Solid, Context::Generator);
-    let names = no_clips(&rt);
-    let optional = flags_of(&rt, &[]);
-    let values = values_of(&rt, 7, &[65536, 32768, 0, 32767], &[], PROJECT);
     let params = [
         fix("r", 0, 65536, 0),
         fix("g", 0, 65536, 0),
         fix("b", 0, 65536, 0),
         fix("a", 0, 65536, 65536),
     ];
+    let asked = Asked {
+        effect: Shipped::Solid,
+        numbers: &[65536, 32768, 0, 32767],
+        ..ASKED_OF_NONE
+    };
     let wanted = Row {
         label: "solid",
         params: &params,
@@ -24,28 +23,17 @@ fn solid(rt: HostRuntime) {
         shorts: &[[65535, 32768, 0, 32767], [65535, 32768, 0, 32767]],
         ..GENERATED
     };
-    both_rows(
-        &rt,
-        alloc,
-        effect,
-        context,
-        &names,
-        &optional,
-        &[],
-        &values,
-        &[],
-        &wanted,
-    );
+    both_rows(&rt, &asked, &[], &wanted);
 }
 
 #[test]
 fn checker(rt: HostRuntime) {
-    let alloc = rt.alloc();
-    let (effect, context) = (Shipped::Checker, Context::Generator);
-    let names = no_clips(&rt);
-    let optional = flags_of(&rt, &[]);
-    let values = values_of(&rt, 7, &[2, 32768], &[], PROJECT);
     let params = [int("size", 1, 4096, 16), fix("level", 0, 65536, 65536)];
+    let asked = Asked {
+        effect: Shipped::Checker,
+        numbers: &[2, 32768],
+        ..ASKED_OF_NONE
+    };
     let wanted = Row {
         label: "checker",
         params: &params,
@@ -53,28 +41,17 @@ fn checker(rt: HostRuntime) {
         shorts: &[[32768, 32768, 32768, 65535], [0, 0, 0, 65535]],
         ..GENERATED
     };
-    both_rows(
-        &rt,
-        alloc,
-        effect,
-        context,
-        &names,
-        &optional,
-        &[],
-        &values,
-        &[],
-        &wanted,
-    );
+    both_rows(&rt, &asked, &[], &wanted);
 }
 
 #[test]
 fn ramp(rt: HostRuntime) {
-    let alloc = rt.alloc();
-    let (effect, context) = (Shipped::Ramp, Context::Generator);
-    let names = no_clips(&rt);
-    let optional = flags_of(&rt, &[]);
-    let values = values_of(&rt, 7, &[0], &[], PROJECT);
     let params = [choice("axis", &AXES, 0)];
+    let asked = Asked {
+        effect: Shipped::Ramp,
+        numbers: &[0],
+        ..ASKED_OF_NONE
+    };
     let wanted = Row {
         label: "ramp",
         params: &params,
@@ -82,28 +59,17 @@ fn ramp(rt: HostRuntime) {
         shorts: &[[32768, 32768, 32768, 65535], [65535, 65535, 65535, 65535]],
         ..GENERATED
     };
-    both_rows(
-        &rt,
-        alloc,
-        effect,
-        context,
-        &names,
-        &optional,
-        &[],
-        &values,
-        &[],
-        &wanted,
-    );
+    both_rows(&rt, &asked, &[], &wanted);
 }
 
 #[test]
 fn grain(rt: HostRuntime) {
-    let alloc = rt.alloc();
-    let (effect, context) = (Shipped::Grain, Context::Generator);
-    let names = no_clips(&rt);
-    let optional = flags_of(&rt, &[]);
-    let values = values_of(&rt, 7, &[5, 32768], &[], PROJECT);
     let params = [int("seed", 0, 999999, 0), fix("amount", 0, 65536, 65536)];
+    let asked = Asked {
+        effect: Shipped::Grain,
+        numbers: &[5, 32768],
+        ..ASKED_OF_NONE
+    };
     let wanted = Row {
         label: "grain",
         params: &params,
@@ -111,16 +77,5 @@ fn grain(rt: HostRuntime) {
         shorts: &[[17821, 17821, 17821, 65535], [8842, 8842, 8842, 65535]],
         ..GENERATED
     };
-    both_rows(
-        &rt,
-        alloc,
-        effect,
-        context,
-        &names,
-        &optional,
-        &[],
-        &values,
-        &[],
-        &wanted,
-    );
+    both_rows(&rt, &asked, &[], &wanted);
 }

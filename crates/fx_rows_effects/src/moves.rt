@@ -1,24 +1,22 @@
 //! Effects that read at another place: all their actions, and pixels worked by hand at both depths.
-use crate::asking::{Frame, Picture, Row, both_rows, flags_of, one_clip, values_of};
-use crate::rows::{AXES, FILTERED, PROJECT, SOURCE, SOURCE_CLIP, choice, fix, int};
+use crate::asking::{Asked, Frame, Picture, Row, both_rows};
+use crate::rows::{ASKED_OF_ONE, AXES, FILTERED, SOURCE, SOURCE_CLIP, choice, fix, int};
 use fx_base::Rect;
-use fx_effect::Context;
-use fx_pixel::Components;
 use fx_shipped::Shipped;
 
 #[test]
 fn crop(rt: HostRuntime) {
-    let alloc = rt.alloc();
-    let (effect, context) = (Shipped::Crop, Context::Filter);
-    let names = one_clip(&rt, "Source");
-    let optional = flags_of(&rt, &[false]);
-    let values = values_of(&rt, 7, &[2, 0, 1, 5], &[true], PROJECT);
     let params = [
         int("x", -16384, 16384, 0),
         int("y", -16384, 16384, 0),
         int("width", 0, 16384, 16384),
         int("height", 0, 16384, 16384),
     ];
+    let asked = Asked {
+        effect: Shipped::Crop,
+        numbers: &[2, 0, 1, 5],
+        ..ASKED_OF_ONE
+    };
     let wanted = Row {
         label: "crop",
         clips: &SOURCE_CLIP,
@@ -39,31 +37,20 @@ fn crop(rt: HostRuntime) {
         shorts: &[[0, 0, 0, 0], [0, 255, 254, 255]],
         ..FILTERED
     };
-    both_rows(
-        &rt,
-        alloc,
-        effect,
-        context,
-        &names,
-        &optional,
-        &[Components::Rgba],
-        &values,
-        &[SOURCE],
-        &wanted,
-    );
+    both_rows(&rt, &asked, &[SOURCE], &wanted);
 }
 
 #[test]
 fn translate(rt: HostRuntime) {
-    let alloc = rt.alloc();
-    let (effect, context) = (Shipped::Translate, Context::Filter);
-    let names = one_clip(&rt, "Source");
-    let optional = flags_of(&rt, &[false]);
-    let values = values_of(&rt, 7, &[98304, 0], &[true], PROJECT);
     let params = [
         fix("dx", -1073741824, 1073741824, 0),
         fix("dy", -1073741824, 1073741824, 0),
     ];
+    let asked = Asked {
+        effect: Shipped::Translate,
+        numbers: &[98304, 0],
+        ..ASKED_OF_ONE
+    };
     let wanted = Row {
         label: "translate",
         clips: &SOURCE_CLIP,
@@ -94,28 +81,17 @@ fn translate(rt: HostRuntime) {
         ],
         ..FILTERED
     };
-    both_rows(
-        &rt,
-        alloc,
-        effect,
-        context,
-        &names,
-        &optional,
-        &[Components::Rgba],
-        &values,
-        &[SOURCE],
-        &wanted,
-    );
+    both_rows(&rt, &asked, &[SOURCE], &wanted);
 }
 
 #[test]
 fn mirror(rt: HostRuntime) {
-    let alloc = rt.alloc();
-    let (effect, context) = (Shipped::Mirror, Context::Filter);
-    let names = one_clip(&rt, "Source");
-    let optional = flags_of(&rt, &[false]);
-    let values = values_of(&rt, 7, &[0], &[true], PROJECT);
     let params = [choice("axis", &AXES, 0)];
+    let asked = Asked {
+        effect: Shipped::Mirror,
+        numbers: &[0],
+        ..ASKED_OF_ONE
+    };
     let wanted = Row {
         label: "mirror",
         clips: &SOURCE_CLIP,
@@ -136,16 +112,5 @@ fn mirror(rt: HostRuntime) {
         shorts: &[[10, 200, 30, 128], [1, 1, 1, 1]],
         ..FILTERED
     };
-    both_rows(
-        &rt,
-        alloc,
-        effect,
-        context,
-        &names,
-        &optional,
-        &[Components::Rgba],
-        &values,
-        &[SOURCE],
-        &wanted,
-    );
+    both_rows(&rt, &asked, &[SOURCE], &wanted);
 }

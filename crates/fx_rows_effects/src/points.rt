@@ -1,17 +1,14 @@
 //! Effects that make each pixel of the one at its place: all their actions, and pixels worked by hand at both depths.
-use crate::asking::{Frame, Picture, Row, both_rows, byte_row, flags_of, one_clip, values_of};
-use crate::rows::{BYTES, FILTERED, PROJECT, SAMPLES, SOURCE, SOURCE_CLIP, choice, fix, int};
-use fx_effect::Context;
-use fx_pixel::Components;
+use crate::asking::{Asked, Frame, Picture, Row, both_rows, byte_row};
+use crate::rows::{ASKED_OF_ONE, BYTES, FILTERED, SAMPLES, SOURCE, SOURCE_CLIP, choice, fix, int};
 use fx_shipped::Shipped;
 
 #[test]
 fn invert(rt: HostRuntime) {
-    let alloc = rt.alloc();
-    let (effect, context) = (Shipped::Invert, Context::Filter);
-    let names = one_clip(&rt, "Source");
-    let optional = flags_of(&rt, &[false]);
-    let values = values_of(&rt, 7, &[], &[true], PROJECT);
+    let asked = Asked {
+        effect: Shipped::Invert,
+        ..ASKED_OF_ONE
+    };
     let wanted = Row {
         label: "invert",
         sources: &[Frame {
@@ -23,28 +20,17 @@ fn invert(rt: HostRuntime) {
         shorts: &[[118, 0, 98, 128], [255, 0, 1, 255]],
         ..FILTERED
     };
-    both_rows(
-        &rt,
-        alloc,
-        effect,
-        context,
-        &names,
-        &optional,
-        &[Components::Rgba],
-        &values,
-        &[SOURCE],
-        &wanted,
-    );
+    both_rows(&rt, &asked, &[SOURCE], &wanted);
 }
 
 #[test]
 fn gain(rt: HostRuntime) {
-    let alloc = rt.alloc();
-    let (effect, context) = (Shipped::Gain, Context::Filter);
-    let names = one_clip(&rt, "Source");
-    let optional = flags_of(&rt, &[false]);
-    let values = values_of(&rt, 7, &[98304], &[true], PROJECT);
     let params = [fix("gain", 0, 1048576, 65536)];
+    let asked = Asked {
+        effect: Shipped::Gain,
+        numbers: &[98304],
+        ..ASKED_OF_ONE
+    };
     let wanted = Row {
         label: "gain",
         clips: &SOURCE_CLIP,
@@ -58,27 +44,15 @@ fn gain(rt: HostRuntime) {
         shorts: &[[15, 300, 45, 128], [0, 383, 381, 255], [5, 3, 2, 0]],
         ..FILTERED
     };
-    both_rows(
-        &rt,
-        alloc,
-        effect,
-        context,
-        &names,
-        &optional,
-        &[Components::Rgba],
-        &values,
-        &[SOURCE],
-        &wanted,
-    );
+    both_rows(&rt, &asked, &[SOURCE], &wanted);
 }
 
 #[test]
 fn premult(rt: HostRuntime) {
-    let alloc = rt.alloc();
-    let (effect, context) = (Shipped::Premult, Context::Filter);
-    let names = one_clip(&rt, "Source");
-    let optional = flags_of(&rt, &[false]);
-    let values = values_of(&rt, 7, &[], &[true], PROJECT);
+    let asked = Asked {
+        effect: Shipped::Premult,
+        ..ASKED_OF_ONE
+    };
     let wanted = Row {
         label: "premult",
         sources: &[Frame {
@@ -90,27 +64,15 @@ fn premult(rt: HostRuntime) {
         shorts: &[[0, 0, 0, 128], [0, 1, 1, 255]],
         ..FILTERED
     };
-    both_rows(
-        &rt,
-        alloc,
-        effect,
-        context,
-        &names,
-        &optional,
-        &[Components::Rgba],
-        &values,
-        &[SOURCE],
-        &wanted,
-    );
+    both_rows(&rt, &asked, &[SOURCE], &wanted);
 }
 
 #[test]
 fn unpremult(rt: HostRuntime) {
-    let alloc = rt.alloc();
-    let (effect, context) = (Shipped::Unpremult, Context::Filter);
-    let names = one_clip(&rt, "Source");
-    let optional = flags_of(&rt, &[false]);
-    let values = values_of(&rt, 7, &[], &[true], PROJECT);
+    let asked = Asked {
+        effect: Shipped::Unpremult,
+        ..ASKED_OF_ONE
+    };
     let wanted = Row {
         label: "unpremult",
         sources: &[Frame {
@@ -122,33 +84,22 @@ fn unpremult(rt: HostRuntime) {
         shorts: &[[5120, 65535, 15360, 128], [0, 65535, 65278, 255]],
         ..FILTERED
     };
-    both_rows(
-        &rt,
-        alloc,
-        effect,
-        context,
-        &names,
-        &optional,
-        &[Components::Rgba],
-        &values,
-        &[SOURCE],
-        &wanted,
-    );
+    both_rows(&rt, &asked, &[SOURCE], &wanted);
 }
 
 #[test]
 fn shuffle(rt: HostRuntime) {
-    let alloc = rt.alloc();
-    let (effect, context) = (Shipped::Shuffle, Context::Filter);
-    let names = one_clip(&rt, "Source");
-    let optional = flags_of(&rt, &[false]);
-    let values = values_of(&rt, 7, &[3, 4, 0, 1], &[true], PROJECT);
     let params = [
         choice("r", &SAMPLES, 0),
         choice("g", &SAMPLES, 1),
         choice("b", &SAMPLES, 2),
         choice("a", &SAMPLES, 3),
     ];
+    let asked = Asked {
+        effect: Shipped::Shuffle,
+        numbers: &[3, 4, 0, 1],
+        ..ASKED_OF_ONE
+    };
     let wanted = Row {
         label: "shuffle",
         params: &params,
@@ -161,28 +112,17 @@ fn shuffle(rt: HostRuntime) {
         shorts: &[[128, 0, 10, 200], [255, 0, 0, 255], [0, 0, 3, 2]],
         ..FILTERED
     };
-    both_rows(
-        &rt,
-        alloc,
-        effect,
-        context,
-        &names,
-        &optional,
-        &[Components::Rgba],
-        &values,
-        &[SOURCE],
-        &wanted,
-    );
+    both_rows(&rt, &asked, &[SOURCE], &wanted);
 }
 
 #[test]
 fn saturation(rt: HostRuntime) {
-    let alloc = rt.alloc();
-    let (effect, context) = (Shipped::Saturation, Context::Filter);
-    let names = one_clip(&rt, "Source");
-    let optional = flags_of(&rt, &[false]);
-    let values = values_of(&rt, 7, &[98304], &[true], PROJECT);
     let params = [fix("amount", 0, 262144, 65536)];
+    let asked = Asked {
+        effect: Shipped::Saturation,
+        numbers: &[98304],
+        ..ASKED_OF_ONE
+    };
     let wanted = Row {
         label: "saturation",
         params: &params,
@@ -195,28 +135,17 @@ fn saturation(rt: HostRuntime) {
         shorts: &[[0, 226, 0, 128], [0, 282, 280, 255], [3, 2, 0, 0]],
         ..FILTERED
     };
-    both_rows(
-        &rt,
-        alloc,
-        effect,
-        context,
-        &names,
-        &optional,
-        &[Components::Rgba],
-        &values,
-        &[SOURCE],
-        &wanted,
-    );
+    both_rows(&rt, &asked, &[SOURCE], &wanted);
 }
 
 #[test]
 fn posterise(rt: HostRuntime) {
-    let alloc = rt.alloc();
-    let (effect, context) = (Shipped::Posterise, Context::Filter);
-    let names = one_clip(&rt, "Source");
-    let optional = flags_of(&rt, &[false]);
-    let values = values_of(&rt, 7, &[3], &[true], PROJECT);
     let params = [int("levels", 2, 256, 256)];
+    let asked = Asked {
+        effect: Shipped::Posterise,
+        numbers: &[3],
+        ..ASKED_OF_ONE
+    };
     let wanted = Row {
         label: "posterise",
         depths: &BYTES,
@@ -229,16 +158,5 @@ fn posterise(rt: HostRuntime) {
         bytes: &[[0, 255, 0, 128], [0, 255, 255, 255]],
         ..FILTERED
     };
-    byte_row(
-        &rt,
-        alloc,
-        effect,
-        context,
-        &names,
-        &optional,
-        &[Components::Rgba],
-        &values,
-        &[SOURCE],
-        &wanted,
-    );
+    byte_row(&rt, &asked, &[SOURCE], &wanted);
 }

@@ -1,10 +1,12 @@
 //! What the rows of the effects share: texts, frames, and rows of each kind that a test fills in.
 ghost use Rattle.std.specs.Prelude.{◌≤◌, length};
 
-use crate::asking::{Clip, Frame, Parameter, Picture, Row};
+use crate::asking::{Asked, Clip, Frame, Parameter, Picture, Row};
 use fx_base::Rect;
-use fx_effect::Identity;
+use fx_effect::{Context, Identity};
 use fx_params::ParamKind;
+use fx_pixel::Components;
+use fx_shipped::Shipped;
 
 pub const BOTH_DEPTHS: [&str; 2] = ["OfxBitDepthByte", "OfxBitDepthShort"];
 
@@ -155,6 +157,52 @@ pub static KEYED_CLIPS: [Clip; 3] = [
         components: &["OfxImageComponentAlpha"],
     },
 ];
+
+// How a generator is asked, a filter, a transition, and an effect of two clips and a mask. A row has the effect and its
+// numbers.
+pub const ASKED_OF_NONE: Asked<'static> = Asked {
+    effect: Shipped::Solid,
+    context: Context::Generator,
+    clips: &[],
+    optional: &[],
+    shown: &[],
+    numbers: &[],
+    connected: &[],
+    project: PROJECT,
+};
+
+pub const ASKED_OF_ONE: Asked<'static> = Asked {
+    effect: Shipped::Invert,
+    context: Context::Filter,
+    clips: &["Source"],
+    optional: &[false],
+    shown: &[Components::Rgba],
+    numbers: &[],
+    connected: &[true],
+    project: PROJECT,
+};
+
+pub const ASKED_OF_TWO: Asked<'static> = Asked {
+    effect: Shipped::Dissolve,
+    context: Context::Transition,
+    clips: &["SourceFrom", "SourceTo"],
+    optional: &[false, false],
+    shown: &[Components::Rgba, Components::Rgba],
+    numbers: &[],
+    connected: &[true, true],
+    project: PROJECT,
+};
+
+pub const ASKED_OF_THREE: Asked<'static> = Asked {
+    effect: Shipped::Keymix,
+    context: Context::General,
+    clips: &["A", "B", "Mask"],
+    optional: &[false, false, true],
+    shown: &[Components::Rgba, Components::Rgba, Components::Alpha],
+    numbers: &[],
+    connected: &[true, true, true],
+    project: PROJECT,
+};
 
 // A generator over the project, asked for a window beyond it.
 pub const GENERATED: Row<'static> = Row {

@@ -1,21 +1,20 @@
 //! Effects that read other frames: all their actions, and pixels worked by hand at both depths.
-use crate::asking::{Row, both_rows, flags_of, one_clip, values_of};
+use crate::asking::{Asked, Row, both_rows};
 use crate::rows::{
-    AROUND, BEFORE_AND_NOW, FILTERED, LAST_TWO, NEXT, NOW_AND_NEXT, PROJECT, SOURCE, SOURCE_CLIP,
-    UNSAFE, int,
+    AROUND, ASKED_OF_ONE, BEFORE_AND_NOW, FILTERED, LAST_TWO, NEXT, NOW_AND_NEXT, SOURCE,
+    SOURCE_CLIP, UNSAFE, int,
 };
-use fx_effect::{Context, Identity};
-use fx_pixel::Components;
+use fx_effect::Identity;
 use fx_shipped::Shipped;
 
 #[test]
 fn timeoffset(rt: HostRuntime) {
-    let alloc = rt.alloc();
-    let (effect, context) = (Shipped::Timeoffset, Context::Filter);
-    let names = one_clip(&rt, "Source");
-    let optional = flags_of(&rt, &[false]);
-    let values = values_of(&rt, 7, &[-1], &[true], PROJECT);
     let params = [int("offset", -100000, 100000, 0)];
+    let asked = Asked {
+        effect: Shipped::Timeoffset,
+        numbers: &[-1],
+        ..ASKED_OF_ONE
+    };
     let wanted = Row {
         label: "timeoffset",
         temporal: 1,
@@ -28,28 +27,17 @@ fn timeoffset(rt: HostRuntime) {
         shorts: &[[20, 0, 0, 255], [0, 0, 0, 0], [255, 255, 255, 255]],
         ..FILTERED
     };
-    both_rows(
-        &rt,
-        alloc,
-        effect,
-        context,
-        &names,
-        &optional,
-        &[Components::Rgba],
-        &values,
-        &[SOURCE],
-        &wanted,
-    );
+    both_rows(&rt, &asked, &[SOURCE], &wanted);
 }
 
 #[test]
 fn frameblend(rt: HostRuntime) {
-    let alloc = rt.alloc();
-    let (effect, context) = (Shipped::Frameblend, Context::Filter);
-    let names = one_clip(&rt, "Source");
-    let optional = flags_of(&rt, &[false]);
-    let values = values_of(&rt, 7, &[1], &[true], PROJECT);
     let params = [int("radius", 0, 16, 1)];
+    let asked = Asked {
+        effect: Shipped::Frameblend,
+        numbers: &[1],
+        ..ASKED_OF_ONE
+    };
     let wanted = Row {
         label: "frameblend",
         temporal: 1,
@@ -62,28 +50,17 @@ fn frameblend(rt: HostRuntime) {
         shorts: &[[10, 67, 10, 128], [0, 85, 85, 85], [86, 86, 85, 85]],
         ..FILTERED
     };
-    both_rows(
-        &rt,
-        alloc,
-        effect,
-        context,
-        &names,
-        &optional,
-        &[Components::Rgba],
-        &values,
-        &[SOURCE],
-        &wanted,
-    );
+    both_rows(&rt, &asked, &[SOURCE], &wanted);
 }
 
 #[test]
 fn framediff(rt: HostRuntime) {
-    let alloc = rt.alloc();
-    let (effect, context) = (Shipped::Framediff, Context::Filter);
-    let names = one_clip(&rt, "Source");
-    let optional = flags_of(&rt, &[false]);
-    let values = values_of(&rt, 7, &[1], &[true], PROJECT);
     let params = [int("gap", 1, 16, 1)];
+    let asked = Asked {
+        effect: Shipped::Framediff,
+        numbers: &[1],
+        ..ASKED_OF_ONE
+    };
     let wanted = Row {
         label: "framediff",
         temporal: 1,
@@ -95,28 +72,17 @@ fn framediff(rt: HostRuntime) {
         shorts: &[[10, 200, 30, 255], [0, 255, 254, 255], [252, 253, 254, 255]],
         ..FILTERED
     };
-    both_rows(
-        &rt,
-        alloc,
-        effect,
-        context,
-        &names,
-        &optional,
-        &[Components::Rgba],
-        &values,
-        &[SOURCE],
-        &wanted,
-    );
+    both_rows(&rt, &asked, &[SOURCE], &wanted);
 }
 
 #[test]
 fn echo(rt: HostRuntime) {
-    let alloc = rt.alloc();
-    let (effect, context) = (Shipped::Echo, Context::Filter);
-    let names = one_clip(&rt, "Source");
-    let optional = flags_of(&rt, &[false]);
-    let values = values_of(&rt, 7, &[1, 1], &[true], PROJECT);
     let params = [int("count", 0, 8, 2), int("gap", 1, 8, 1)];
+    let asked = Asked {
+        effect: Shipped::Echo,
+        numbers: &[1, 1],
+        ..ASKED_OF_ONE
+    };
     let wanted = Row {
         label: "echo",
         temporal: 1,
@@ -128,16 +94,5 @@ fn echo(rt: HostRuntime) {
         shorts: &[[10, 200, 30, 128], [0, 255, 254, 255], [127, 127, 127, 127]],
         ..FILTERED
     };
-    both_rows(
-        &rt,
-        alloc,
-        effect,
-        context,
-        &names,
-        &optional,
-        &[Components::Rgba],
-        &values,
-        &[SOURCE],
-        &wanted,
-    );
+    both_rows(&rt, &asked, &[SOURCE], &wanted);
 }

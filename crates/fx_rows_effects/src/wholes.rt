@@ -1,19 +1,17 @@
 //! Effects that render no tiles: all their actions, and pixels worked by hand at both depths.
-use crate::asking::{Frame, Picture, Row, both_rows, byte_row, flags_of, one_clip, values_of};
-use crate::rows::{FILTERED, PROJECT, SOURCE};
+use crate::asking::{Asked, Frame, Picture, Row, both_rows, byte_row};
+use crate::rows::{ASKED_OF_ONE, FILTERED, PROJECT, SOURCE};
 use fx_base::Rect;
 use fx_effect::Context;
-use fx_pixel::Components;
 use fx_shipped::Shipped;
 
 // The level, 200, lies left of the window; a of the window's first pixel and what lies right of the project are greater.
 #[test]
 fn autogain(rt: HostRuntime) {
-    let alloc = rt.alloc();
-    let (effect, context) = (Shipped::Autogain, Context::Filter);
-    let names = one_clip(&rt, "Source");
-    let optional = flags_of(&rt, &[false]);
-    let values = values_of(&rt, 7, &[], &[true], PROJECT);
+    let asked = Asked {
+        effect: Shipped::Autogain,
+        ..ASKED_OF_ONE
+    };
     let wanted = Row {
         label: "autogain",
         tiles: 0,
@@ -28,29 +26,23 @@ fn autogain(rt: HostRuntime) {
         shorts: &[[32768, 9830, 2294, 255], [0, 0, 65207, 201]],
         ..FILTERED
     };
-    both_rows(
-        &rt,
-        alloc,
-        effect,
-        context,
-        &names,
-        &optional,
-        &[Components::Rgba],
-        &values,
-        &[SOURCE],
-        &wanted,
-    );
+    both_rows(&rt, &asked, &[SOURCE], &wanted);
 }
 
 // The project's last two columns are black.
 #[test]
 fn autogain_of_a_source_smaller_than_the_project(rt: HostRuntime) {
-    let alloc = rt.alloc();
-    let (effect, context) = (Shipped::Autogain, Context::General);
-    let names = one_clip(&rt, "Source");
-    let optional = flags_of(&rt, &[false]);
-    let project = Rect::of(0, 0, 6, 1);
-    let values = values_of(&rt, 7, &[], &[true], project);
+    let asked = Asked {
+        effect: Shipped::Autogain,
+        context: Context::General,
+        project: Rect {
+            x1: 0,
+            y1: 0,
+            x2: 6,
+            y2: 1,
+        },
+        ..ASKED_OF_ONE
+    };
     let wanted = Row {
         label: "autogain",
         tiles: 0,
@@ -63,28 +55,16 @@ fn autogain_of_a_source_smaller_than_the_project(rt: HostRuntime) {
         bytes: &[[102, 31, 7, 255], [0, 0, 203, 201], [255, 255, 255, 250]],
         ..FILTERED
     };
-    byte_row(
-        &rt,
-        alloc,
-        effect,
-        context,
-        &names,
-        &optional,
-        &[Components::Rgba],
-        &values,
-        &[SOURCE],
-        &wanted,
-    );
+    byte_row(&rt, &asked, &[SOURCE], &wanted);
 }
 
 // Black stays black, and its a is kept.
 #[test]
 fn autogain_of_black(rt: HostRuntime) {
-    let alloc = rt.alloc();
-    let (effect, context) = (Shipped::Autogain, Context::Filter);
-    let names = one_clip(&rt, "Source");
-    let optional = flags_of(&rt, &[false]);
-    let values = values_of(&rt, 7, &[], &[true], PROJECT);
+    let asked = Asked {
+        effect: Shipped::Autogain,
+        ..ASKED_OF_ONE
+    };
     let wanted = Row {
         label: "autogain",
         tiles: 0,
@@ -98,29 +78,22 @@ fn autogain_of_black(rt: HostRuntime) {
         bytes: &[[0, 0, 0, 128]],
         ..FILTERED
     };
-    byte_row(
-        &rt,
-        alloc,
-        effect,
-        context,
-        &names,
-        &optional,
-        &[Components::Rgba],
-        &values,
-        &[SOURCE],
-        &wanted,
-    );
+    byte_row(&rt, &asked, &[SOURCE], &wanted);
 }
 
 // A half is rounded up.
 #[test]
 fn autogain_of_two_greys(rt: HostRuntime) {
-    let alloc = rt.alloc();
-    let (effect, context) = (Shipped::Autogain, Context::Filter);
-    let names = one_clip(&rt, "Source");
-    let optional = flags_of(&rt, &[false]);
-    let greys = Rect::of(0, 0, 2, 1);
-    let values = values_of(&rt, 7, &[], &[true], greys);
+    let asked = Asked {
+        effect: Shipped::Autogain,
+        project: Rect {
+            x1: 0,
+            y1: 0,
+            x2: 2,
+            y2: 1,
+        },
+        ..ASKED_OF_ONE
+    };
     let wanted = Row {
         label: "autogain",
         tiles: 0,
@@ -145,16 +118,5 @@ fn autogain_of_two_greys(rt: HostRuntime) {
         bytes: &[[128, 128, 128, 255], [255, 255, 255, 255]],
         ..FILTERED
     };
-    byte_row(
-        &rt,
-        alloc,
-        effect,
-        context,
-        &names,
-        &optional,
-        &[Components::Rgba],
-        &values,
-        &[SOURCE],
-        &wanted,
-    );
+    byte_row(&rt, &asked, &[SOURCE], &wanted);
 }
