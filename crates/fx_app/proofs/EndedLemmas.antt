@@ -8,9 +8,9 @@ use Rattle.fx_words.specs.declared.order.Mode.TheVariants.{Render, Check, Bench,
 use Rattle.fx_words.specs.declared.fault.RunFault.{RunFault}
 use Rattle.fx_words.specs.declared.fault.RunFault.TheVariants as run
 use Rattle.fx_app.specs.Words.{mode_in}
-use Rattle.fx_app.specs.Modes.{CauseIn, LeavesIn, LeavesReportIn}
-use Rattle.fx_app.specs.Ended.{Calls, Ended, calls}
-use Rattle.fx_app.proofs.StepsLemmas.{no_call, untouched}
+use Rattle.fx_modes.specs.Modes.{CauseIn, LeavesIn, LeavesReportIn}
+use Rattle.fx_modes.specs.Ended.{Calls, Ended, calls}
+use Rattle.fx_modes.proofs.StepsLemmas.{no_call, untouched}
 
 -- what holds of an order and its mode holds of what is asked for
 in_mode : (P : Option Mode → Option Ordered → Type 0) (asked : Option Ordered) (order : Ordered) (mode : Mode)

@@ -8,15 +8,15 @@ use Rattle.fx_words.specs.declared.order.Mode.TheVariants.{Render, Check, Bench,
 use Rattle.fx_words.specs.declared.fault.RunFault.{RunFault}
 use Rattle.fx_words.specs.declared.fault.RunFault.TheVariants as run
 use Rattle.fx_app.specs.Words.{mode_in}
-use Rattle.fx_app.specs.Texts.{status_of}
-use Rattle.fx_app.specs.Bench.{made_for, BenchCause}
-use Rattle.fx_app.specs.Check.{CheckCause}
-use Rattle.fx_app.specs.Run.{Job, IsAccepted, NamesNoGraph, Cause, Rose}
-use Rattle.fx_app.specs.Modes.{CauseIn}
-use Rattle.fx_app.specs.Migrate.{Migration}
-use Rattle.fx_app.proofs.MigrateLemmas.{refused_migrate, not_bad}
-use Rattle.fx_app.proofs.PlanLemmas.{render_cause}
-use Rattle.fx_app.proofs.StepsLemmas.{refused_not, only_memory}
+use Rattle.fx_modes.specs.Texts.{status_of}
+use Rattle.fx_modes.specs.Bench.{made_for, BenchCause}
+use Rattle.fx_modes.specs.Check.{CheckCause}
+use Rattle.fx_modes.specs.Run.{Job, IsAccepted, NamesNoGraph, Cause, Rose}
+use Rattle.fx_modes.specs.Modes.{CauseIn}
+use Rattle.fx_modes.specs.Migrate.{Migration}
+use Rattle.fx_modes.proofs.MigrateLemmas.{refused_migrate, not_bad}
+use Rattle.fx_modes.proofs.PlanLemmas.{render_cause}
+use Rattle.fx_modes.proofs.StepsLemmas.{refused_not, only_memory}
 
 -- ---- a check
 

@@ -4,22 +4,6 @@
 //! graph's value.
 #![tactic(auto)]
 
-mod bench;
-mod check;
-mod crew;
-mod frames;
-mod graph;
-mod holding;
-mod making;
-mod migrate;
-mod moments;
-mod order;
-mod plan;
-mod planning;
-mod render;
-mod report;
-mod rounds;
-mod sources;
 mod steps;
 mod tell;
 

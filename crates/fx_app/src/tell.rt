@@ -3,7 +3,7 @@ ghost use Rattle.std.specs.Prelude.{◌≡◌, ◌≢◌, ◌⊎◌, OnOk, OnErr
 ghost use Rattle.fx_outside.specs.Outside.{AddsPrefix};
 ghost use Rattle.fx_words.specs.Texts.{fault_text};
 ghost use Rattle.fx_words.specs.declared.fault.RunFault.TheVariants.{Memory as OutOfMemory};
-ghost use Rattle.fx_app.specs.Texts.{status_of, GainsLine};
+ghost use Rattle.fx_modes.specs.Texts.{status_of, GainsLine};
 
 use fx_base::Memory;
 use fx_outside::{PutFault, Sink};

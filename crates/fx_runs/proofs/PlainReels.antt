@@ -14,11 +14,11 @@ use Rattle.fx_shipped.specs.Shipped.{meaning_of}
 use Rattle.fx_words.specs.Ordered.{Ordered}
 use Rattle.fx_words.specs.declared.order.Mode.{Mode}
 use Rattle.fx_words.specs.declared.order.Mode.TheVariants.{Render}
-use Rattle.fx_app.specs.Graphs.{Graph, first_of, frame_count, last_of}
-use Rattle.fx_app.specs.Files.{with_file, with_moments}
-use Rattle.fx_app.specs.Reels.{file_name, file_text, moments_in, ordered_file, picture_text, plain_reel, takes_for, wanting_in}
-use Rattle.fx_app.specs.Run.{Job}
-use Rattle.fx_app.proofs.ReelLemmas.{alone_many, alone_name, plain_is}
+use Rattle.fx_modes.specs.Graphs.{Graph, first_of, frame_count, last_of}
+use Rattle.fx_modes.specs.Files.{with_file, with_moments}
+use Rattle.fx_modes.specs.Reels.{file_name, file_text, moments_in, ordered_file, picture_text, plain_reel, takes_for, wanting_in}
+use Rattle.fx_modes.specs.Run.{Job}
+use Rattle.fx_modes.proofs.ReelLemmas.{alone_many, alone_name, plain_is}
 
 -- ---- its moments
 

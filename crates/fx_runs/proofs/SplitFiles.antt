@@ -7,8 +7,8 @@ use Rattle.fx_base.specs.Pattern.{runs}
 use Rattle.fx_base.proofs.PatternLaws.{name_of-apart}
 use Rattle.fx_outside.specs.Outside.{Files}
 use Rattle.fx_scene.specs.Scenes.{Images}
-use Rattle.fx_app.specs.Graphs.{Graph}
-use Rattle.fx_app.specs.Reels.{picture_text}
+use Rattle.fx_modes.specs.Graphs.{Graph}
+use Rattle.fx_modes.specs.Reels.{picture_text}
 use Rattle.fx_runs.proofs.PlainReels.{frame_name, with_frames}
 
 -- a frame of n from a on

@@ -23,7 +23,7 @@ use Rattle.fx_pixel.specs.declared.Pixel.{Pixel}
 use Rattle.fx_pixel.specs.declared.Pixel.TheVariants.{Rgba}
 use Rattle.fx_proxy.specs.Reduced.{IsScale, reduced}
 use Rattle.fx_scene.specs.Nodes.{IsFrameImage}
-use Rattle.fx_app.proofs.ScaledLemmas.{small_image}
+use Rattle.fx_modes.proofs.ScaledLemmas.{small_image}
 
 -- ---- one file, one image
 

@@ -30,16 +30,16 @@ use Rattle.fx_scene.specs.Wants.{IsNamedIn, IsWanted, Lists, Shows}
 use Rattle.fx_scene.proofs.Members.{In, in_of}
 use Rattle.fx_scene.proofs.WantLemmas.{contains_of}
 use Rattle.fx_shipped.specs.Shipped.{meaning_of}
-use Rattle.fx_app.specs.Graphs.{Graph, frame_count}
-use Rattle.fx_app.specs.Reels.{Reel, moments_in, picture_text, plain_reel, scaled_in}
-use Rattle.fx_app.specs.Files.{AreImages, AreUsesOf, HasGained, IsFileOf, wanted_of}
+use Rattle.fx_modes.specs.Graphs.{Graph, frame_count}
+use Rattle.fx_modes.specs.Reels.{Reel, moments_in, picture_text, plain_reel, scaled_in}
+use Rattle.fx_modes.specs.Files.{AreImages, AreUsesOf, HasGained, IsFileOf, wanted_of}
 use Rattle.fx_runs.specs.Stretches.{AreStretches, HasRun, HaveRun, IsIn, RunsAreSuch, Stretch, StretchesMakeWhole, StretchesWantNoMore}
 use Rattle.fx_base.specs.declared.limits.TheConstants.{MOST_SIDE}
 use Rattle.fx_runs.proofs.PlainReels.{frame_name, is_plain, moment_wants, moments_are, moments_are_frames, wants_of, with_frames}
 use Rattle.fx_runs.proofs.SplitFiles.{IsOf, hit, miss, seek}
 use Rattle.fx_runs.proofs.SplitImages.{same_image, small_frame}
-use Rattle.fx_app.proofs.ScaledLemmas.{same_small}
-use Rattle.fx_app.proofs.UsesLemmas.{from_wanted, one_name}
+use Rattle.fx_modes.proofs.ScaledLemmas.{same_small}
+use Rattle.fx_modes.proofs.UsesLemmas.{from_wanted, one_name}
 
 -- ---- what is wanted
 

@@ -9,10 +9,10 @@ use Rattle.fx_scene.specs.Scenes.{Images}
 use Rattle.fx_scene.specs.Wants.{Lists}
 use Rattle.fx_words.specs.Ordered.{Ordered}
 use Rattle.fx_words.specs.declared.order.Mode.TheVariants.{Render}
-use Rattle.fx_app.specs.Graphs.{Graph, first_of, last_of}
-use Rattle.fx_app.specs.Reels.{moments_in, ordered_file, plain_reel, scaled_in}
-use Rattle.fx_app.specs.Files.{AreImages, AreUsesOf, HasGained, wanted_of}
-use Rattle.fx_app.specs.Run.{HasPutAll, Job}
+use Rattle.fx_modes.specs.Graphs.{Graph, first_of, last_of}
+use Rattle.fx_modes.specs.Reels.{moments_in, ordered_file, plain_reel, scaled_in}
+use Rattle.fx_modes.specs.Files.{AreImages, AreUsesOf, HasGained, wanted_of}
+use Rattle.fx_modes.specs.Run.{HasPutAll, Job}
 
 -- the frames from a first one to a last one
 pub record Stretch : Type 0 where

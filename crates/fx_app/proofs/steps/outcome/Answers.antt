@@ -4,11 +4,11 @@ use Rattle.std.proofs.lemmas.Result.{err_from_is_err_and}
 use Rattle.fx_words.specs.Order.{order_of}
 use Rattle.fx_words.specs.Ordered.{Ordered}
 use Rattle.fx_words.specs.declared.order.Mode.TheVariants as mode
-use Rattle.fx_app.specs.Check.{HasChecked}
-use Rattle.fx_app.specs.Ended.{calls}
-use Rattle.fx_app.specs.Migrate.{Migration, HasMigrated, HasToldNodes}
-use Rattle.fx_app.specs.Plans.{HasPlanned}
-use Rattle.fx_app.specs.Run.{HasTold, IsAccepted}
+use Rattle.fx_modes.specs.Check.{HasChecked}
+use Rattle.fx_modes.specs.Ended.{calls}
+use Rattle.fx_modes.specs.Migrate.{Migration, HasMigrated, HasToldNodes}
+use Rattle.fx_modes.specs.Plans.{HasPlanned}
+use Rattle.fx_modes.specs.Run.{HasTold, IsAccepted}
 use Rattle.fx_app.proofs.WordLemmas.{bench_number}
 use Rattle.fx_app.proofs.EndedLemmas as end
 use Rattle.fx_app.proofs.steps.outcome.Goals as goal

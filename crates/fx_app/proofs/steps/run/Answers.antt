@@ -1,10 +1,10 @@
 use Rattle.std.proofs.Common.{inr, map, string_bytes}
 use Rattle.fx_words.specs.declared.order.Mode.TheVariants.{Check, Bench, Migrate, Plan}
 use Rattle.fx_words.specs.Order.{order_of}
-use Rattle.fx_app.proofs.StepsLemmas.{only_memory, ends_by_memory}
-use Rattle.fx_app.proofs.MigrateLemmas as migrate
+use Rattle.fx_modes.proofs.StepsLemmas.{only_memory, ends_by_memory}
+use Rattle.fx_modes.proofs.MigrateLemmas as migrate
 use Rattle.fx_app.proofs.ModeLemmas as mode
-use Rattle.fx_app.proofs.PlanLemmas as plan
+use Rattle.fx_modes.proofs.PlanLemmas as plan
 use Rattle.fx_app.proofs.steps.run.Goals as goal
 
 pub returns-in-Ok-clause-accepted : goal.returns-in-Ok-clause-accepted
