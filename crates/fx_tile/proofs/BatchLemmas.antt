@@ -85,6 +85,13 @@ pub room : (k n c b t : ℕ) → k + n ≤ b → b * c ≡ t → k * c + n * c �
 room k n c b t low many =
     let up : (k + n) * c ≤ b * c = mul-le-mul_right c low in let both : (k + n) * c ≡ k * c + n * c = omega arith in omega (arith, up, both, many)
 
+-- no more than there are in all
+pub few_behind : {A : Type 0} (xs own : List A) (k n most : ℕ) → own ≡ take n (drop k xs) → length xs ≤ most → length own ≤ most
+few_behind xs own k n most is few =
+    let left = length-drop k xs in
+    let first = length-take n (drop k xs) in
+    subst (λ ys. length ys ≤ most) (sym is) (omega (arith, left, first, few))
+
 pub all_behind : {A : Type 0} (P : A → Type 0) (xs own : List A) (a n : ℕ) → own ≡ take n (drop a xs) → All P xs → All P own
 all_behind P xs own a n is all =
     subst (All P) (sym is)

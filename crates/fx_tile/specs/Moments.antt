@@ -1,5 +1,6 @@
 -- The picture of a frame: its tiles are found one by one, and then its bands are written one by one.
 use Rattle.std.specs.Prelude.{◌≡◌, ◌<◌, ◌≤◌, ◌*◌, ◌^◌, ◌+◌, ℕ, ℤ, List, [], None, All, drop, length, map, take, count_by, slice_index_or, sum_by, vec_len}
+use Rattle.std.specs.Global.{Vec}
 use Rattle.std.specs.List.{Contains}
 use Rattle.fx_base.specs.Bounds.{Bounds, none}
 use Rattle.fx_base.specs.Rect.{Holds, IsWithin, columns}
@@ -51,6 +52,14 @@ pub record IsIdle {E : Type 0} (shared : Shared E) (parts : ℕ) (seat : TileSea
 -- a seat of a worker, which has one part
 abbrev pub IsFree : {E : Type 0} → Shared E → TileSeat E → Type 0
 IsFree shared seat = IsIdle shared 1 seat
+
+-- the seats of those who render a frame, 1 to 64
+abbrev pub AreWorkers : {E : Type 0} → Shared E → Vec (TileSeat E) → Type 0
+AreWorkers shared seats = ((1 ≤ vec_len seats) × (vec_len seats ≤ 64)) × All (IsFree shared) seats.items
+
+-- as many seats come back, and as free
+abbrev pub ComeBack : {E : Type 0} → Shared E → Vec (TileSeat E) → Vec (TileSeat E) → Type 0
+ComeBack shared before after = (vec_len after ≡ vec_len before) × All (IsFree shared) after.items
 
 -- what landed and what was found kept through a seat, and by a count
 abbrev pub seat_weight : {E : Type 0} → TileSeat E → ℕ × ℕ
@@ -132,6 +141,14 @@ pub record IsFoundTile {E : Type 0} {c e : _} (meaning : E → Meaning) (setup :
 -- the tile of a number
 abbrev pub job_tile : {E : Type 0} {c e : _} → TileJob E c e → ℕ → Bounds
 job_tile job index = slice_index_or job.tiles.now index none
+
+-- the frame is one of the setup's, and these are tiles of its picture, at most 2^32
+pub record AreTilesAt {E : Type 0} {c e : _} (meaning : E → Meaning) (number : E → ℕ) (setup : Setup E c e) (frame : ℤ)
+    (tiles : List Bounds) : Type 0 where
+  pub setup_is : IsSetup meaning number setup
+  pub reached : Has setup.regions.now setup.scene.now.graph.output frame
+  pub each : All (IsWindowTile setup.scene.now.graph.project) tiles
+  pub few : length tiles ≤ 2 ^ 32
 
 -- the window tiles of the frame may be drawn, and this is the number of one
 pub record MayDraw {E : Type 0} {c e : _} (meaning : E → Meaning) (number : E → ℕ) (job : TileJob E c e) (index : ℕ)

@@ -3,11 +3,9 @@
 ghost use Rattle.std.specs.Prelude.{◌≡◌, ◌↔◌, ◌<◌, ◌≤◌, ◌+◌, ◌*◌, ◌++◌, ◌^◌, All, IfErr, IfOk, IfSome, IsSome, drop, length, map, min, take, vec_len};
 ghost use Rattle.fx_pool.specs.Weights.{plus, weigh};
 ghost use Rattle.fx_region.specs.Ends.{end_of};
-ghost use Rattle.fx_region.specs.Tables.{Has};
 ghost use Rattle.fx_scene.specs.Sites.{scene_nodes};
 ghost use Rattle.fx_tile.specs.Counts.{CanCount, both_counts};
-ghost use Rattle.fx_tile.specs.Moments.{AreBandsOf, CountsTiles, IsFoundTile, IsFree, IsWindowTile, ShowEach, count_of_all, count_weight, job_picture, picture_at, rects_of, seat_weight};
-ghost use Rattle.fx_tile.specs.Setups.{IsSetup};
+ghost use Rattle.fx_tile.specs.Moments.{AreBandsOf, AreTilesAt, AreWorkers, ComeBack, CountsTiles, IsFoundTile, ShowEach, count_of_all, count_weight, job_picture, picture_at, rects_of, seat_weight};
 
 use crate::bands::BandJob;
 use crate::count::TileCount;
@@ -64,15 +62,11 @@ pub(crate) fn draw_bands<
     bands: Vec<Image>,
     seats: Vec<TileSeat<E>>,
 ) -> Result<Drawn<E>, (Vec<TileSeat<E>>, Memory)>
-    requires setup { IsSetup E.meaning E.number_of setup.now }
-    requires reached { Has setup.now.regions.now setup.now.scene.now.graph.output frame }
-    requires tiles { All (IsWindowTile setup.now.scene.now.graph.project) tiles.now }
-    requires few { length tiles.now ≤ 2 ^ 32 }
+    requires tiles { AreTilesAt E.meaning E.number_of setup.now frame tiles.now }
     requires some { 0 < batch }
     requires bands { AreBandsOf setup.now.scene.now.graph columns tiles.now bands.items }
     requires few_bands { vec_len bands ≤ 2 ^ 32 }
-    requires workers { (1 ≤ vec_len seats) × (vec_len seats ≤ 64) }
-    requires seats { All (IsFree setup.now.shared.now) seats.items }
+    requires workers { AreWorkers setup.now.shared.now seats }
     ensures all { IfOk result (λ r. vec_len r.bands ≡ vec_len bands) }
     ensures show { let picture = picture_at E.meaning setup.now frame in
         IfOk result (λ r. ShowEach picture bands.items r.bands.items) }
@@ -81,10 +75,8 @@ pub(crate) fn draw_bands<
         IfOk result (λ r. CountsTiles nodes setup.now.shared.now.grid ends r.count) }
     ensures rises { IfOk result (λ r.
         weigh seat_weight r.seats.items ≡ plus (weigh seat_weight seats.items) (count_weight r.count)) }
-    ensures seats { IfOk result (λ r.
-        (vec_len r.seats ≡ vec_len seats) × All (IsFree setup.now.shared.now) r.seats.items) }
-    ensures back { IfErr result (λ r.
-        (vec_len r.0 ≡ vec_len seats) × All (IsFree setup.now.shared.now) r.0.items) }
+    ensures seats { IfOk result (λ r. ComeBack setup.now.shared.now seats r.seats) }
+    ensures back { IfErr result (λ r. ComeBack setup.now.shared.now seats r.0) }
 {
     let mut left = bands;
     let mut drawn = Drawn {
@@ -171,14 +163,10 @@ fn draw_batch<R: Threads + Wait + Clock + Sync, E: Catalogue + Send + Sync + Dro
     bands: Vec<Image>,
     seats: Vec<TileSeat<E>>,
 ) -> Result<Drawn<E>, (Vec<TileSeat<E>>, Memory)>
-    requires setup { IsSetup E.meaning E.number_of setup.now }
-    requires reached { Has setup.now.regions.now setup.now.scene.now.graph.output frame }
-    requires tiles { All (IsWindowTile setup.now.scene.now.graph.project) tiles.now }
-    requires few { length tiles.now ≤ 2 ^ 32 }
+    requires tiles { AreTilesAt E.meaning E.number_of setup.now frame tiles.now }
     requires bands { AreBandsOf setup.now.scene.now.graph columns tiles.now bands.items }
     requires few_bands { vec_len bands ≤ 2 ^ 32 }
-    requires workers { (1 ≤ vec_len seats) × (vec_len seats ≤ 64) }
-    requires seats { All (IsFree setup.now.shared.now) seats.items }
+    requires workers { AreWorkers setup.now.shared.now seats }
     ensures all { IfOk result (λ r. vec_len r.bands ≡ vec_len bands) }
     ensures show { let picture = picture_at E.meaning setup.now frame in
         IfOk result (λ r. ShowEach picture bands.items r.bands.items) }
@@ -187,10 +175,8 @@ fn draw_batch<R: Threads + Wait + Clock + Sync, E: Catalogue + Send + Sync + Dro
         IfOk result (λ r. CountsTiles nodes setup.now.shared.now.grid ends r.count) }
     ensures rises { IfOk result (λ r.
         weigh seat_weight r.seats.items ≡ plus (weigh seat_weight seats.items) (count_weight r.count)) }
-    ensures seats { IfOk result (λ r.
-        (vec_len r.seats ≡ vec_len seats) × All (IsFree setup.now.shared.now) r.seats.items) }
-    ensures back { IfErr result (λ r.
-        (vec_len r.0 ≡ vec_len seats) × All (IsFree setup.now.shared.now) r.0.items) }
+    ensures seats { IfOk result (λ r. ComeBack setup.now.shared.now seats r.seats) }
+    ensures back { IfErr result (λ r. ComeBack setup.now.shared.now seats r.0) }
 {
     let all = find_all(rt, alloc, pace, setup, frame, tiles, seats)?;
     let Found {
@@ -230,12 +216,8 @@ fn find_all<R: Threads + Wait + Clock + Sync, E: Catalogue + Send + Sync + Drop,
     tiles: &[Rect],
     seats: Vec<TileSeat<E>>,
 ) -> Result<Found<E>, (Vec<TileSeat<E>>, Memory)>
-    requires setup { IsSetup E.meaning E.number_of setup.now }
-    requires reached { Has setup.now.regions.now setup.now.scene.now.graph.output frame }
-    requires tiles { All (IsWindowTile setup.now.scene.now.graph.project) tiles.now }
-    requires few { length tiles.now ≤ 2 ^ 32 }
-    requires workers { (1 ≤ vec_len seats) × (vec_len seats ≤ 64) }
-    requires seats { All (IsFree setup.now.shared.now) seats.items }
+    requires tiles { AreTilesAt E.meaning E.number_of setup.now frame tiles.now }
+    requires workers { AreWorkers setup.now.shared.now seats }
     ensures tiles { IfOk result (λ r. rects_of r.tiles.items ≡ tiles.now) }
     ensures found { IfOk result (λ r. All (λ f. IsFoundTile E.meaning setup.now frame f.1) r.tiles.items) }
     ensures count { let nodes = scene_nodes E.meaning setup.now.scene.now in
@@ -243,10 +225,8 @@ fn find_all<R: Threads + Wait + Clock + Sync, E: Catalogue + Send + Sync + Drop,
         IfOk result (λ r. CountsTiles nodes setup.now.shared.now.grid ends r.count) }
     ensures rises { IfOk result (λ r.
         weigh seat_weight r.seats.items ≡ plus (weigh seat_weight seats.items) (count_weight r.count)) }
-    ensures seats { IfOk result (λ r.
-        (vec_len r.seats ≡ vec_len seats) × All (IsFree setup.now.shared.now) r.seats.items) }
-    ensures back { IfErr result (λ r.
-        (vec_len r.0 ≡ vec_len seats) × All (IsFree setup.now.shared.now) r.0.items) }
+    ensures seats { IfOk result (λ r. ComeBack setup.now.shared.now seats r.seats) }
+    ensures back { IfErr result (λ r. ComeBack setup.now.shared.now seats r.0) }
 {
     let job = TileJob {
         setup,
@@ -290,15 +270,12 @@ fn write_all<R: Threads + Wait + Clock + Sync, E: Catalogue + Send + Sync + Drop
     requires bands { let graph = job.now.setup.now.scene.now.graph in
         AreBandsOf graph job.now.columns (rects_of job.now.found.now) bands.items }
     requires few { vec_len bands ≤ 2 ^ 32 }
-    requires workers { (1 ≤ vec_len seats) × (vec_len seats ≤ 64) }
-    requires seats { All (IsFree job.now.setup.now.shared.now) seats.items }
+    requires workers { AreWorkers job.now.setup.now.shared.now seats }
     ensures all { IfOk result (λ r. vec_len r.0 ≡ vec_len bands) }
     ensures show { IfOk result (λ r. ShowEach (job_picture E.meaning job.now) bands.items r.0.items) }
     ensures rises { IfOk result (λ r. weigh seat_weight r.1.items ≡ weigh seat_weight seats.items) }
-    ensures seats { IfOk result (λ r.
-        (vec_len r.1 ≡ vec_len seats) × All (IsFree job.now.setup.now.shared.now) r.1.items) }
-    ensures back { IfErr result (λ r.
-        (vec_len r.0 ≡ vec_len seats) × All (IsFree job.now.setup.now.shared.now) r.0.items) }
+    ensures seats { IfOk result (λ r. ComeBack job.now.setup.now.shared.now seats r.1) }
+    ensures back { IfErr result (λ r. ComeBack job.now.setup.now.shared.now seats r.0) }
 {
     let WorkedItems {
         seats,

@@ -14,7 +14,6 @@ use crate::count::{RenderCount, TileCount};
 use crate::setup::Setup;
 use crate::share::TileSeat;
 use crate::tile::tile_for;
-use fx_actions::Asking;
 use fx_base::{Memory, Rect};
 use fx_effect::Catalogue;
 use fx_image::Image;
@@ -55,25 +54,23 @@ pub(crate) fn found_tile<R: Wait + Clock, E: Catalogue + Drop>(
         IfOk result (λ found. CountsRises r (made_of seat.old) (made_of seat.new) found.count) }
     ensures seat { KeepsSeat seat.old seat.new }
 {
-    let mut asking = Asking::new(alloc)?;
     let output = setup.graph.output;
     let end = follow_by(
         alloc,
-        &mut asking,
+        &mut seat.asking,
         setup.scene,
         setup.regions,
         output,
         frame,
         tile,
     )?;
-    at_end(rt, alloc, &mut asking, setup, seat, frame, tile, end)
+    at_end(rt, alloc, setup, seat, frame, tile, end)
 }
 
 // A tile that is found at this end.
 fn at_end<R: Wait + Clock, E: Catalogue + Drop>(
     rt: &R,
     alloc: Global,
-    asking: &mut Asking,
     setup: &Setup<'_, E>,
     seat: &mut TileSeat<E>,
     frame: i64,
@@ -96,7 +93,7 @@ fn at_end<R: Wait + Clock, E: Catalogue + Drop>(
 {
     let mut sum = RenderCount { landed: 0, hits: 0 };
     let next = setup.graph.output + 1;
-    let image = tile_for(rt, alloc, asking, setup, seat, &mut sum, next, &end)?;
+    let image = tile_for(rt, alloc, setup, seat, &mut sum, next, &end)?;
     let count = count_of(&end, sum);
     let need = Need {
         clip: 0,

@@ -1,5 +1,5 @@
 //! The picture of a frame, by workers, who draw its bands batch by batch.
-ghost use Rattle.std.specs.Prelude.{◌≡◌, ◌+◌, ◌≤◌, ◌≤ℤ◌, pos, neg_ℤ, All, IfErr, IfOk, length, vec_len};
+ghost use Rattle.std.specs.Prelude.{◌≡◌, ◌+◌, ◌≤◌, ◌≤ℤ◌, pos, neg_ℤ, IfErr, IfOk, length};
 ghost use Rattle.fx_base.specs.declared.limits.TheConstants.{LAST_FRAME};
 ghost use Rattle.fx_image.specs.Image.{SameImage};
 ghost use Rattle.fx_image.specs.Stored.{image_of};
@@ -9,7 +9,7 @@ ghost use Rattle.fx_region.specs.Counts.{window_ends};
 ghost use Rattle.fx_scene.specs.Right.{HasWanted};
 ghost use Rattle.fx_scene.specs.Sites.{scene_nodes};
 ghost use Rattle.fx_scene.specs.Scenes.{images_in, picture};
-ghost use Rattle.fx_tile.specs.Moments.{CountsTiles, IsFree, count_weight, seat_weight};
+ghost use Rattle.fx_tile.specs.Moments.{AreWorkers, ComeBack, CountsTiles, count_weight, seat_weight};
 
 use crate::batch::{Drawn, batch_of, draw_bands};
 use crate::count::TileCount;
@@ -35,9 +35,10 @@ pub struct Rendered<E: Catalogue> {
     pub seats: Vec<TileSeat<E>>,
 }
 
-/// Renders the picture of a frame, by one worker for each seat. First they find its window tiles, which are those of the
-/// grid cut to the project's extent: each of these, as `window_tile` does, in one draw. Then they write its bands, which
-/// are the rows of the grid cut so: each band in one draw, with the rows of its tiles. There are 1 to 64 seats, each
+/// Renders the picture of a frame, by one worker for each seat. Its bands, which are the rows of the grid cut to the
+/// project's extent, are drawn in batches: as many at once as have at most 16 MB, and one at least. The workers first
+/// find the window tiles of a batch, which are those of the grid cut so: each of these, as `window_tile` does, in one
+/// draw. Then they write its bands: each band in one draw, with the rows of its tiles. There are 1 to 64 seats, each
 /// with one part of each directory and of the gates, no flight and no gate; they come back so, as many, at `Memory` too,
 /// once all workers have ended. The scene holds what the frame wants, the life is that of its graph, the name of both
 /// directories is that of the scene, and there are gates for 64 plug-ins and each node. Each worker calls
@@ -58,8 +59,7 @@ pub fn render_moment<R: Threads + Wait + Clock + Sync, E: Catalogue + Send + Syn
     requires name { shared.now.directory.name.scene.value ≡ scene.now }
     requires whole_name { shared.now.wholes.name.scene.value ≡ scene.now }
     requires gates { 64 + length scene.now.graph.nodes ≤ shared.now.gates.gates }
-    requires workers { (1 ≤ vec_len seats) × (vec_len seats ≤ 64) }
-    requires seats { All (IsFree shared.now) seats.items }
+    requires workers { AreWorkers shared.now seats }
     requires low { neg_ℤ (pos LAST_FRAME) ≤ℤ frame }
     requires high { frame ≤ℤ pos LAST_FRAME }
     ensures picture { let picture = picture E.meaning scene.now.graph (images_in scene.now.store) frame in
@@ -72,8 +72,8 @@ pub fn render_moment<R: Threads + Wait + Clock + Sync, E: Catalogue + Send + Syn
     // Where nothing may be kept in either directory, nothing is found kept.
     ensures none_kept { shared.now.directory.capacity ≡ 0 → shared.now.wholes.capacity ≡ 0
         → IfOk result (λ r. r.count.hits ≡ 0) }
-    ensures seats { IfOk result (λ r. (vec_len r.seats ≡ vec_len seats) × All (IsFree shared.now) r.seats.items) }
-    ensures back { IfErr result (λ r. (vec_len r.0 ≡ vec_len seats) × All (IsFree shared.now) r.0.items) }
+    ensures seats { IfOk result (λ r. ComeBack shared.now seats r.seats) }
+    ensures back { IfErr result (λ r. ComeBack shared.now seats r.0) }
 {
     let ground = match ground_of(alloc, scene, shared.grid, frame) {
         Ok(ground) => ground,

@@ -11,6 +11,7 @@ ghost use Rattle.fx_tile.specs.Seats.{AreAll, IsLeft, both_totals};
 
 use crate::count::both_totals;
 use crate::name::SceneName;
+use fx_actions::Asking;
 use fx_base::{Grid, Memory};
 use fx_core::{Permit, Totals};
 use fx_directory::{DirSeat, Directory};
@@ -33,12 +34,14 @@ pub struct Shared<E: Catalogue> {
     pub grid: Grid,
 }
 
-/// What one who renders tiles has for himself: a seat of each directory, and one of the gates.
+/// What one who renders tiles has for himself: a seat of each directory, one of the gates, and the arguments by which
+/// he asks effects, of which each ask writes only what differs from the one before.
 #[derive(Drop)]
 pub struct TileSeat<E: Catalogue> {
     pub directory: DirSeat<SceneName<E>, Key, Image>,
     pub wholes: DirSeat<SceneName<E>, Key, Image>,
     pub gates: GateSeat,
+    pub asking: Asking,
 }
 
 impl<E: Catalogue + Drop> Shared<E> {
@@ -62,6 +65,7 @@ impl<E: Catalogue + Drop> Shared<E> {
         ensures first { IfOk result (λ r. AreAll r.0 r.1 []) }
         ensures made { IfOk result (λ r. made_of r.1 ≡ nothing_made) }
     {
+        let asking = Asking::new(alloc)?;
         let count = 64 + scene.graph().nodes.len() as u32;
         let (gates, gate_seat) = Gates::new(alloc, count)?;
         let same = Permit::new(permit.scene);
@@ -77,6 +81,7 @@ impl<E: Catalogue + Drop> Shared<E> {
             directory: tiles,
             wholes: images,
             gates: gate_seat,
+            asking,
         };
         Ok((shared, seat))
     }
@@ -248,6 +253,7 @@ impl<E: Catalogue + Drop> Shared<E> {
         ensures made { made_of first.new ≡ made_of first.old }
         ensures err { OnErr result (IsIdle self.now first.old.directory.parts first.new) }
     {
+        let asking = Asking::new(alloc)?;
         let directory = self.directory.split(alloc, &mut first.directory)?;
         let Ok(wholes) = self.wholes.split(alloc, &mut first.wholes) else {
             self.directory.join(&mut first.directory, directory);
@@ -264,6 +270,7 @@ impl<E: Catalogue + Drop> Shared<E> {
             directory,
             wholes,
             gates,
+            asking,
         })
     }
 
@@ -278,6 +285,7 @@ impl<E: Catalogue + Drop> Shared<E> {
             directory,
             wholes,
             gates,
+            asking: _,
         } = seat;
         self.directory.join(&mut first.directory, directory);
         self.wholes.join(&mut first.wholes, wholes);

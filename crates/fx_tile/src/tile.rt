@@ -34,7 +34,6 @@ use std::sync::{Arc, Wait};
 pub(crate) fn fetch<R: Wait + Clock, E: Catalogue + Drop>(
     rt: &R,
     alloc: Global,
-    asking: &mut Asking,
     setup: &Setup<'_, E>,
     seat: &mut TileSeat<E>,
     sum: &mut RenderCount,
@@ -57,9 +56,7 @@ pub(crate) fn fetch<R: Wait + Clock, E: Catalogue + Drop>(
     let mut pause = Pause::new();
     for _ in rt.forever() {
         let key = Arc::try_clone(&key)?;
-        match fetch_unless_busy(
-            rt, alloc, asking, setup, seat, sum, node, frame, region, key,
-        )? {
+        match fetch_unless_busy(rt, alloc, setup, seat, sum, node, frame, region, key)? {
             Some(image) => return Ok(image),
             None => pause.wait(rt),
         }
@@ -72,7 +69,6 @@ pub(crate) fn fetch<R: Wait + Clock, E: Catalogue + Drop>(
 fn fetch_unless_busy<R: Wait + Clock, E: Catalogue + Drop>(
     rt: &R,
     alloc: Global,
-    asking: &mut Asking,
     setup: &Setup<'_, E>,
     seat: &mut TileSeat<E>,
     sum: &mut RenderCount,
@@ -102,7 +98,7 @@ fn fetch_unless_busy<R: Wait + Clock, E: Catalogue + Drop>(
         Answer::Busy => Ok(None),
         Answer::Fly(flight) => {
             let image = made(
-                rt, alloc, asking, setup, seat, sum, whole, node, frame, region, flight,
+                rt, alloc, setup, seat, sum, whole, node, frame, region, flight,
             )?;
             Ok(Some(image))
         }
@@ -114,7 +110,6 @@ fn fetch_unless_busy<R: Wait + Clock, E: Catalogue + Drop>(
 fn made<R: Wait + Clock, E: Catalogue + Drop>(
     rt: &R,
     alloc: Global,
-    asking: &mut Asking,
     setup: &Setup<'_, E>,
     seat: &mut TileSeat<E>,
     sum: &mut RenderCount,
@@ -141,7 +136,6 @@ fn made<R: Wait + Clock, E: Catalogue + Drop>(
     match image_of(
         rt,
         alloc,
-        asking,
         setup,
         seat,
         sum,
@@ -202,7 +196,6 @@ fn landed<R: Wait + Clock, E: Catalogue + Drop>(
 fn image_of<R: Wait + Clock, E: Catalogue + Drop>(
     rt: &R,
     alloc: Global,
-    asking: &mut Asking,
     setup: &Setup<'_, E>,
     seat: &mut TileSeat<E>,
     sum: &mut RenderCount,
@@ -224,8 +217,8 @@ fn image_of<R: Wait + Clock, E: Catalogue + Drop>(
     ensures number { ticket.new.number ≡ ticket.old.number }
     ensures stamped { OnOk result (IsTrue ticket.new.stamped) }
 {
-    let needs = needs_of(alloc, asking, setup, node, frame, region)?;
-    let tiles = gathered(rt, alloc, asking, setup, seat, sum, node, needs.as_slice())?;
+    let needs = needs_of(alloc, &mut seat.asking, setup, node, frame, region)?;
+    let tiles = gathered(rt, alloc, setup, seat, sum, node, needs.as_slice())?;
     rendered(
         rt,
         alloc,
@@ -284,7 +277,6 @@ fn with_side(grid: Grid) -> Grid
 fn gathered<R: Wait + Clock, E: Catalogue + Drop>(
     rt: &R,
     alloc: Global,
-    asking: &mut Asking,
     setup: &Setup<'_, E>,
     seat: &mut TileSeat<E>,
     sum: &mut RenderCount,
@@ -302,12 +294,12 @@ fn gathered<R: Wait + Clock, E: Catalogue + Drop>(
     ensures follows { OnOk result
         (Follows sum.old sum.new (made_of seat.old) (made_of seat.new)) }
 {
-    let mut early = gathered_unless_busy(rt, alloc, asking, setup, seat, sum, node, needs)?;
+    let mut early = gathered_unless_busy(rt, alloc, setup, seat, sum, node, needs)?;
     let mut tiles = Vec::new(alloc);
     for i in 0..needs.len() {
         let tile = match early[i].take() {
             Some(tile) => Some(tile),
-            None => tile_for(rt, alloc, asking, setup, seat, sum, node, &needs[i].end)?,
+            None => tile_for(rt, alloc, setup, seat, sum, node, &needs[i].end)?,
         };
         tiles.push(tile)?;
     }
@@ -319,7 +311,6 @@ fn gathered<R: Wait + Clock, E: Catalogue + Drop>(
 fn gathered_unless_busy<R: Wait + Clock, E: Catalogue + Drop>(
     rt: &R,
     alloc: Global,
-    asking: &mut Asking,
     setup: &Setup<'_, E>,
     seat: &mut TileSeat<E>,
     sum: &mut RenderCount,
@@ -339,7 +330,7 @@ fn gathered_unless_busy<R: Wait + Clock, E: Catalogue + Drop>(
 {
     let mut tiles = Vec::new(alloc);
     for need in needs {
-        let tile = tile_unless_busy(rt, alloc, asking, setup, seat, sum, node, &need.end)?;
+        let tile = tile_unless_busy(rt, alloc, setup, seat, sum, node, &need.end)?;
         tiles.push(tile)?;
     }
     Ok(tiles)
@@ -350,7 +341,6 @@ fn gathered_unless_busy<R: Wait + Clock, E: Catalogue + Drop>(
 fn tile_unless_busy<R: Wait + Clock, E: Catalogue + Drop>(
     rt: &R,
     alloc: Global,
-    asking: &mut Asking,
     setup: &Setup<'_, E>,
     seat: &mut TileSeat<E>,
     sum: &mut RenderCount,
@@ -378,9 +368,7 @@ fn tile_unless_busy<R: Wait + Clock, E: Catalogue + Drop>(
             through: _,
         } => {
             let key = setup.scene.key(alloc, *m, *frame, *region)?;
-            fetch_unless_busy(
-                rt, alloc, asking, setup, seat, sum, *m, *frame, *region, key,
-            )
+            fetch_unless_busy(rt, alloc, setup, seat, sum, *m, *frame, *region, key)
         }
     }
 }
@@ -390,7 +378,6 @@ fn tile_unless_busy<R: Wait + Clock, E: Catalogue + Drop>(
 pub(crate) fn tile_for<R: Wait + Clock, E: Catalogue + Drop>(
     rt: &R,
     alloc: Global,
-    asking: &mut Asking,
     setup: &Setup<'_, E>,
     seat: &mut TileSeat<E>,
     sum: &mut RenderCount,
@@ -415,7 +402,7 @@ pub(crate) fn tile_for<R: Wait + Clock, E: Catalogue + Drop>(
             region,
             cut: _,
             through: _,
-        } => match fetch(rt, alloc, asking, setup, seat, sum, *m, *frame, *region) {
+        } => match fetch(rt, alloc, setup, seat, sum, *m, *frame, *region) {
             Ok(tile) => Ok(Some(tile)),
             Err(memory) => Err(memory),
         },

@@ -1,9 +1,10 @@
-use Rattle.std.proofs.Common.{◌≡◌, ◌∙◌, All, length, ap, sym, subst, arith, rules, vec_len, w64}
+use Rattle.std.proofs.Common.{◌≡◌, ℤ, ◌∙◌, All, length, ap, sym, subst, arith, rules, vec_len, w64}
 use Rattle.std.proofs.lemmas.Int.{to_z-of_z}
 use mir.Val.{SFits}
 use Rattle.fx_pool.specs.Weights.{weigh}
+use Rattle.fx_region.specs.Tables.{Has}
 use Rattle.fx_tile.specs.Moments.{IsFree, IsWindowTile, seat_weight}
-use Rattle.fx_tile.proofs.BatchLemmas.{all_behind, drawn_counts, drawn_more, left_is, next_bands, next_is, rises_more, room}
+use Rattle.fx_tile.proofs.BatchLemmas.{all_behind, drawn_counts, drawn_more, few_behind, left_is, next_bands, next_is, rises_more, room}
 use Rattle.fx_tile.proofs.batch.draw_bands.Goals as goal
 
 pub tiles_behind-own-requires : goal.tiles_behind-own-requires
@@ -18,8 +19,16 @@ tiles_behind-own-requires g c =
 
 pub draw_batch-requires-clause-tiles : goal.draw_batch-requires-clause-tiles
 draw_batch-requires-clause-tiles g c = λ κs within.
-    all_behind (IsWindowTile c.args.setup.now.scene.now.graph.project) c.args.tiles.now c.tiles_behind-own.result.now _ _ c.tiles_behind-own.ensures
-    c.requires.tiles
+    let fits : SFits w64 c.args.frame = c.ranges.frame in
+    let setup = c.args.setup.now in
+    let all = c.requires.tiles in
+    let own = c.tiles_behind-own in
+    record {
+      setup_is = all.setup_is;
+      reached = subst (λ (t : ℤ). Has setup.regions.now setup.scene.now.graph.output t) (sym (to_z-of_z w64 _ fits)) all.reached;
+      each = all_behind (IsWindowTile setup.scene.now.graph.project) c.args.tiles.now own.result.now _ _ own.ensures all.each;
+      few = few_behind c.args.tiles.now own.result.now _ _ _ own.ensures all.few;
+    }
 
 pub draw_batch-requires-clause-bands : goal.draw_batch-requires-clause-bands
 draw_batch-requires-clause-bands g c = λ κs within.

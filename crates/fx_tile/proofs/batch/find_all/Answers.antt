@@ -17,10 +17,10 @@ work-requires-clause-takes g c = λ κs within k low.
     let fits : SFits w64 c.args.frame = c.ranges.frame in
     let setup = c.args.setup.now in
     record {
-      setup = c.requires.setup;
-      reached = subst (λ (t : ℤ). Has setup.regions.now setup.scene.now.graph.output t) (sym (to_z-of_z w64 _ fits)) c.requires.reached;
+      setup = c.requires.tiles.setup_is;
+      reached = subst (λ (t : ℤ). Has setup.regions.now setup.scene.now.graph.output t) (sym (to_z-of_z w64 _ fits)) c.requires.tiles.reached;
       below = low;
-      tile = c.requires.tiles k none low;
+      tile = c.requires.tiles.each k none low;
     }
 
 pub returns-in-Some-clause-tiles : goal.returns-in-Some-clause-tiles

@@ -1,4 +1,4 @@
-use Rattle.std.proofs.Common.{◌∙◌, ℤ, List, All, arith, length, map, sym, subst, w64, to_z, of_z}
+use Rattle.std.proofs.Common.{◌∙◌, ℤ, List, All, arith, length, map, sym, subst, rules, w64, to_z, of_z}
 use Rattle.std.proofs.lemmas.Int.{to_z-of_z}
 use mir.Val.{SFits}
 use Rattle.fx_base.specs.Bounds.{Bounds}
@@ -23,25 +23,30 @@ of-setup-requires-clause-regions g c =
       holds = subst (λ (t : ℤ). HoldsAt g.E.ImageEffect.meaning c.args.scene.now t) (sym (to_z-of_z w64 _ fits)) c.requires.holds;
     }
 
-pub draw_bands-requires-clause-reached : goal.draw_bands-requires-clause-reached
-draw_bands-requires-clause-reached g c κs within =
+pub draw_bands-requires-clause-tiles : goal.draw_bands-requires-clause-tiles
+draw_bands-requires-clause-tiles g c κs within =
     let t = to_z w64 (of_z w64 c.args.frame) in
     let scene = c.args.scene.now in
     let setup = c.of-setup.result in
     let regions = c.in-Ok.ground.regions in
-    let has = has_output (scene_nodes g.E.ImageEffect.meaning scene) (length scene.graph.nodes) scene.graph.output regions t c.in-Ok.ensures.regions in
-    subst (λ (r : Regions). Has r setup.scene.now.graph.output t) (sym c.of-setup.ensures.regions)
-    (subst (λ (s : Shot _). Has regions s.graph.output t) (sym c.of-setup.ensures.scene) has)
-
-pub draw_bands-requires-clause-tiles : goal.draw_bands-requires-clause-tiles
-draw_bands-requires-clause-tiles g c κs within =
     let tiles = c.deref.result.now in
-    subst (λ (s : Shot _). All (IsWindowTile s.graph.project) tiles) (sym c.of-setup.ensures.scene)
-    (subst (λ (ts : List Bounds). All (IsWindowTile c.args.scene.now.graph.project) ts) (sym c.deref.ensures.value) c.in-Ok.ensures.each)
+    let has = has_output (scene_nodes g.E.ImageEffect.meaning scene) (length scene.graph.nodes) scene.graph.output regions t c.in-Ok.ensures.regions in
+    record {
+      setup_is = search rules;
+      reached =
+          subst (λ (r : Regions). Has r setup.scene.now.graph.output t) (sym c.of-setup.ensures.regions)
+          (subst (λ (s : Shot _). Has regions s.graph.output t) (sym c.of-setup.ensures.scene) has);
+      each =
+          subst (λ (s : Shot _). All (IsWindowTile s.graph.project) tiles) (sym c.of-setup.ensures.scene)
+          (subst (λ (ts : List Bounds). All (IsWindowTile c.args.scene.now.graph.project) ts) (sym c.deref.ensures.value) c.in-Ok.ensures.each);
+      few = search rules;
+    }
 
-pub draw_bands-requires-clause-seats : goal.draw_bands-requires-clause-seats
-draw_bands-requires-clause-seats g c κs within =
-    subst (λ (s : Shared _). All (IsFree s) c.args.seats.items) (sym c.of-setup.ensures.shared) c.requires.seats
+pub draw_bands-requires-clause-workers : goal.draw_bands-requires-clause-workers
+draw_bands-requires-clause-workers g c κs within = (
+  c.requires.workers.0,
+  subst (λ (s : Shared _). All (IsFree s) c.args.seats.items) (sym c.of-setup.ensures.shared) c.requires.workers.1,
+)
 
 pub draw_bands-requires-clause-bands : goal.draw_bands-requires-clause-bands
 draw_bands-requires-clause-bands g c κs within =
@@ -101,7 +106,7 @@ pub returns-in-Ok-of_bands-clause-none_kept : goal.returns-in-Ok-of_bands-clause
 returns-in-Ok-of_bands-clause-none_kept g c =
     let drawn = c.in_ok-bands.field-0 in
     let after = subst (λ (s : Shared _). All (IsFree s) drawn.seats.items) c.of-setup.ensures.shared c.in_ok-bands.ensures.seats.1 in
-    nothing_kept c.args.shared.now c.args.seats.items drawn.seats.items drawn.count c.requires.seats after c.in_ok-bands.ensures.rises
+    nothing_kept c.args.shared.now c.args.seats.items drawn.seats.items drawn.count c.requires.workers.1 after c.in_ok-bands.ensures.rises
 
 pub returns-in-Ok-of_bands-clause-seats : goal.returns-in-Ok-of_bands-clause-seats
 returns-in-Ok-of_bands-clause-seats g c = (
