@@ -1,2 +1,3 @@
 mod SmallWindows
 mod Renders
+mod Uses

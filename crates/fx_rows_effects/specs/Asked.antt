@@ -1,7 +1,6 @@
 -- How the rows of the effects ask.
-use Rattle.std.specs.Prelude.{◌≢◌, ℤ, Bool, List, pos, negsuc, ◌≤ℤ◌}
+use Rattle.std.specs.Prelude.{◌≢◌, ℤ, Bool, true, false, pos, negsuc, ◌≤ℤ◌}
 use Rattle.fx_base.specs.Bounds.{Bounds, none}
-use Rattle.fx_effect.specs.declared.values.Values.{Values}
 use Rattle.fx_effect.specs.Asked.{IsWindow}
 
 -- a window that isn't empty and lies within 64 pixels of the origin
@@ -13,7 +12,7 @@ pub record IsSmallWindow (r : Bounds) : Type 0 where
   pub right : r.x2 ≤ℤ pos 64
   pub top : r.y2 ≤ℤ pos 64
 
--- the values of an instance at frame 7
-abbrev pub values_at_7 : List ℤ → List Bool → Bounds → Values
-values_at_7 numbers connected project =
-    record { frame = pos 7; numbers = numbers; connected = connected; project = project }
+-- where the source of a clip has pixels: in columns 0 to 3 of row 0
+abbrev pub source_region : Bool → Bounds
+source_region true = record { x1 = pos 0; y1 = pos 0; x2 = pos 4; y2 = pos 1 }
+source_region false = none

@@ -1,24 +1,14 @@
 //! What graph files that are accepted over the effects of the program become: the form of each node, and what it holds.
 //! Which are accepted, and what is told of the others, is said by cases of fx_cases.
+use crate::graphs::{file_of, graph_of};
 use crate::same::same;
 use fx_effect::Context;
-use fx_graph::{Graph, Node, Work, accept};
+use fx_graph::{Graph, Node, Work};
 use fx_pixel::{Components, Depth};
 use fx_shipped::Shipped;
-use fx_text::{GraphFault, read_graph};
 use std::alloc::{AllocError, Global};
 
-// A graph file of these nodes, whose output is the node z.
-fn file_of(alloc: Global, file: &str, nodes: &str) -> Result<String, AllocError> {
-    format!(in alloc;
-        r#"{{"ofxr":1,"project":{{"width":4,"height":2,"depth":"byte","components":"RGBA"}},"output":{{"node":"z","file":"{file}","format":"RGB"}},"range":{{"first":0,"last":9}},"nodes":[{nodes}]}}"#
-    )
-}
-
-fn graph_of(alloc: Global, text: &str) -> Result<Graph<Shipped>, GraphFault> {
-    let raw = read_graph(alloc, text.as_bytes(), 256, 4096)?;
-    accept(alloc, raw)
-}
+const PROJECT: &str = r#"{"width":4,"height":2,"depth":"byte","components":"RGBA"}"#;
 
 // Sources of each form, and effects over them in a project of bytes and RGBA.
 const FORMED: &str =
@@ -47,7 +37,7 @@ const FORMS: &[(&str, Depth, Components)] = &[
 #[test]
 fn forms_are_negotiated(rt: HostRuntime) {
     let alloc = rt.alloc();
-    let text = file_of(alloc, "o#.pam", FORMED).expect(&rt, "no text");
+    let text = file_of(alloc, PROJECT, "o#.pam", FORMED).expect(&rt, "no text");
     let graph = graph_of(alloc, text.as_str()).ok().expect(&rt, "refused");
     same(&rt, graph.nodes.len(), FORMS.len());
     for (at, (name, depth, components)) in FORMS.iter().enumerate() {
@@ -107,7 +97,7 @@ const NUMBERS: &[i64] = &[2, 1, 1, 0, 16_384, 0, 65_536];
 #[test]
 fn a_graph_is_made(rt: HostRuntime) {
     let alloc = rt.alloc();
-    let text = file_of(alloc, "o.##.pam", MADE).expect(&rt, "no text");
+    let text = file_of(alloc, PROJECT, "o.##.pam", MADE).expect(&rt, "no text");
     let graph = graph_of(alloc, text.as_str()).ok().expect(&rt, "refused");
     same(&rt, (graph.output, graph.first, graph.last), (1, 0, 9));
     let name = graph.file.name(alloc, 8).expect(&rt, "no name");

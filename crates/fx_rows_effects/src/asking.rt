@@ -1,33 +1,34 @@
 //! One effect through all its actions: what it describes, what it answers, and what it renders.
-ghost use Rattle.std.specs.Prelude.{◌≡◌, ◌≢◌, ◌<◌, [], ◌∷◌, ◌++◌, IsTrue, IfOk, IfSome, Some, length, slice_get};
+ghost use Rattle.std.specs.Prelude.{◌≡◌, ◌≢◌, ◌<◌, IfOk, IfSome, Some, is_some, map, length, slice_get};
 ghost use Rattle.std.specs.List.{Contains};
 ghost use Rattle.fx_base.specs.Bounds.{none};
 ghost use Rattle.fx_base.specs.Rect.{IsFrame};
 ghost use Rattle.fx_image.specs.Part.{IsPart, SamePart};
 ghost use Rattle.fx_pixel.specs.Pixel.{IsOfDepth, components_of};
-ghost use Rattle.fx_pixel.specs.declared.Depth.TheVariants.{Byte, Short};
-ghost use Rattle.fx_pixel.specs.declared.Components.TheVariants.{Rgba};
-ghost use Rattle.fx_effect.specs.Shape.{IsLawfulIn, clip_names, optional_flags, shown_components, supports};
-ghost use Rattle.fx_effect.specs.Asked.{AreRegions, IsWindow};
+ghost use Rattle.fx_effect.specs.Asked.{IsWindow};
 ghost use Rattle.fx_life.specs.Plugin.{MayRenderIn, Rendering};
-ghost use Rattle.fx_props.specs.Entries.{texts_of};
+ghost use Rattle.fx_scene.specs.Scenes.{graph_shown};
+ghost use Rattle.fx_scene.specs.Sites.{StandsIn};
 ghost use Rattle.fx_shipped.specs.Shipped.{meaning_of};
-ghost use Rattle.fx_rows_effects.specs.Asked.{IsSmallWindow, values_at_7};
+ghost use Rattle.fx_rows_effects.specs.Asked.{IsSmallWindow, source_region};
 
+use crate::graphs::{file_of, graph_of};
 use crate::same::{same, same_at};
 use fx_actions::{frames_needed, identity, region_of_definition, regions_of_interest};
-use fx_base::{Memory, Name, Names, Rect};
+use fx_base::{Memory, Rect};
 use fx_core::Ticket;
 use fx_effect::{
-    Context, Flags, Identity, ImageEffect, Inputs, Numbers, Piece, Steps, Values, descriptor,
-    window_args,
+    Context, Identity, ImageEffect, Inputs, Piece, Steps, Values, descriptor, window_args,
 };
 use fx_gate::Gates;
+use fx_graph::Graph;
 use fx_image::{Image, Part};
 use fx_life::{Running, Use};
 use fx_params::{ParamDef, ParamKind};
 use fx_pixel::{Components, Depth, Pixel};
 use fx_props::PropSet;
+use fx_scene::site::{EffectNode, NodeAt, node_at, seen_components};
+use fx_scene::use_values;
 use fx_shipped::Shipped;
 use std::alloc::Global;
 use std::process::Abort;
@@ -37,9 +38,28 @@ use std::sync::{Arc, Wait};
 /// The bounds of a rectangle: left, bottom, right and top.
 pub type Bounds = (i64, i64, i64, i64);
 
-/// An effect's row: what it describes, how it is asked, what it answers, and the pixels of the window.
+/// A parameter: its name, kind, least and greatest number, the one that it starts with, and its choices.
+pub type Parameter = (
+    &'static str,
+    ParamKind,
+    i64,
+    i64,
+    i64,
+    &'static [&'static str],
+);
+
+/// A frame of an input clip: the clip, the frame, and its pixels.
+pub type Frame = (u32, i64, Picture);
+
+/// The samples of pixels, as r, g, b and a.
+pub type Pixels = &'static [[u16; 4]];
+
+/// An effect's row: its use by a node of a graph file whose project has a width, what it describes, what it answers at
+/// frame 7, and the pixels of the window at each depth at which it is rendered.
 #[derive(Clone, Copy)]
-pub struct Row<'a> {
+pub struct Row {
+    pub used: &'static str,
+    pub width: u32,
     pub label: &'static str,
     pub contexts: &'static [&'static str],
     pub depths: &'static [&'static str],
@@ -47,15 +67,15 @@ pub struct Row<'a> {
     pub tiles: i64,
     pub safety: &'static str,
     pub clips: &'static [Clip],
-    pub params: &'a [Parameter],
-    pub window: Rect,
-    pub region: Rect,
+    pub params: &'static [Parameter],
+    pub window: Window,
+    pub region: Bounds,
     pub interest: &'static [Bounds],
     pub frames: &'static [&'static [(i64, i64)]],
     pub identity: Identity,
     pub sources: &'static [Frame],
-    pub bytes: &'static [[u16; 4]],
-    pub shorts: &'static [[u16; 4]],
+    pub bytes: Pixels,
+    pub shorts: Option<Pixels>,
 }
 
 /// An input clip: its name, whether it may be left unconnected, and its components.
@@ -66,15 +86,32 @@ pub struct Clip {
     pub components: &'static [&'static str],
 }
 
-/// A parameter: its name, kind, least and greatest number, the one that it starts with, and its choices.
+/// The window that is asked for: columns 1 to 4 of row 0, or columns 0 and 1.
 #[derive(Clone, Copy)]
-pub struct Parameter {
-    pub name: &'static str,
-    pub kind: ParamKind,
-    pub least: i64,
-    pub greatest: i64,
-    pub start: i64,
-    pub choices: &'static [&'static str],
+pub enum Window {
+    Right,
+    Left,
+}
+
+impl Window {
+    fn rect(self) -> Rect
+        ensures { IsSmallWindow result }
+    {
+        match self {
+            Window::Right => Rect {
+                x1: 1,
+                y1: 0,
+                x2: 5,
+                y2: 1,
+            },
+            Window::Left => Rect {
+                x1: 0,
+                y1: 0,
+                x2: 2,
+                y2: 1,
+            },
+        }
+    }
 }
 
 /// The pixels of columns 0 to 3 of row 0, as r, g, b and a.
@@ -119,100 +156,48 @@ impl Picture {
     }
 }
 
-/// A frame of an input clip.
-#[derive(Clone, Copy)]
-pub struct Frame {
-    pub clip: u32,
-    pub frame: i64,
-    pub picture: Picture,
+/// Takes the effect of each row through all its actions.
+pub fn effect_rows<R: Abort + Wait + Clock + AllocGlobal>(rt: &R, rows: &[Row]) {
+    for row in rows {
+        effect_row(rt, row);
+    }
 }
 
-/// How an effect is asked at frame 7: the clips of its use, whether each may be left unconnected, the components that
-/// each shows, and its values.
-#[derive(Clone, Copy)]
-pub struct Asked<'a> {
-    pub effect: Shipped,
-    pub context: Context,
-    pub clips: &'a [&'a str],
-    pub optional: &'a [bool],
-    pub shown: &'a [Components],
-    pub numbers: &'a [i64],
-    pub connected: &'a [bool],
-    pub project: Rect,
+fn effect_row<R: Abort + Wait + Clock + AllocGlobal>(rt: &R, row: &Row) {
+    let graph = used_in(rt, row, "byte");
+    let node = effect_in(&graph).expect(rt, row.label);
+    answered(rt, &graph, &node, row);
+    renders(rt, &graph, &node, row, row.bytes);
+    if let Some(shorts) = row.shorts {
+        let graph = used_in(rt, row, "short");
+        let node = effect_in(&graph).expect(rt, row.label);
+        renders(rt, &graph, &node, row, shorts);
+    }
 }
 
-/// Takes an effect through all its actions, and renders bytes.
-pub fn byte_row<R: Abort + Wait + Clock + AllocGlobal>(
-    rt: &R,
-    asked: &Asked<'_>,
-    regions: &[Rect],
-    row: &Row<'_>,
-)
-    requires lawful { let a = asked.now in
-        IsLawfulIn (meaning_of a.effect).shape a.context (values_at_7 a.numbers.now a.connected.now a.project) }
-    requires names { let a = asked.now in texts_of a.clips.now ≡ clip_names (meaning_of a.effect).shape a.context }
-    requires optional { let a = asked.now in a.optional.now ≡ optional_flags (meaning_of a.effect).shape a.context }
-    requires shown { let a = asked.now in a.shown.now ≡ shown_components (meaning_of a.effect).shape a.context Rgba }
-    requires regions { let a = asked.now in
-        AreRegions (values_at_7 a.numbers.now a.connected.now a.project) regions.now }
-    requires window { IsSmallWindow row.now.window }
-    requires supported { IsTrue (supports (meaning_of asked.now.effect).shape Byte Rgba) }
+// A graph of this depth with the row's effect, behind a source for each clip that it may have.
+fn used_in(rt: &(impl Abort + AllocGlobal), row: &Row, depth: &str) -> Graph<Shipped> {
+    let alloc = rt.alloc();
+    let width = row.width;
+    let used = row.used;
+    let project = format!(in alloc;
+        r#"{{"width":{width},"height":1,"depth":"{depth}","components":"RGBA"}}"#
+    ).expect(rt, "no project");
+    let nodes = format!(in alloc;
+        r#"{{"name":"s","source":"s#","first":0,"last":9}},{{"name":"t","source":"t#","first":0,"last":9}},{{"name":"m","source":"m#","first":0,"last":9,"components":"Alpha"}},{{"name":"z",{used}}}"#
+    ).expect(rt, "no nodes");
+    let text = file_of(alloc, project.as_str(), "o#.pam", nodes.as_str()).expect(rt, "no text");
+    graph_of(alloc, text.as_str()).ok().expect(rt, row.label)
+}
+
+// The effect that the graph renders.
+fn effect_in(graph: &Graph<Shipped>) -> Option<EffectNode<'_, Shipped>>
+    ensures { IfSome result (StandsIn (graph_shown graph.now)) }
 {
-    let (alloc, effect, context) = (rt.alloc(), asked.effect, asked.context);
-    describes(rt, alloc, effect, row);
-    describes_in(rt, alloc, effect, context, row);
-    let names = names_of(rt, asked.clips);
-    let optional = flags_of(rt, asked.optional);
-    let values = values_of(rt, asked.numbers, asked.connected, asked.project);
-    let found = answers_of(
-        alloc, effect, context, &names, &optional, &values, regions, row.window,
-    );
-    same_answers(rt, &found.expect(rt, "no answers"), row);
-    let image = rendered(
-        rt,
-        alloc,
-        effect,
-        context,
-        asked.shown,
-        &values,
-        row,
-        Depth::Byte,
-    );
-    same_pixels(rt, &image.expect(rt, "no image"), row.bytes);
-}
-
-/// The same, and renders shorts.
-pub fn both_rows<R: Abort + Wait + Clock + AllocGlobal>(
-    rt: &R,
-    asked: &Asked<'_>,
-    regions: &[Rect],
-    row: &Row<'_>,
-)
-    requires lawful { let a = asked.now in
-        IsLawfulIn (meaning_of a.effect).shape a.context (values_at_7 a.numbers.now a.connected.now a.project) }
-    requires names { let a = asked.now in texts_of a.clips.now ≡ clip_names (meaning_of a.effect).shape a.context }
-    requires optional { let a = asked.now in a.optional.now ≡ optional_flags (meaning_of a.effect).shape a.context }
-    requires shown { let a = asked.now in a.shown.now ≡ shown_components (meaning_of a.effect).shape a.context Rgba }
-    requires regions { let a = asked.now in
-        AreRegions (values_at_7 a.numbers.now a.connected.now a.project) regions.now }
-    requires window { IsSmallWindow row.now.window }
-    requires bytes { IsTrue (supports (meaning_of asked.now.effect).shape Byte Rgba) }
-    requires shorts { IsTrue (supports (meaning_of asked.now.effect).shape Short Rgba) }
-{
-    byte_row(rt, asked, regions, row);
-    let values = values_of(rt, asked.numbers, asked.connected, asked.project);
-    let (alloc, effect, context) = (rt.alloc(), asked.effect, asked.context);
-    let image = rendered(
-        rt,
-        alloc,
-        effect,
-        context,
-        asked.shown,
-        &values,
-        row,
-        Depth::Short,
-    );
-    same_pixels(rt, &image.expect(rt, "no image"), row.shorts);
+    match node_at(graph, graph.output) {
+        NodeAt::Source(_) => None,
+        NodeAt::Effect(node) => Some(node),
+    }
 }
 
 fn rect_of(bounds: &Bounds) -> Rect {
@@ -228,7 +213,7 @@ fn described(alloc: Global, effect: Shipped) -> Result<PropSet, Memory> {
     Ok(set)
 }
 
-fn describes(rt: &impl Abort, alloc: Global, effect: Shipped, row: &Row<'_>) {
+fn describes(rt: &impl Abort, alloc: Global, effect: Shipped, row: &Row) {
     let set = described(alloc, effect).expect(rt, "no descriptor");
     same(rt, set.get_text("OfxPropLabel", 0), Ok(row.label));
     texts(
@@ -260,7 +245,7 @@ fn texts(rt: &impl Abort, set: &PropSet, name: &str, wanted: &[&str]) {
     }
 }
 
-fn describes_in(rt: &impl Abort, alloc: Global, effect: Shipped, context: Context, row: &Row<'_>)
+fn describes_in(rt: &impl Abort, alloc: Global, effect: Shipped, context: Context, row: &Row)
     requires { Contains (meaning_of effect).shape.contexts context }
 {
     let mut sets = Vec::new(alloc);
@@ -290,66 +275,18 @@ fn same_clip(rt: &impl Abort, set: &PropSet, clip: &Clip) {
 }
 
 fn same_parameter(rt: &impl Abort, def: &ParamDef, wanted: &Parameter) {
-    same(rt, def.name.text(), wanted.name);
-    same_at(rt, &wanted.name, def.kind, wanted.kind);
+    let (name, kind, least, greatest, start, choices) = *wanted;
+    same(rt, def.name.text(), name);
+    same_at(rt, &name, def.kind, kind);
     let numbers = (def.least, def.greatest, def.start);
-    same_at(
-        rt,
-        &wanted.name,
-        numbers,
-        (wanted.least, wanted.greatest, wanted.start),
-    );
-    same_at(
-        rt,
-        &wanted.name,
-        def.choices.items().len(),
-        wanted.choices.len(),
-    );
-    for (choice, text) in def.choices.items().iter().zip(wanted.choices) {
+    same_at(rt, &name, numbers, (least, greatest, start));
+    same_at(rt, &name, def.choices.items().len(), choices.len());
+    for (choice, text) in def.choices.items().iter().zip(choices) {
         same(rt, choice.text(), *text);
     }
 }
 
 // ---- what it answers
-
-fn named(rt: &(impl Abort + AllocGlobal), text: &str) -> Name
-    ensures { result ≡ text.now }
-{
-    Name::of(String::from_str(rt.alloc(), text).expect(rt, "no name"))
-}
-
-fn names_of(rt: &(impl Abort + AllocGlobal), texts: &[&str]) -> Names
-    ensures { result ≡ texts_of texts.now }
-{
-    let mut names = Vec::new(rt.alloc());
-    for text in texts {
-        names.push(named(rt, text)).expect(rt, "no name");
-    }
-    Names::of(names)
-}
-
-/// The values of an instance at frame 7.
-fn values_of(
-    rt: &(impl Abort + AllocGlobal),
-    numbers: &[i64],
-    connected: &[bool],
-    project: Rect,
-) -> Values
-    ensures { result ≡ values_at_7 numbers.now connected.now project }
-{
-    Values {
-        frame: 7,
-        numbers: Numbers::of(numbers.to_vec(rt.alloc()).expect(rt, "no numbers")),
-        connected: flags_of(rt, connected),
-        project,
-    }
-}
-
-fn flags_of(rt: &(impl Abort + AllocGlobal), flags: &[bool]) -> Flags
-    ensures { result ≡ flags.now }
-{
-    Flags::of(flags.to_vec(rt.alloc()).expect(rt, "no flags"))
-}
 
 // What an effect answers for a window.
 #[derive(Drop)]
@@ -360,34 +297,71 @@ struct Answers {
     identity: Identity,
 }
 
+fn answered(
+    rt: &(impl Abort + AllocGlobal),
+    graph: &Graph<Shipped>,
+    node: &EffectNode<'_, Shipped>,
+    row: &Row,
+)
+    requires { StandsIn (graph_shown graph.now) node.now }
+{
+    let alloc = rt.alloc();
+    describes(rt, alloc, *node.effect, row);
+    describes_in(rt, alloc, *node.effect, node.context, row);
+    let found = answers_of(alloc, graph, node, row.window.rect());
+    same_answers(rt, &found.expect(rt, "no answers"), row);
+}
+
 fn answers_of(
     alloc: Global,
-    effect: Shipped,
-    context: Context,
-    names: &Names,
-    optional: &Flags,
-    values: &Values,
-    regions: &[Rect],
+    graph: &Graph<Shipped>,
+    node: &EffectNode<'_, Shipped>,
     window: Rect,
 ) -> Result<Answers, Memory>
-    requires lawful { IsLawfulIn (meaning_of effect).shape context values.now }
-    requires frame { IsFrame values.now.frame }
-    requires names { names.now ≡ clip_names (meaning_of effect).shape context }
-    requires optional { optional.now ≡ optional_flags (meaning_of effect).shape context }
-    requires regions { AreRegions values.now regions.now }
+    requires there { StandsIn (graph_shown graph.now) node.now }
     requires window { IsWindow window }
 {
-    let args = window_args(alloc, values.frame, window)?;
+    let values = use_values(alloc, graph.project, node.clips, node.params, 7)?;
+    let regions = regions_of(alloc, node.clips)?;
+    let region = region_of_definition(
+        alloc,
+        node.effect,
+        node.context,
+        node.optional,
+        &values,
+        regions.as_slice(),
+    )?;
     Ok(Answers {
-        region: region_of_definition(alloc, &effect, context, optional, values, regions)?,
-        interest: regions_of_interest(alloc, &effect, names, values, window)?,
-        frames: frames_needed(alloc, &effect, names, values)?,
-        identity: identity(&effect, values, &args),
+        region,
+        interest: regions_of_interest(alloc, node.effect, node.names, &values, window)?,
+        frames: frames_needed(alloc, node.effect, node.names, &values)?,
+        identity: identity(node.effect, &values, &window_args(alloc, 7, window)?),
     })
 }
 
-fn same_answers(rt: &impl Abort, found: &Answers, row: &Row<'_>) {
-    same_at(rt, &row.label, found.region, row.region);
+// Where the source of each clip has pixels.
+fn regions_of(alloc: Global, clips: &[Option<u32>]) -> Result<Vec<Rect>, Memory>
+    ensures { IfOk result (λ regions. regions.items ≡ map source_region (map is_some clips.now)) }
+{
+    let mut regions = Vec::new(alloc);
+    for clip in clips {
+        regions.push(source_region(clip.is_some()))?;
+    }
+    Ok(regions)
+}
+
+fn source_region(connected: bool) -> Rect
+    ensures { result ≡ source_region connected }
+{
+    if connected {
+        Rect::of(0, 0, 4, 1)
+    } else {
+        Rect::of(0, 0, 0, 0)
+    }
+}
+
+fn same_answers(rt: &impl Abort, found: &Answers, row: &Row) {
+    same_at(rt, &row.label, found.region, rect_of(&row.region));
     same_at(rt, &row.label, found.interest.len(), row.interest.len());
     for (region, wanted) in found.interest.iter().zip(row.interest) {
         same_at(rt, &row.label, *region, rect_of(wanted));
@@ -401,34 +375,70 @@ fn same_answers(rt: &impl Abort, found: &Answers, row: &Row<'_>) {
 
 // ---- what it renders
 
-// Renders the row's window by the second of two instances, from their loading to their unloading.
+// Renders the row's window, and compares its pixels.
+fn renders<R: Abort + Wait + Clock + AllocGlobal>(
+    rt: &R,
+    graph: &Graph<Shipped>,
+    node: &EffectNode<'_, Shipped>,
+    row: &Row,
+    wanted: Pixels,
+)
+    requires { StandsIn (graph_shown graph.now) node.now }
+{
+    let image = rendered(rt, rt.alloc(), graph, node, row).expect(rt, "no image");
+    same_at(rt, &row.label, image.components(), Components::Rgba);
+    same_pixels(rt, row.label, &image, wanted);
+}
+
+// Renders the row's window.
 fn rendered<R: Abort + Wait + Clock>(
     rt: &R,
     alloc: Global,
-    effect: Shipped,
-    context: Context,
-    shown: &[Components],
-    values: &Values,
-    row: &Row<'_>,
-    depth: Depth,
+    graph: &Graph<Shipped>,
+    node: &EffectNode<'_, Shipped>,
+    row: &Row,
 ) -> Result<Image, Memory>
-    requires lawful { IsLawfulIn (meaning_of effect).shape context values.now }
-    requires frame { IsFrame values.now.frame }
-    requires shown { shown.now ≡ shown_components (meaning_of effect).shape context Rgba }
-    requires supported { IsTrue (supports (meaning_of effect).shape depth Rgba) }
-    requires window { IsSmallWindow row.now.window }
+    requires { StandsIn (graph_shown graph.now) node.now }
 {
-    let inputs = inputs_of(alloc, depth, shown, row.sources)?;
-    let mut image = Image::new(alloc, row.window, depth, Components::Rgba, 1024)?;
+    let values = use_values(alloc, graph.project, node.clips, node.params, 7)?;
+    let shown = seen_components(alloc, node.masks, node.components)?;
+    let inputs = inputs_of(alloc, node.depth, shown.as_slice(), row.sources)?;
+    let window = row.window.rect();
+    let mut image = Image::new(alloc, window, node.depth, node.components, 1024)?;
+    let mut part = image.part(window);
+    let stamped = lived(rt, alloc, node, &values, &inputs, &mut part)?;
+    assert!(rt; stamped, "{}", row.label);
+    Ok(image)
+}
+
+// Renders the part's rectangle by the second of two instances, from their loading to their unloading. Answers whether it
+// was stamped.
+fn lived<R: Wait + Clock>(
+    rt: &R,
+    alloc: Global,
+    node: &EffectNode<'_, Shipped>,
+    values: &Values,
+    inputs: &Inputs<'_>,
+    part: &mut Part<'_>,
+) -> Result<bool, Memory>
+    requires supported { Contains (meaning_of node.now.effect.now).shape.contexts node.now.context }
+    requires part { IsPart part.old }
+    requires window { part.old.rect ≢ none }
+    requires frame { IsFrame values.now.frame }
+    requires may { let image = part.old.image.now in
+        MayRenderIn node.now.context (meaning_of node.now.effect.now).shape values.now inputs.now image.depth
+        image.components }
+    ensures { SamePart part.old part.new }
+{
+    let context = node.context;
     let uses = [Use { node: 3, context }, Use { node: 4, context }];
-    let running = Running::start(alloc, effect, &uses, 0, 9)?;
+    let running = Running::start(alloc, *node.effect, &uses, 0, 9)?;
     let mut ticket = Ticket {
         scene: 1,
         number: 2,
         stamped: false,
     };
-    let mut part = image.part(row.window);
-    let outcome = second_renders(rt, alloc, &running, values, &inputs, &mut ticket, &mut part);
+    let outcome = second_renders(rt, alloc, &running, values, inputs, &mut ticket, part);
     let Ticket {
         scene: _,
         number: _,
@@ -436,8 +446,7 @@ fn rendered<R: Abort + Wait + Clock>(
     } = ticket;
     running.finish();
     outcome?;
-    assert!(rt; stamped, "{}", row.label);
-    Ok(image)
+    Ok(stamped)
 }
 
 // Renders the part's rectangle by the second instance, which is that of node 4, under a hold of its gate.
@@ -498,16 +507,17 @@ fn push_frame(
     ensures depth { inputs.new.depth ≡ inputs.old.depth }
     ensures shown { inputs.new.components ≡ inputs.old.components }
 {
-    let clip = frame.clip as usize;
+    let (number, at, picture) = *frame;
+    let clip = number as usize;
     if clip < shown.len() {
-        let image = image_of(alloc, depth, shown[clip], &frame.picture.pixels())?;
+        let image = image_of(alloc, depth, shown[clip], &picture.pixels())?;
         image.pixels_fit();
         let piece = Piece::Tile {
             cut: image.rect(),
             image: Arc::new(alloc, image)?,
             through: Steps::of(Vec::new(alloc)),
         };
-        inputs.push(alloc, frame.clip, frame.frame, piece)?;
+        inputs.push(alloc, number, at, piece)?;
     }
     Ok(())
 }
@@ -547,14 +557,14 @@ fn pixel_of(depth: Depth, components: Components, samples: &[u16; 4]) -> Pixel
 }
 
 // Compares an image with its pixels by rows from the bottom. Behind the last one they are zero.
-fn same_pixels(rt: &impl Abort, image: &Image, wanted: &[[u16; 4]]) {
+fn same_pixels(rt: &impl Abort, label: &str, image: &Image, wanted: &[[u16; 4]]) {
     let rect = image.rect();
     let mut left = wanted.iter();
     for y in rect.y1..rect.y2 {
         for x in rect.x1..rect.x2 {
             let samples = left.next().copied().unwrap_or([0, 0, 0, 0]);
             let pixel = pixel_of(image.depth(), image.components(), &samples);
-            same_at(rt, &(&x, &y), image.at(x, y), pixel);
+            same_at(rt, &(label, x, y), image.at(x, y), pixel);
         }
     }
 }

@@ -11,6 +11,8 @@ mod asking;
 #[cfg(test)]
 mod generators;
 #[cfg(test)]
+mod graphs;
+#[cfg(test)]
 mod lives;
 #[cfg(test)]
 mod mixes;

@@ -1,7 +1,11 @@
 //! Groups and takes of a graph file.
 use crate::same::{same, same_at};
 use crate::text::{changed_in, repeated, tells};
-use fx_text::{GraphFault, RawScalar, RawValue, RawWork, migrated, names_rise, read_graph};
+use fx_text::{
+    GraphFault, RawGroup, RawNode, RawScalar, RawTake, RawValue, RawWork, migrated, names_rise,
+    read_graph,
+};
+use std::process::Abort;
 
 // A graph with a group, a use of it, and a take.
 const GROUPED: &str =
@@ -222,37 +226,42 @@ fn groups_and_takes_are_read(rt: HostRuntime) {
     let mut graph = read_graph(alloc, GROUPED.as_bytes(), 256, 4096).expect(&rt, "no graph");
     names_rise(&graph);
     same(&rt, graph.format, 2);
-    for group in graph.groups.items() {
-        same(&rt, (group.name.text(), group.output.text()), ("soft", "b"));
-        for input in group.inputs.items() {
-            same(&rt, input.text(), "in");
-        }
-        for node in group.nodes.items() {
-            same(
-                &rt,
-                (node.name.text(), node.path.text()),
-                ("b", "groups[0].nodes[0]"),
-            );
-        }
-    }
-    let uses = graph
-        .nodes
-        .items()
-        .iter()
-        .filter(|node| matches!(&node.work, RawWork::GroupUse { .. }))
-        .count();
-    same(&rt, uses, 1);
+    soft_groups(&rt, graph.groups.items());
+    same(&rt, uses_in(graph.nodes.items()), 1);
     let takes = graph.take_takes(alloc);
     same(&rt, (takes.len(), graph.takes.items().len()), (1, 0));
-    for take in &takes {
-        same(&rt, (take.file.text(), take.edits.len()), ("t#.pam", 1));
+    takes_of_two(&rt, takes.as_slice());
+}
+
+// Each is the group of the graph.
+fn soft_groups(rt: &impl Abort, groups: &[RawGroup]) {
+    for group in groups {
+        same(rt, (group.name.text(), group.output.text()), ("soft", "b"));
+        for input in group.inputs.items() {
+            same(rt, input.text(), "in");
+        }
+        for node in group.nodes.items() {
+            same(rt, node.name.text(), "b");
+            same(rt, node.path.text(), "groups[0].nodes[0]");
+        }
+    }
+}
+
+fn uses_in(nodes: &[RawNode]) -> usize {
+    nodes
+        .iter()
+        .filter(|node| matches!(&node.work, RawWork::GroupUse { .. }))
+        .count()
+}
+
+// Each is the take of the graph.
+fn takes_of_two(rt: &impl Abort, takes: &[RawTake]) {
+    for take in takes {
+        same(rt, (take.file.text(), take.edits.len()), ("t#.pam", 1));
         for edit in &take.edits {
-            same(&rt, (edit.node.text(), edit.param.text()), ("u/b", "rx"));
-            same(
-                &rt,
-                matches!(&edit.value, RawValue::Plain(RawScalar::Int(2))),
-                true,
-            );
+            same(rt, (edit.node.text(), edit.param.text()), ("u/b", "rx"));
+            let is_two = matches!(&edit.value, RawValue::Plain(RawScalar::Int(2)));
+            same(rt, is_two, true);
         }
     }
 }

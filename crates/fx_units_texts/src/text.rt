@@ -1,8 +1,8 @@
 use crate::same::{same, same_at};
 use fx_pixel::{Components, Depth, Format};
 use fx_text::{
-    GraphCode, GraphFault, RawContext, RawScalar, RawValue, RawWork, names_rise,
-    printed_graph_reads_back, read_graph,
+    GraphCode, GraphFault, RawContext, RawGraph, RawNode, RawParam, RawScalar, RawValue, RawWork,
+    names_rise, printed_graph_reads_back, read_graph,
 };
 use std::alloc::{AllocError, Global};
 use std::fmt::Debug;
@@ -24,15 +24,18 @@ pub(crate) fn told(alloc: Global, bytes: &[u8]) -> Result<String, AllocError> {
         Ok(graph) => format!(in alloc; "{}", graph.nodes.items().len()),
         Err(GraphFault::Memory) => format!(in alloc; "memory"),
         Err(GraphFault::Refused(code, path)) => {
-            let text = path.text();
-            let number = match code {
-                GraphCode::NotJson => 1,
-                GraphCode::WrongForm => 2,
-                GraphCode::NumberOutOfRange => 3,
-                _ => 0,
-            };
+            let (number, text) = (number_of(code), path.text());
             format!(in alloc; "G{number} {text}")
         }
+    }
+}
+
+fn number_of(code: GraphCode) -> u32 {
+    match code {
+        GraphCode::NotJson => 1,
+        GraphCode::WrongForm => 2,
+        GraphCode::NumberOutOfRange => 3,
+        _ => 0,
     }
 }
 
@@ -346,52 +349,55 @@ fn is_given(value: &RawValue) -> bool {
 fn a_whole_graph_is_read(rt: HostRuntime) {
     let graph = read_graph(rt.alloc(), WHOLE.as_bytes(), 256, 4096).expect(&rt, "no graph");
     names_rise(&graph);
-    same(&rt, (graph.format, graph.first, graph.last), (1, 7, 9));
-    same(&rt, (graph.project.width, graph.project.height), (4, 2));
-    same(&rt, graph.project.depth, Depth::Short);
-    same(&rt, graph.project.components, Components::Alpha);
-    same(
-        &rt,
-        (graph.output.node.text(), graph.output.file.text()),
-        ("b", "o#.pam"),
-    );
-    same(&rt, graph.output.format, Format::Rgb);
+    whole_head(&rt, &graph);
     for node in graph.nodes.items() {
-        match &node.work {
-            RawWork::Source {
-                pattern,
-                first,
-                last,
-                hold,
-                depth,
-                components,
-            } => {
-                same(&rt, (node.name.text(), pattern.text()), ("s", "s#.pam"));
-                same(&rt, (*first, *last, *hold), (3, 5, true));
-                same(&rt, (*depth, *components), (Depth::Byte, Components::Rgba));
-            }
-            RawWork::Effect {
-                effect,
-                context,
-                clips,
-                params,
-            } => {
-                same(&rt, (node.name.text(), effect.text()), ("b", "blend"));
-                same(&rt, *context, Some(RawContext::Filter));
-                same(&rt, clips.items().len(), 2);
-                same(
-                    &rt,
-                    params
-                        .items()
-                        .iter()
-                        .filter(|param| is_given(&param.value))
-                        .count(),
-                    2,
-                );
-            }
-            RawWork::GroupUse { group, .. } => same(&rt, group.text(), ""),
-        }
+        whole_node(&rt, node);
     }
+}
+
+// What stands beside the nodes is that of the whole graph.
+fn whole_head(rt: &impl Abort, graph: &RawGraph) {
+    same(rt, (graph.format, graph.first, graph.last), (1, 7, 9));
+    same(rt, (graph.project.width, graph.project.height), (4, 2));
+    same(rt, graph.project.depth, Depth::Short);
+    same(rt, graph.project.components, Components::Alpha);
+    let (node, file) = (graph.output.node.text(), graph.output.file.text());
+    same(rt, (node, file), ("b", "o#.pam"));
+    same(rt, graph.output.format, Format::Rgb);
+}
+
+// The node is the source or the effect of the whole graph.
+fn whole_node(rt: &impl Abort, node: &RawNode) {
+    match &node.work {
+        RawWork::Source {
+            pattern,
+            first,
+            last,
+            hold,
+            depth,
+            components,
+        } => {
+            same(rt, (node.name.text(), pattern.text()), ("s", "s#.pam"));
+            same(rt, (*first, *last, *hold), (3, 5, true));
+            same(rt, (*depth, *components), (Depth::Byte, Components::Rgba));
+        }
+        RawWork::Effect {
+            effect,
+            context,
+            clips,
+            params,
+        } => {
+            same(rt, (node.name.text(), effect.text()), ("b", "blend"));
+            same(rt, *context, Some(RawContext::Filter));
+            same(rt, clips.items().len(), 2);
+            same(rt, given_in(params.items()), 2);
+        }
+        RawWork::GroupUse { group, .. } => same(rt, group.text(), ""),
+    }
+}
+
+fn given_in(params: &[RawParam]) -> usize {
+    params.iter().filter(|param| is_given(&param.value)).count()
 }
 
 // Two faults in one file: which one counts.

@@ -3,8 +3,8 @@ use fx_base::{Name, Rect};
 use fx_pam::PamField;
 use fx_text::{GraphCode, GraphPath};
 use fx_words::{
-    FrameFault, Mode, PlanFrame, PlanFrames, PlanLine, PlanLines, Report, RunFault, WordFault,
-    fault_text, options_in_any_order, read_words, report_text,
+    FrameFault, Mode, Order, PlanFrame, PlanFrames, PlanLine, PlanLines, Report, RunFault,
+    WordFault, fault_text, options_in_any_order, read_words, report_text,
 };
 use std::alloc::{AllocError, Global};
 use std::process::Abort;
@@ -15,16 +15,14 @@ fn ordered(alloc: Global, line: &str) -> Result<String, AllocError> {
     for word in line.split(' ') {
         words.push(word.to_string(alloc)?)?;
     }
-    match read_words(alloc, words.as_slice()) {
+    told(alloc, &read_words(alloc, words.as_slice()))
+}
+
+// The words of an order, or why there is none.
+fn told(alloc: Global, read: &Result<Order, WordFault>) -> Result<String, AllocError> {
+    match read {
         Ok(order) => {
-            let mode = match order.mode {
-                Mode::Render => "render",
-                Mode::Check => "check",
-                Mode::Bench => "bench",
-                Mode::Migrate => "migrate",
-                Mode::Takes => "takes",
-                Mode::Plan => "plan",
-            };
+            let mode = word_of(order.mode);
             let (graph, first, last) = (order.graph.text(), order.first, order.last);
             let (tile, cache) = (order.tile, order.cache);
             let (workers, ahead, scale) = (order.workers, order.ahead, order.scale);
@@ -34,6 +32,17 @@ fn ordered(alloc: Global, line: &str) -> Result<String, AllocError> {
         }
         Err(WordFault::Usage) => format!(in alloc; "usage"),
         Err(WordFault::Memory) => format!(in alloc; "memory"),
+    }
+}
+
+fn word_of(mode: Mode) -> &'static str {
+    match mode {
+        Mode::Render => "render",
+        Mode::Check => "check",
+        Mode::Bench => "bench",
+        Mode::Migrate => "migrate",
+        Mode::Takes => "takes",
+        Mode::Plan => "plan",
     }
 }
 

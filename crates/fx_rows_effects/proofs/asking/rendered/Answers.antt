@@ -1,19 +1,26 @@
-use Rattle.std.proofs.Common.{◌≡◌, sym, subst, rules}
-use Rattle.fx_life.specs.Plugin.{MayRenderIn}
-use Rattle.fx_shipped.specs.Shipped.{meaning_of}
-use Rattle.fx_rows_effects.proofs.Renders.{may_in}
+use Rattle.std.proofs.Common.{◌∙◌, refl, rules}
+use Rattle.fx_scene.specs.Scenes.{graph_shown}
 use Rattle.fx_rows_effects.proofs.SmallWindows.{small_row}
+use Rattle.fx_rows_effects.proofs.Uses.{few_shown, may_as, supported}
 use Rattle.fx_rows_effects.proofs.asking.rendered.Goals as goal
 
 pub new-requires-clause-rows_fit : goal.new-requires-clause-rows_fit
-new-requires-clause-rows_fit g c = small_row c.args.row.now.window c.args.depth c.requires.window
+new-requires-clause-rows_fit g c =
+    small_row c.rect-window.result c.args.node.now.depth c.args.node.now.components c.rect-window.ensures
 
-pub second_renders-outcome-requires-clause-may : goal.second_renders-outcome-requires-clause-may
-second_renders-outcome-requires-clause-may g c = λ s there.
+pub lived-requires-clause-supported : goal.lived-requires-clause-supported
+lived-requires-clause-supported g c =
+    let graph = c.args.graph.now in
+    supported (graph_shown graph) (graph.depth, graph.components) graph.kept graph.extent
+    (few_shown graph.nodes.items graph.rendered.few) c.args.node.now c.requires
+
+pub lived-requires-clause-may : goal.lived-requires-clause-may
+lived-requires-clause-may g c =
+    let graph = c.args.graph.now in
+    let node = c.args.node.now in
     let image = c.part-part.result.image.now in
-    let is : s.context ≡ c.args.context = search (rules, there) in
-    let effect : c.in_ok-running.running.effect ≡ c.args.effect = c.in_ok-running.ensures.effect in
-    subst (λ e. MayRenderIn s.context (meaning_of e).shape c.args.values.now c.in_ok-inputs.inputs image.depth
-    image.components) (sym effect)
-    (may_in (meaning_of c.args.effect).shape c.args.values.now c.in_ok-inputs.inputs image.depth image.components
-    c.args.context s.context c.requires.lawful (search rules) (search rules) (search rules) is)
+    may_as (graph_shown graph) (graph.depth, graph.components) graph.kept graph.extent
+    (few_shown graph.nodes.items graph.rendered.few) node c.requires node.context node.effect.now image.depth
+    image.components c.in_ok-values.values c.in_ok-inputs.inputs refl refl (search rules) (search rules)
+    c.in_ok-values.ensures c.in_ok-inputs.ensures.depth
+    (c.in_ok-inputs.ensures.shown ∙ c.as_slice.ensures.value ∙ c.in_ok-shown.ensures)
