@@ -1,5 +1,9 @@
 //! The order in which actions come to an effect, and the gates of its instances.
-ghost use Rattle.std.specs.Prelude.{◌≡◌, ◌<◌, ◌^◌, pos};
+ghost use Rattle.std.specs.Prelude.{◌≡◌, ◌≢◌, ◌<◌, ◌^◌, pos};
+ghost use Rattle.fx_base.specs.Bounds.{none};
+ghost use Rattle.fx_image.specs.Part.{IsPart, SamePart};
+ghost use Rattle.fx_pixel.specs.declared.Components.TheVariants as components;
+ghost use Rattle.fx_pixel.specs.declared.Depth.TheVariants as depths;
 ghost use Rattle.fx_effect.specs.Shape.{IsLawfulIn};
 ghost use Rattle.fx_effect.specs.declared.action.Context.TheVariants as context;
 ghost use Rattle.fx_rows_effects.specs.Toy.{toy_shape};
@@ -12,7 +16,7 @@ use fx_base::{Memory, Names, Rect};
 use fx_core::Ticket;
 use fx_effect::{Catalogue, Context, Flags, ImageEffect, Inputs, Numbers, Values, window_args};
 use fx_gate::Gates;
-use fx_image::Image;
+use fx_image::{Image, Part};
 use fx_life::{Loaded, Running, Use};
 use fx_pixel::{Components, Depth, Pixel};
 use fx_props::PropSet;
@@ -74,8 +78,8 @@ fn plain_values(alloc: Global) -> Values
     }
 }
 
-// Of a picture of 3 by 2 pixels that has two grey ones, an instance renders the two right columns, under a hold of the
-// effect's gate.
+// Of a picture of 3 by 2 pixels that has two grey ones, an instance renders the two right columns. Answers as well
+// whether that was stamped.
 fn one_renders<R: Wait + Clock>(
     rt: &R,
     alloc: Global,
@@ -85,8 +89,26 @@ fn one_renders<R: Wait + Clock>(
     let mut image = Image::new(alloc, Rect::of(0, 0, 3, 2), byte, rgba, 12)?;
     image.put(0, 1, GREY);
     image.put(2, 0, GREY);
+    let mut part = image.part(Rect::of(1, 0, 3, 2));
+    let stamped = one_lives(rt, alloc, effect, &mut part)?;
+    Ok((image, stamped))
+}
+
+// An instance renders the part in its one life, under a hold of the effect's gate. Answers whether its ticket was stamped.
+fn one_lives<R: Wait + Clock>(
+    rt: &R,
+    alloc: Global,
+    effect: Toys<'_>,
+    part: &mut Part<'_>,
+) -> Result<bool, Memory>
+    requires part { IsPart part.old }
+    requires window { part.old.rect ≢ none }
+    requires depth { part.old.image.now.depth ≡ depths.Byte }
+    requires components { part.old.image.now.components ≡ components.Rgba }
+    ensures { SamePart part.old part.new }
+{
     let values = plain_values(alloc);
-    let inputs = Inputs::new(alloc, byte, Vec::new(alloc))?;
+    let inputs = Inputs::new(alloc, Depth::Byte, Vec::new(alloc))?;
     let (gates, mut seat) = Gates::new(alloc, 4)?;
     let running = Running::start(alloc, effect, &[used_by(8)], 4, 9)?;
     let mut hold = gates.hold(rt, &mut seat, 3);
@@ -95,16 +117,7 @@ fn one_renders<R: Wait + Clock>(
         number: 2,
         stamped: false,
     };
-    let mut part = image.part(Rect::of(1, 0, 3, 2));
-    let outcome = running.render(
-        alloc,
-        0,
-        &values,
-        &inputs,
-        &mut hold,
-        &mut ticket,
-        &mut part,
-    );
+    let outcome = running.render(alloc, 0, &values, &inputs, &mut hold, &mut ticket, part);
     gates.release(&mut seat, hold);
     let Ticket {
         scene,
@@ -113,7 +126,7 @@ fn one_renders<R: Wait + Clock>(
     } = ticket;
     running.finish();
     outcome?;
-    Ok((image, stamped & (scene == 1) & (number == 2)))
+    Ok(stamped & (scene == 1) & (number == 2))
 }
 
 #[test]
