@@ -10,7 +10,6 @@ use Rattle.fx_pixel.specs.declared.Depth.{Depth}
 use Rattle.fx_effect.specs.Asked.{AreRegions, IsWindow}
 use Rattle.fx_effect.specs.Given.{Given}
 use Rattle.fx_effect.specs.Shape.{IsLawfulIn, IsProject}
-use Rattle.fx_effect.specs.declared.action.Context.{Context}
 use Rattle.fx_effect.specs.declared.values.Values.{Values}
 use Rattle.fx_life.specs.Plugin.{MayRenderIn}
 use Rattle.fx_graph.specs.Kept as graph
@@ -32,7 +31,7 @@ use Rattle.fx_rows_effects.specs.Asked.{source_region}
 pub few_shown : {E : Type 0} (nodes : List (Node E)) → length nodes ≤ MOST_NODES → length (map shown nodes) ≤ MOST_NODES
 few_shown nodes few = subst (λ (k : ℕ). k ≤ MOST_NODES) (sym (length-map nodes shown)) few
 
-pub regions_are : (flags : List Bool)
+regions_are : (flags : List Bool)
     → AllZip (λ connected r. IsWindow r × (connected ≡ false → r ≡ none)) flags (map source_region flags)
 regions_are [] = tt
 regions_are (true ∷ flags) = ((search rules, λ not. absurd (false≢true (sym not))), regions_are flags)
@@ -52,24 +51,17 @@ module _ (g : GraphShown Shipped) (form : Form) (kept : graph.AreNodes meaning_o
   pub supported : Contains (meaning_of n.effect.now).shape.contexts n.context
   supported = (lawful (use_values g.project (pos 7) n.clips.now n.params.now) refl).supported
 
-  pub may : (v : Values) (given : Given) → v ≡ use_values g.project (pos 7) n.clips.now n.params.now
-      → given.depth ≡ n.depth → given.components ≡ map (seen_in n.components) n.masks.now
-      → MayRenderIn n.context (meaning_of n.effect.now).shape v given n.depth n.components
-  may v given is depth components =
-      may_render meaning_of g form kept no_images nodes n at v given
-      (subst (λ (w : Values). w ≡ use_values g.project w.frame n.clips.now n.params.now) (sym is) refl) depth components
-
-  -- the same by other names of the effect, of its context and of its form
-  pub may_as : (own : Context) (e : Shipped) (depth : Depth) (c : Components) (v : Values) (given : Given)
-      → own ≡ n.context → e ≡ n.effect.now → depth ≡ n.depth → c ≡ n.components
+  -- it may be asked to render images of its form
+  pub may : (depth : Depth) (c : Components) (v : Values) (given : Given) → depth ≡ n.depth → c ≡ n.components
       → v ≡ use_values g.project (pos 7) n.clips.now n.params.now → given.depth ≡ n.depth
-      → given.components ≡ map (seen_in n.components) n.masks.now → MayRenderIn own (meaning_of e).shape v given depth c
-  may_as own e depth c v given context effect deep components is given_depth given_components =
-      subst (λ (o : Context). MayRenderIn o (meaning_of e).shape v given depth c) (sym context)
-      (subst (λ (f : Shipped). MayRenderIn n.context (meaning_of f).shape v given depth c) (sym effect)
-      (subst (λ (d : Depth). MayRenderIn n.context (meaning_of n.effect.now).shape v given d c) (sym deep)
+      → given.components ≡ map (seen_in n.components) n.masks.now
+      → MayRenderIn n.context (meaning_of n.effect.now).shape v given depth c
+  may depth c v given deep components is given_depth given_components =
+      subst (λ (d : Depth). MayRenderIn n.context (meaning_of n.effect.now).shape v given d c) (sym deep)
       (subst (λ (k : Components). MayRenderIn n.context (meaning_of n.effect.now).shape v given n.depth k) (sym components)
-      (may v given is given_depth given_components))))
+      (may_render meaning_of g form kept no_images nodes n at v given
+      (subst (λ (w : Values). w ≡ use_values g.project w.frame n.clips.now n.params.now) (sym is) refl) given_depth
+      given_components))
 
 pub regions_right : (v : Values) (flags : List Bool) (regions : List Bounds) → v.connected ≡ flags
     → regions ≡ map source_region flags → AreRegions v regions

@@ -167,11 +167,11 @@ fn effect_row<R: Abort + Wait + Clock + AllocGlobal>(rt: &R, row: &Row) {
     let graph = used_in(rt, row, "byte");
     let node = effect_in(&graph).expect(rt, row.label);
     answered(rt, &graph, &node, row);
-    renders(rt, &graph, &node, row, row.bytes);
+    renders(rt, &graph, &node, row, Depth::Byte, row.bytes);
     if let Some(shorts) = row.shorts {
         let graph = used_in(rt, row, "short");
         let node = effect_in(&graph).expect(rt, row.label);
-        renders(rt, &graph, &node, row, shorts);
+        renders(rt, &graph, &node, row, Depth::Short, shorts);
     }
 }
 
@@ -375,18 +375,20 @@ fn same_answers(rt: &impl Abort, found: &Answers, row: &Row) {
 
 // ---- what it renders
 
-// Renders the row's window, and compares its pixels.
+// Renders the row's window, and compares its depth and its pixels.
 fn renders<R: Abort + Wait + Clock + AllocGlobal>(
     rt: &R,
     graph: &Graph<Shipped>,
     node: &EffectNode<'_, Shipped>,
     row: &Row,
+    depth: Depth,
     wanted: Pixels,
 )
     requires { StandsIn (graph_shown graph.now) node.now }
 {
     let image = rendered(rt, rt.alloc(), graph, node, row).expect(rt, "no image");
-    same_at(rt, &row.label, image.components(), Components::Rgba);
+    let form = (image.depth(), image.components());
+    same_at(rt, &row.label, form, (depth, Components::Rgba));
     same_pixels(rt, row.label, &image, wanted);
 }
 

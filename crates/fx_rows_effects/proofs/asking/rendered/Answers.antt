@@ -1,7 +1,7 @@
-use Rattle.std.proofs.Common.{◌∙◌, refl, rules}
+use Rattle.std.proofs.Common.{◌∙◌, rules}
 use Rattle.fx_scene.specs.Scenes.{graph_shown}
 use Rattle.fx_rows_effects.proofs.SmallWindows.{small_row}
-use Rattle.fx_rows_effects.proofs.Uses.{few_shown, may_as, supported}
+use Rattle.fx_rows_effects.proofs.Uses.{few_shown, may, supported}
 use Rattle.fx_rows_effects.proofs.asking.rendered.Goals as goal
 
 pub new-requires-clause-rows_fit : goal.new-requires-clause-rows_fit
@@ -19,8 +19,7 @@ lived-requires-clause-may g c =
     let graph = c.args.graph.now in
     let node = c.args.node.now in
     let image = c.part-part.result.image.now in
-    may_as (graph_shown graph) (graph.depth, graph.components) graph.kept graph.extent
-    (few_shown graph.nodes.items graph.rendered.few) node c.requires node.context node.effect.now image.depth
-    image.components c.in_ok-values.values c.in_ok-inputs.inputs refl refl (search rules) (search rules)
-    c.in_ok-values.ensures c.in_ok-inputs.ensures.depth
+    may (graph_shown graph) (graph.depth, graph.components) graph.kept graph.extent
+    (few_shown graph.nodes.items graph.rendered.few) node c.requires image.depth image.components c.in_ok-values.values
+    c.in_ok-inputs.inputs (search rules) (search rules) c.in_ok-values.ensures c.in_ok-inputs.ensures.depth
     (c.in_ok-inputs.ensures.shown ∙ c.as_slice.ensures.value ∙ c.in_ok-shown.ensures)
