@@ -1,11 +1,17 @@
 -- All seats of those who render, and what ends with them.
-use Rattle.std.specs.Prelude.{◌≡◌, ◌<◌, ◌+◌, ◌^◌, ◌⊎◌, List, All, length}
+use Rattle.std.specs.Prelude.{◌≡◌, ◌<◌, ◌+◌, ◌^◌, ◌⊎◌, List, [], All, length}
 use Rattle.fx_core.specs.declared.totals.Totals.{Totals}
+use Rattle.fx_directory.specs.Rows.{DirRow}
+use Rattle.fx_directory.specs.Seats.{DirSeatState, nothing_made}
 use Rattle.fx_scene.specs.Scenes.{Shot}
 use Rattle.fx_turn.specs.Seats.{all_parts}
 use Rattle.fx_tile.specs.declared.share.Shared.{Shared}
 use Rattle.fx_tile.specs.declared.share.TileSeat.{TileSeat}
 use Rattle.fx_tile.specs.Moments.{IsFree, IsIdle}
+
+-- the seat has all parts of a directory, and through it nothing was asked
+abbrev pub IsFirstSeat : {N K : Type 0} → DirRow N → DirSeatState N K → Type 0
+IsFirstSeat row seat = seat ≡ record { row = row; parts = all_parts; aloft = []; made = nothing_made }
 
 -- the first seat, and those that were split off from it, one for each worker, are all that there are, and none has a
 -- flight or a gate

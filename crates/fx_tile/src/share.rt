@@ -2,12 +2,11 @@
 ghost use Rattle.std.specs.Prelude.{◌≡◌, ◌≤◌, ◌<◌, ◌+◌, ◌-◌, [], All, IfErr, IfOk, OnErr, OnOk, length, vec_len};
 ghost use Rattle.fx_directory.specs.Seats.{both_made, nothing_made, totals_of};
 ghost use Rattle.fx_pool.specs.Weights.{plus, weigh};
-ghost use Rattle.fx_turn.specs.Seats.{all_parts};
 ghost use Rattle.fx_scene.specs.Scripts.{HasGrownTo};
 ghost use Rattle.fx_tile.specs.Moments.{IsFree, IsIdle, seat_weight};
 ghost use Rattle.fx_tile.specs.KeyLaws.{MayGrow};
 ghost use Rattle.fx_tile.specs.Kept.{made_of};
-ghost use Rattle.fx_tile.specs.Seats.{AreAll, IsLeft, both_totals};
+ghost use Rattle.fx_tile.specs.Seats.{AreAll, IsFirstSeat, IsLeft, both_totals};
 
 use crate::count::both_totals;
 use crate::name::SceneName;
@@ -68,9 +67,8 @@ impl<E: Catalogue + Drop> Shared<E> {
         let asking = Asking::new(alloc)?;
         let count = 64 + scene.graph().nodes.len() as u32;
         let (gates, gate_seat) = Gates::new(alloc, count)?;
-        let same = Permit::new(permit.scene);
-        let (directory, tiles) = directory_of(alloc, scene, permit, capacity)?;
-        let (wholes, images) = directory_of(alloc, scene, same, whole_capacity)?;
+        let ((directory, tiles), (wholes, images)) =
+            both_directories(alloc, scene, permit, capacity, whole_capacity)?;
         let shared = Shared {
             directory,
             wholes,
@@ -295,23 +293,44 @@ impl<E: Catalogue + Drop> Shared<E> {
     }
 }
 
+// A directory under a scene's name, and a seat of it.
+type Seated<E> = (
+    Directory<SceneName<E>, Key, Image>,
+    DirSeat<SceneName<E>, Key, Image>,
+);
+
+// Two empty directories under a scene's name, whose permits have the same number, and the first seat of each: one keeps
+// at most so many tiles, the other at most so many whole images.
+fn both_directories<E: Catalogue + Drop>(
+    alloc: Global,
+    scene: &Scene<E>,
+    permit: Permit,
+    capacity: u32,
+    whole_capacity: u32,
+) -> Result<(Seated<E>, Seated<E>), Memory>
+    ensures name { IfOk result (λ r. r.0.0.name.scene.value ≡ scene.now) }
+    ensures capacity { IfOk result (λ r. r.0.0.capacity ≡ capacity) }
+    ensures seat { IfOk result (λ r. IsFirstSeat r.0.0 r.0.1) }
+    ensures whole_name { IfOk result (λ r. r.1.0.name.scene.value ≡ scene.now) }
+    ensures whole_capacity { IfOk result (λ r. r.1.0.capacity ≡ whole_capacity) }
+    ensures whole_seat { IfOk result (λ r. IsFirstSeat r.1.0 r.1.1) }
+{
+    let same = Permit::new(permit.scene);
+    let tiles = directory_of(alloc, scene, permit, capacity)?;
+    let wholes = directory_of(alloc, scene, same, whole_capacity)?;
+    Ok((tiles, wholes))
+}
+
 // An empty directory under a scene's name that keeps at most so many images, and its first seat.
 fn directory_of<E: Catalogue + Drop>(
     alloc: Global,
     scene: &Scene<E>,
     permit: Permit,
     capacity: u32,
-) -> Result<
-    (
-        Directory<SceneName<E>, Key, Image>,
-        DirSeat<SceneName<E>, Key, Image>,
-    ),
-    Memory,
->
+) -> Result<Seated<E>, Memory>
     ensures name { IfOk result (λ r. r.0.name.scene.value ≡ scene.now) }
     ensures capacity { IfOk result (λ r. r.0.capacity ≡ capacity) }
-    ensures seat { IfOk result (λ r.
-        r.1 ≡ record { row = r.0; parts = all_parts; aloft = []; made = nothing_made }) }
+    ensures seat { IfOk result (λ r. IsFirstSeat r.0 r.1) }
 {
     match Directory::new(alloc, SceneName::of(scene), permit, capacity) {
         Ok(made) => Ok(made),

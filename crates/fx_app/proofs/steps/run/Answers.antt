@@ -1,4 +1,4 @@
-use Rattle.std.proofs.Common.{inr, map, string_bytes}
+use Rattle.std.proofs.Common.{◌⊎◌, ◌≡◌, ℕ, suc, arith, inl, inr, map, refl, string_bytes}
 use Rattle.fx_words.specs.declared.order.Mode.TheVariants.{Check, Bench, Migrate, Plan}
 use Rattle.fx_words.specs.Order.{order_of}
 use Rattle.fx_modes.proofs.StepsLemmas.{only_memory, ends_by_memory}
@@ -27,6 +27,62 @@ returns-in-Ok-clause-benched g c = λ bench done. c.in-Ok.ensures.benched bench
 
 pub returns-in-Ok-clause-bench_reports : goal.returns-in-Ok-clause-bench_reports
 returns-in-Ok-clause-bench_reports g c = λ bench tells done. c.in-Ok.ensures.bench_told bench tells
+
+-- ---- at status 0: each of these turns on the number alone, and is answered here so that a wrong one is refused at once
+
+all_done : (status : ℕ) → status ≡ 0 → (status ≡ 0) ⊎ (status ≡ 6)
+all_done status is = inl is
+
+no_other : {A : Type 0} (n status : ℕ) → n ≡ 0 → n ≡ suc status → A
+no_other n status none other = absurd (omega (arith, none, other))
+
+pub returns-in-Ok-clause-completes : goal.returns-in-Ok-clause-completes
+returns-in-Ok-clause-completes g c = λ render told known fetched wrote reported. all_done 0 refl
+
+pub returns-in-Ok-clause-check_completes : goal.returns-in-Ok-clause-check_completes
+returns-in-Ok-clause-check_completes g c = λ check told job fetched reported. all_done 0 refl
+
+pub returns-in-Ok-clause-bench_completes : goal.returns-in-Ok-clause-bench_completes
+returns-in-Ok-clause-bench_completes g c = λ bench known reported. all_done 0 refl
+
+pub returns-in-Ok-clause-migrate_completes : goal.returns-in-Ok-clause-migrate_completes
+returns-in-Ok-clause-migrate_completes g c = λ migrates told known fetched wrote reported. all_done 0 refl
+
+pub returns-in-Ok-clause-plan_completes : goal.returns-in-Ok-clause-plan_completes
+returns-in-Ok-clause-plan_completes g c = λ plans told known fetched reported. all_done 0 refl
+
+pub returns-in-Ok-clause-ends : goal.returns-in-Ok-clause-ends
+returns-in-Ok-clause-ends g c = λ failed. absurd (failed refl)
+
+pub returns-in-Ok-clause-causes_usage : goal.returns-in-Ok-clause-causes_usage
+returns-in-Ok-clause-causes_usage g c = no_other 0 0 refl
+
+pub returns-in-Ok-clause-causes_read : goal.returns-in-Ok-clause-causes_read
+returns-in-Ok-clause-causes_read g c = no_other 0 3 refl
+
+pub returns-in-Ok-clause-causes_write : goal.returns-in-Ok-clause-causes_write
+returns-in-Ok-clause-causes_write g c = no_other 0 4 refl
+
+pub returns-in-Ok-clause-causes_report : goal.returns-in-Ok-clause-causes_report
+returns-in-Ok-clause-causes_report g c = no_other 0 6 refl
+
+pub returns-in-Ok-clause-check_statuses : goal.returns-in-Ok-clause-check_statuses
+returns-in-Ok-clause-check_statuses g c = λ check. (no_other 0 2 refl, no_other 0 4 refl)
+
+pub returns-in-Ok-clause-check_reads : goal.returns-in-Ok-clause-check_reads
+returns-in-Ok-clause-check_reads g c = λ check. no_other 0 3 refl
+
+pub returns-in-Ok-clause-bench_statuses : goal.returns-in-Ok-clause-bench_statuses
+returns-in-Ok-clause-bench_statuses g c = λ bench. (no_other 0 3 refl, no_other 0 4 refl)
+
+pub returns-in-Ok-clause-migrate_statuses : goal.returns-in-Ok-clause-migrate_statuses
+returns-in-Ok-clause-migrate_statuses g c = λ migrates. no_other 0 2 refl
+
+pub returns-in-Ok-clause-migrate_reads : goal.returns-in-Ok-clause-migrate_reads
+returns-in-Ok-clause-migrate_reads g c = λ migrates. no_other 0 3 refl
+
+pub returns-in-Ok-clause-plan_statuses : goal.returns-in-Ok-clause-plan_statuses
+returns-in-Ok-clause-plan_statuses g c = λ plans. no_other 0 4 refl
 
 pub returns-in-Ok-clause-refuses_graph : goal.returns-in-Ok-clause-refuses_graph
 returns-in-Ok-clause-refuses_graph g c = λ other told bad fetched.
