@@ -1,7 +1,7 @@
 use Rattle.std.proofs.Common.{◌≡◌, ◌+◌, ◌++◌, ◌∷◌, ◌∙◌, List, [], None, Option, Some, ap, arith, rules, set, subst, sym, w64}
 use Rattle.std.proofs.lemmas.Int.{to_z-of_z}
 use Rattle.std.proofs.lemmas.List.Sums.{sum_by_push}
-use Rattle.std.proofs.lemmas.Result.{on_ok_weaker}
+use Rattle.std.proofs.lemmas.Result.{IfOk-from_err, on_ok_weaker}
 use mir.Val.{SFits}
 use Rattle.std.specs.Arc.{arc_value}
 use Rattle.std.specs.List.{sum_by}
@@ -185,3 +185,137 @@ gathered_unless_busy-loop-need-preserved g t c =
       tiles = tiles_more (MayBeTileOf nodes) c.args.needs.now tiles c.push.new.self.items c.loop-need.need-index c.need-item.result tile
           c.loop-need-test.true c.need-item.is c.loop-need.invariant.tiles c.in_ok-tile.ensures.tile c.in_ok-push.ensures.items;
     }
+
+-- ---- where memory is wanting nothing is promised of what is found
+
+pub fetch-returns-in_err-key-clause-tile : goal.fetch-returns-in_err-key-clause-tile
+fetch-returns-in_err-key-clause-tile g t c = IfOk-from_err _ _ c.from_residual.ensures.0
+
+pub fetch-returns-in_err-key-clause-fetched : goal.fetch-returns-in_err-key-clause-fetched
+fetch-returns-in_err-key-clause-fetched g t c = IfOk-from_err _ _ c.from_residual.ensures.0
+
+pub fetch-returns-in_err-key-clause-follows : goal.fetch-returns-in_err-key-clause-follows
+fetch-returns-in_err-key-clause-follows g t c = IfOk-from_err _ _ c.from_residual.ensures.0
+
+pub fetch-returns-in_err-key-2-clause-tile : goal.fetch-returns-in_err-key-2-clause-tile
+fetch-returns-in_err-key-2-clause-tile g t c = IfOk-from_err _ _ c.from_residual-in_err-key-2.ensures.0
+
+pub fetch-returns-in_err-key-2-clause-fetched : goal.fetch-returns-in_err-key-2-clause-fetched
+fetch-returns-in_err-key-2-clause-fetched g t c = IfOk-from_err _ _ c.from_residual-in_err-key-2.ensures.0
+
+pub fetch-returns-in_err-key-2-clause-follows : goal.fetch-returns-in_err-key-2-clause-follows
+fetch-returns-in_err-key-2-clause-follows g t c = IfOk-from_err _ _ c.from_residual-in_err-key-2.ensures.0
+
+pub fetch-returns-in_err-image-clause-tile : goal.fetch-returns-in_err-image-clause-tile
+fetch-returns-in_err-image-clause-tile g t c = IfOk-from_err _ _ c.from_residual-in_err-image.ensures.0
+
+pub fetch-returns-in_err-image-clause-fetched : goal.fetch-returns-in_err-image-clause-fetched
+fetch-returns-in_err-image-clause-fetched g t c = IfOk-from_err _ _ c.from_residual-in_err-image.ensures.0
+
+pub fetch-returns-in_err-image-clause-follows : goal.fetch-returns-in_err-image-clause-follows
+fetch-returns-in_err-image-clause-follows g t c = IfOk-from_err _ _ c.from_residual-in_err-image.ensures.0
+
+pub fetch_unless_busy-returns-in_err-image-clause-tile : goal.fetch_unless_busy-returns-in_err-image-clause-tile
+fetch_unless_busy-returns-in_err-image-clause-tile g t c = IfOk-from_err _ _ c.from_residual.ensures.0
+
+pub fetch_unless_busy-returns-in_err-image-clause-asked : goal.fetch_unless_busy-returns-in_err-image-clause-asked
+fetch_unless_busy-returns-in_err-image-clause-asked g t c = IfOk-from_err _ _ c.from_residual.ensures.0
+
+pub fetch_unless_busy-returns-in_err-image-clause-follows : goal.fetch_unless_busy-returns-in_err-image-clause-follows
+fetch_unless_busy-returns-in_err-image-clause-follows g t c = IfOk-from_err _ _ c.from_residual.ensures.0
+
+pub fetch_unless_busy-returns-in_err-add_hit-in-Here-clause-tile : goal.fetch_unless_busy-returns-in_err-add_hit-in-Here-clause-tile
+fetch_unless_busy-returns-in_err-add_hit-in-Here-clause-tile g t c = IfOk-from_err _ _ c.from_residual-in_err-add_hit-in-Here.ensures.0
+
+pub fetch_unless_busy-returns-in_err-add_hit-in-Here-clause-asked : goal.fetch_unless_busy-returns-in_err-add_hit-in-Here-clause-asked
+fetch_unless_busy-returns-in_err-add_hit-in-Here-clause-asked g t c = IfOk-from_err _ _ c.from_residual-in_err-add_hit-in-Here.ensures.0
+
+pub fetch_unless_busy-returns-in_err-add_hit-in-Here-clause-follows : goal.fetch_unless_busy-returns-in_err-add_hit-in-Here-clause-follows
+fetch_unless_busy-returns-in_err-add_hit-in-Here-clause-follows g t c = IfOk-from_err _ _ c.from_residual-in_err-add_hit-in-Here.ensures.0
+
+pub fetch_unless_busy-returns-in_err-image-in-Fly-clause-tile : goal.fetch_unless_busy-returns-in_err-image-in-Fly-clause-tile
+fetch_unless_busy-returns-in_err-image-in-Fly-clause-tile g t c = IfOk-from_err _ _ c.from_residual-in_err-image-in-Fly.ensures.0
+
+pub fetch_unless_busy-returns-in_err-image-in-Fly-clause-asked : goal.fetch_unless_busy-returns-in_err-image-in-Fly-clause-asked
+fetch_unless_busy-returns-in_err-image-in-Fly-clause-asked g t c = IfOk-from_err _ _ c.from_residual-in_err-image-in-Fly.ensures.0
+
+pub fetch_unless_busy-returns-in_err-image-in-Fly-clause-follows : goal.fetch_unless_busy-returns-in_err-image-in-Fly-clause-follows
+fetch_unless_busy-returns-in_err-image-in-Fly-clause-follows g t c = IfOk-from_err _ _ c.from_residual-in_err-image-in-Fly.ensures.0
+
+pub gathered-returns-in_err-early-clause-tiles : goal.gathered-returns-in_err-early-clause-tiles
+gathered-returns-in_err-early-clause-tiles g t c = IfOk-from_err _ _ c.from_residual.ensures.0
+
+pub gathered-returns-in_err-early-clause-met : goal.gathered-returns-in_err-early-clause-met
+gathered-returns-in_err-early-clause-met g t c = IfOk-from_err _ _ c.from_residual.ensures.0
+
+pub gathered-returns-in_err-early-clause-follows : goal.gathered-returns-in_err-early-clause-follows
+gathered-returns-in_err-early-clause-follows g t c = IfOk-from_err _ _ c.from_residual.ensures.0
+
+pub gathered-returns-in_err-tile-in-None-clause-tiles : goal.gathered-returns-in_err-tile-in-None-clause-tiles
+gathered-returns-in_err-tile-in-None-clause-tiles g t c = IfOk-from_err _ _ c.from_residual-in_err-tile-in-None.ensures.0
+
+pub gathered-returns-in_err-tile-in-None-clause-met : goal.gathered-returns-in_err-tile-in-None-clause-met
+gathered-returns-in_err-tile-in-None-clause-met g t c = IfOk-from_err _ _ c.from_residual-in_err-tile-in-None.ensures.0
+
+pub gathered-returns-in_err-tile-in-None-clause-follows : goal.gathered-returns-in_err-tile-in-None-clause-follows
+gathered-returns-in_err-tile-in-None-clause-follows g t c = IfOk-from_err _ _ c.from_residual-in_err-tile-in-None.ensures.0
+
+pub gathered-returns-in_err-push-clause-tiles : goal.gathered-returns-in_err-push-clause-tiles
+gathered-returns-in_err-push-clause-tiles g t c = IfOk-from_err _ _ c.from_residual-in_err-push.ensures.0
+
+pub gathered-returns-in_err-push-clause-met : goal.gathered-returns-in_err-push-clause-met
+gathered-returns-in_err-push-clause-met g t c = IfOk-from_err _ _ c.from_residual-in_err-push.ensures.0
+
+pub gathered-returns-in_err-push-clause-follows : goal.gathered-returns-in_err-push-clause-follows
+gathered-returns-in_err-push-clause-follows g t c = IfOk-from_err _ _ c.from_residual-in_err-push.ensures.0
+
+pub gathered_unless_busy-returns-in_err-tile-clause-tiles : goal.gathered_unless_busy-returns-in_err-tile-clause-tiles
+gathered_unless_busy-returns-in_err-tile-clause-tiles g t c = IfOk-from_err _ _ c.from_residual.ensures.0
+
+pub gathered_unless_busy-returns-in_err-tile-clause-met : goal.gathered_unless_busy-returns-in_err-tile-clause-met
+gathered_unless_busy-returns-in_err-tile-clause-met g t c = IfOk-from_err _ _ c.from_residual.ensures.0
+
+pub gathered_unless_busy-returns-in_err-tile-clause-follows : goal.gathered_unless_busy-returns-in_err-tile-clause-follows
+gathered_unless_busy-returns-in_err-tile-clause-follows g t c = IfOk-from_err _ _ c.from_residual.ensures.0
+
+pub gathered_unless_busy-returns-in_err-push-clause-tiles : goal.gathered_unless_busy-returns-in_err-push-clause-tiles
+gathered_unless_busy-returns-in_err-push-clause-tiles g t c = IfOk-from_err _ _ c.from_residual-in_err-push.ensures.0
+
+pub gathered_unless_busy-returns-in_err-push-clause-met : goal.gathered_unless_busy-returns-in_err-push-clause-met
+gathered_unless_busy-returns-in_err-push-clause-met g t c = IfOk-from_err _ _ c.from_residual-in_err-push.ensures.0
+
+pub gathered_unless_busy-returns-in_err-push-clause-follows : goal.gathered_unless_busy-returns-in_err-push-clause-follows
+gathered_unless_busy-returns-in_err-push-clause-follows g t c = IfOk-from_err _ _ c.from_residual-in_err-push.ensures.0
+
+pub image_of-returns-in_err-needs-clause-tile : goal.image_of-returns-in_err-needs-clause-tile
+image_of-returns-in_err-needs-clause-tile g t c = IfOk-from_err _ _ c.from_residual.ensures.0
+
+pub image_of-returns-in_err-needs-clause-met : goal.image_of-returns-in_err-needs-clause-met
+image_of-returns-in_err-needs-clause-met g t c = IfOk-from_err _ _ c.from_residual.ensures.0
+
+pub image_of-returns-in_err-needs-clause-follows : goal.image_of-returns-in_err-needs-clause-follows
+image_of-returns-in_err-needs-clause-follows g t c = IfOk-from_err _ _ c.from_residual.ensures.0
+
+pub image_of-returns-in_err-needs-clause-stamped : goal.image_of-returns-in_err-needs-clause-stamped
+image_of-returns-in_err-needs-clause-stamped g t c = IfOk-from_err _ _ c.from_residual.ensures.0
+
+pub image_of-returns-in_err-tiles-clause-tile : goal.image_of-returns-in_err-tiles-clause-tile
+image_of-returns-in_err-tiles-clause-tile g t c = IfOk-from_err _ _ c.from_residual-in_err-tiles.ensures.0
+
+pub image_of-returns-in_err-tiles-clause-met : goal.image_of-returns-in_err-tiles-clause-met
+image_of-returns-in_err-tiles-clause-met g t c = IfOk-from_err _ _ c.from_residual-in_err-tiles.ensures.0
+
+pub image_of-returns-in_err-tiles-clause-follows : goal.image_of-returns-in_err-tiles-clause-follows
+image_of-returns-in_err-tiles-clause-follows g t c = IfOk-from_err _ _ c.from_residual-in_err-tiles.ensures.0
+
+pub image_of-returns-in_err-tiles-clause-stamped : goal.image_of-returns-in_err-tiles-clause-stamped
+image_of-returns-in_err-tiles-clause-stamped g t c = IfOk-from_err _ _ c.from_residual-in_err-tiles.ensures.0
+
+pub tile_unless_busy-returns-in_err-key-in-Render-clause-tile : goal.tile_unless_busy-returns-in_err-key-in-Render-clause-tile
+tile_unless_busy-returns-in_err-key-in-Render-clause-tile g t c = IfOk-from_err _ _ c.from_residual.ensures.0
+
+pub tile_unless_busy-returns-in_err-key-in-Render-clause-met : goal.tile_unless_busy-returns-in_err-key-in-Render-clause-met
+tile_unless_busy-returns-in_err-key-in-Render-clause-met g t c = IfOk-from_err _ _ c.from_residual.ensures.0
+
+pub tile_unless_busy-returns-in_err-key-in-Render-clause-follows : goal.tile_unless_busy-returns-in_err-key-in-Render-clause-follows
+tile_unless_busy-returns-in_err-key-in-Render-clause-follows g t c = IfOk-from_err _ _ c.from_residual.ensures.0
