@@ -254,3 +254,10 @@ nil_of (x ∷ xs) e = absurd (omega arith)
 -- a column within a rectangle, as the code counts it
 pub column_is : (x1 x2 left : ℤ) (i : ℕ) → negsuc 1073741823 ≤ℤ x1 → x2 ≤ℤ pos 1073741824 → left ≡ x1 → x1 +ℤ pos (int_gap x1 x2) ≡ x2 → i < int_gap x1 x2 → to_z w64 (of_z w64 (left +ℤ to_z w64 i)) ≡ x1 +ℤ pos i
 column_is x1 x2 left i low high same whole below = omega (arith, ints)
+
+-- it fits a word, and its place in the row too
+pub column_fits : (x1 x2 left : ℤ) (i : ℕ) → negsuc 1073741823 ≤ℤ x1 → x2 ≤ℤ pos 1073741824 → left ≡ x1 → x1 +ℤ pos (int_gap x1 x2) ≡ x2 → i < int_gap x1 x2 → FitsSigned w64 (left +ℤ to_z w64 i)
+column_fits x1 x2 left i low high same whole below = omega (arith, ints)
+
+pub place_fits : (x1 x2 : ℤ) (i : ℕ) → negsuc 1073741823 ≤ℤ x1 → x2 ≤ℤ pos 1073741824 → x1 +ℤ pos (int_gap x1 x2) ≡ x2 → i < int_gap x1 x2 → FitsSigned w64 (pos i)
+place_fits x1 x2 i low high whole below = omega (arith, ints)

@@ -1,7 +1,7 @@
 //! What an effect writes of itself (OpenFX 1.4, "kOfxActionDescribe",
 //! "kOfxImageEffectActionDescribeInContext").
-ghost use Rattle.std.specs.Prelude.{◌≡◌, ℕ, List, All, IfOk, OnErr, OnOk, map};
-ghost use Rattle.fx_props.specs.Entries.{AwaitEntries, HasValues, Wrote, WroteFronts, texts_entry};
+ghost use Rattle.std.specs.Prelude.{◌≡◌, ℕ, List, [], All, IfOk, OnErr, OnOk, map};
+ghost use Rattle.fx_props.specs.Entries.{AwaitEntries, HasValues, Wrote, WroteFronts, blank_entry, texts_entry};
 ghost use Rattle.fx_effect.specs.Shape.{Shape};
 ghost use Rattle.fx_effect.specs.Described.{context_text, depth_text, components_text, safety_text};
 ghost use Rattle.fx_effect.specs.Described.{description, description_entries, clip_description};
@@ -12,7 +12,7 @@ use fx_pixel::{Components, Depth};
 use fx_props::names::{
     COMPONENTS, CONTEXTS, DEPTHS, LABEL, NAME, OPTIONAL, SAFETY, TEMPORAL, TILES,
 };
-use fx_props::{PropEntry, PropKind, PropSet, PropValue, blank, set_of, write_entries};
+use fx_props::{PropEntry, PropKind, PropSet, PropValue, set_of, write_entries};
 use std::alloc::Global;
 
 /// What an effect says of itself, for `describe`: its label, the contexts and depths that it supports,
@@ -57,14 +57,26 @@ impl Description<'_> {
 pub fn descriptor(alloc: Global) -> Result<PropSet, Memory>
     ensures { (s : Shape) → IfOk result (λ set. AwaitEntries set (description s)) }
 {
-    let mut defs = Vec::new(alloc);
-    defs.push(blank(alloc, LABEL, PropKind::Text)?)?;
-    defs.push(blank(alloc, CONTEXTS, PropKind::Text)?)?;
-    defs.push(blank(alloc, DEPTHS, PropKind::Text)?)?;
-    defs.push(blank(alloc, TEMPORAL, PropKind::Int)?)?;
-    defs.push(blank(alloc, TILES, PropKind::Int)?)?;
-    defs.push(blank(alloc, SAFETY, PropKind::Text)?)?;
-    PropSet::new(alloc, defs)
+    let kinds = [
+        (LABEL, PropKind::Text),
+        (CONTEXTS, PropKind::Text),
+        (DEPTHS, PropKind::Text),
+        (TEMPORAL, PropKind::Int),
+        (TILES, PropKind::Int),
+        (SAFETY, PropKind::Text),
+    ];
+    set_of(alloc, blanks(alloc, &kinds)?)
+}
+
+// A property with no value yet of each name, with the kind beside it.
+fn blanks(alloc: Global, kinds: &[(&str, PropKind)]) -> Result<Vec<PropEntry>, Memory>
+    ensures { IfOk result (λ entries. entries.items ≡ map (λ k. blank_entry [] k.1 k.0.now) kinds.now) }
+{
+    let mut entries = Vec::new(alloc);
+    for (name, kind) in kinds {
+        entries.push(PropEntry::blank(alloc, name_of(alloc, name)?, *kind))?;
+    }
+    Ok(entries)
 }
 
 /// The set that describes an input clip, for `describe_in_context`: its name, whether it may be left
