@@ -1,9 +1,9 @@
-use Rattle.std.proofs.Common.{◌≡◌, ℕ, zero, suc, ◌<◌, List, [], ◌∷◌, length, map, set, get_or, slice_get, Some, refl, sym, ap, ◌∙◌, subst, arith}
+use Rattle.std.proofs.Common.{◌≡◌, ℕ, zero, suc, ◌<◌, List, [], ◌∷◌, length, map, set, get_or, slice_get, Option, Some, None, refl, sym, ap, ◌∙◌, subst, arith}
 use Rattle.std.proofs.lemmas.List.{length-map}
 use Rattle.std.proofs.lemmas.Option.{slice_get-get_or, slice_get-map, slice_get_within}
 use Rattle.std.specs.Option.{option_map}
 use Rattle.fx_graph.specs.declared.node.Node.{Node as AnyNode}
-use Rattle.fx_graph.specs.Edits.{edited, with_edit}
+use Rattle.fx_graph.specs.Edits.{HasParam, edited, with_edit}
 use Rattle.fx_graph.specs.Shown.{Shown, shown}
 use Rattle.fx_graph.specs.Kept.{AreNodes, HasOutput}
 use Rattle.fx_graph.specs.Nodes.{Form}
@@ -28,6 +28,34 @@ edited_is items k old node there is =
     let long = length-map items shown in
     slice_get-map shown items k
     ∙ ap (option_map shown) (slice_get-get_or items k old (omega (arith, low, long)) ∙ ap Some (sym is))
+
+abbrev or_else : {X : Type 0} → X → Option X → X
+or_else x None = x
+or_else x (Some y) = y
+
+pub index_mut-requires : goal.index_mut-requires
+index_mut-requires g c =
+    let items = c.args.self.now.nodes.items in
+    omega (arith, slice_get_within (map shown items) c.args.node c.requires.node c.requires.there, length-map items shown)
+
+pub put_param-requires : goal.put_param-requires
+put_param-requires g c =
+    let items = c.args.self.now.nodes.items in
+    let old = c.index_mut.result.now in
+    let there = edited_is items c.args.node old c.requires.node c.requires.there c.index_mut.ensures.value in
+    subst (λ (n : Shown g.row.E.Denot). HasParam n.does c.args.param c.args.value.def) (ap (or_else c.requires.node) (sym c.requires.there ∙ there)) c.requires.param
+
+pub returns-clause-others : goal.returns-clause-others
+returns-clause-others g c = record {
+  project = refl;
+  depth = refl;
+  components = refl;
+  output = refl;
+  file = refl;
+  format = refl;
+  first = refl;
+  last = refl;
+}
 
 pub returns-clause-nodes : goal.returns-clause-nodes
 returns-clause-nodes g c =
