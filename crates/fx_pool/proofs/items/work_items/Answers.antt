@@ -1,8 +1,9 @@
 use Rattle.std.proofs.Common.{◌≡◌, ℕ, List, All, Option, Some, length, sym, ap, subst, ◌∙◌, arith}
 use Rattle.std.proofs.lemmas.List.{length-map}
+use Rattle.fx_pool.specs.Draws.{DrawSeatState, all_parts}
 use Rattle.fx_pool.specs.Working.{EachRight, MadeRight, numbers_below}
 use Rattle.fx_pool.specs.Weights.{plus, weigh}
-use Rattle.fx_pool.proofs.Together.{all_ready, all_back, all_right, all_weigh}
+use Rattle.fx_pool.proofs.Together.{all_ready, all_ended, all_back, all_right, all_weigh}
 use Rattle.fx_pool.proofs.Apart.{asked_of, none_of, count_of, each_right, weigh-map}
 use Rattle.fx_pool.proofs.items.work_items.Goals as goal
 
@@ -65,3 +66,31 @@ returns-in-Ok-apart-clause-weighs g c =
 
 pub run_all-requires-clause-takes : goal.run_all-requires-clause-takes
 run_all-requires-clause-takes g c κs within = asked_of (g.J.ItemJob.takes c.args.job.now) c.args.items.items c.in-Ok.draw.items c.in-Ok.ensures.items (λ k i h. c.requires.takes k i (omega arith))
+
+pub set_up-requires-clause-draw : goal.set_up-requires-clause-draw
+set_up-requires-clause-draw g c =
+    let seat = c.in-Ok.ensures.seat in
+    (ap (λ (s : DrawSeatState (Option g.row.I.Denot)). s.draw) seat, ap (λ (s : DrawSeatState (Option g.row.I.Denot)). s.past) seat)
+
+pub set_up-requires-clause-parts : goal.set_up-requires-clause-parts
+set_up-requires-clause-parts g c =
+    let parts : c.in-Ok.all.parts ≡ all_parts = ap (λ (s : DrawSeatState (Option g.row.I.Denot)). s.parts) c.in-Ok.ensures.seat in
+    omega (arith, c.requires.seats.1)
+
+pub collect-requires-clause-draw : goal.collect-requires-clause-draw
+collect-requires-clause-draw g c =
+    let seat = c.in-Ok.ensures.seat in let all = c.set_up.ensures.all in (
+      all.0,
+      all.2 ∙ ap (λ (s : DrawSeatState (Option g.row.I.Denot)). s.drawn) seat,
+      all.1 ∙ ap (λ (s : DrawSeatState (Option g.row.I.Denot)). s.past) seat,
+    )
+
+pub collect-requires-clause-parts : goal.collect-requires-clause-parts
+collect-requires-clause-parts g c =
+    let parts : c.in-Ok.all.parts ≡ all_parts = ap (λ (s : DrawSeatState (Option g.row.I.Denot)). s.parts) c.in-Ok.ensures.seat in
+    let count = c.set_up.ensures.count in let len = c.run_all.ensures.len in
+    (omega (arith, c.set_up.ensures.all.3), omega (arith, c.requires.seats.0))
+
+pub collect-requires-clause-ended : goal.collect-requires-clause-ended
+collect-requires-clause-ended g c =
+    all_ended (g.J.ItemJob.fits c.args.job.now) (MadeRight (g.J.ItemJob.right c.args.job.now) c.in-Ok.draw.items) g.J.ItemJob.weight (λ m. g.J.ItemJob.out_weight m.1) c.in-Ok.draw c.set_up.new.workers.items c.run_all.new.workers.items c.run_all.ensures.count (λ i e h. (c.run_all.ensures.each i e h).worked)
