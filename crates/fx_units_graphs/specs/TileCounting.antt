@@ -1,6 +1,7 @@
 -- Effects of the tests, one of each thread safety, that leave each pixel as it is.
 use Rattle.std.specs.Prelude.{◌≡◌, ◌<◌, ℕ, false, List, [], ◌∷◌, pos, codes, refl}
 use Rattle.std.proofs.Common.{arith}
+use Rattle.fx_base.specs.Bounds.{Bounds}
 use Rattle.fx_pixel.specs.declared.Depth.TheVariants as depths
 use Rattle.fx_pixel.specs.declared.Components.TheVariants as components
 use Rattle.fx_params.specs.declared.def.ParamDef.{ParamDef}
@@ -34,6 +35,10 @@ abbrev pub counted_number : Safety → ℕ
 counted_number Unsafe = 0
 counted_number InstanceSafe = 1
 counted_number FullySafe = 2
+
+-- the tile of the picture that is shown alone
+abbrev pub lone_tile : Bounds
+lone_tile = record { x1 = pos 2; y1 = pos 4; x2 = pos 4; y2 = pos 6 }
 
 -- ---- its laws
 

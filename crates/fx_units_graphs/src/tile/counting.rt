@@ -211,17 +211,33 @@ fn rendered<'a, R: Threads + Wait + Clock + Abort + AllocGlobal + Sync>(
     requires effects { map (λ e. counted_number e.safety) effects.items ≡ 0 ∷ 1 ∷ 2 ∷ [] }
     requires workers { (1 ≤ workers) × (workers ≤ 64) }
 {
+    let (scene, permit) = scene_of(rt.alloc(), graph).expect(rt, "no scene");
+    let life = life_of(rt.alloc(), &scene, effects).expect(rt, "no life");
+    let outcome = rendered_in(rt, &scene, permit, &life, workers);
+    life.finish();
+    outcome
+}
+
+// The same in the life of the effects over the graph of a scene.
+fn rendered_in<'a, R: Threads + Wait + Clock + Abort + AllocGlobal + Sync>(
+    rt: &R,
+    scene: &Scene<Counted<'a>>,
+    permit: Permit,
+    life: &Life<Counted<'a>>,
+    workers: u32,
+) -> Outcome
+    requires life { HasLife (λ e. counted_number e.safety) scene.now.graph life.now }
+    requires holds { let g = scene.now.graph in
+        HasWanted (λ e. counted e.safety) g (images_in scene.now.store) g.output (pos 3) }
+    requires workers { (1 ≤ workers) × (workers ≤ 64) }
+{
     let alloc = rt.alloc();
-    let (scene, permit) = scene_of(alloc, graph).expect(rt, "no scene");
-    let life = life_of(alloc, &scene, effects).expect(rt, "no life");
     let grid = Grid { side: TILE };
-    let directory = Shared::new(alloc, &scene, permit, 9, 0, grid);
+    let directory = Shared::new(alloc, scene, permit, 9, 0, grid);
     let (shared, mut first) = directory.expect(rt, "no directory");
     let split = shared.split(alloc, &mut first, workers);
     let seats = split.expect(rt, "no seats");
-    let outcome = render_moment(rt, alloc, &FreePace, &scene, &life, &shared, seats, TIME);
-    life.finish();
-    match outcome {
+    match render_moment(rt, alloc, &FreePace, scene, life, &shared, seats, TIME) {
         Ok(rendered) => {
             let Rendered {
                 picture,

@@ -1,6 +1,13 @@
 //! One tile of a frame by itself: what is written of an image, and what is counted.
-ghost use Rattle.std.specs.Prelude.{◌≡◌, ◌∷◌, [], map};
-ghost use Rattle.fx_units_graphs.specs.TileCounting.{counted_number};
+ghost use Rattle.std.specs.Prelude.{◌≡◌, ◌+◌, ◌∷◌, [], length, map, pos};
+ghost use Rattle.fx_base.specs.Rect.{IsWithin};
+ghost use Rattle.fx_pixel.specs.declared.Depth.TheVariants.{Byte};
+ghost use Rattle.fx_pixel.specs.declared.Format.TheVariants.{RgbAlpha};
+ghost use Rattle.fx_life.specs.Posts.{HasLife};
+ghost use Rattle.fx_scene.specs.Right.{HasWanted};
+ghost use Rattle.fx_scene.specs.Scenes.{images_in};
+ghost use Rattle.fx_tile.specs.Seats.{AreAll};
+ghost use Rattle.fx_units_graphs.specs.TileCounting.{counted, counted_number, lone_tile};
 
 use crate::same::{same, same_at};
 use crate::tile::counting::effect::Counted;
@@ -9,9 +16,11 @@ use fx_base::{Grid, Rect};
 use fx_core::Totals;
 use fx_graph::Graph;
 use fx_image::Image;
+use fx_life::Life;
 use fx_pixel::{Components, Depth, Format, Pixel};
 use fx_region::Regions;
-use fx_tile::{Shared, TileCount, window_tile};
+use fx_scene::Scene;
+use fx_tile::{Shared, TileCount, TileSeat, window_tile};
 use std::process::Abort;
 use std::rt::Clock;
 use std::sync::Wait;
@@ -45,8 +54,57 @@ const ONCE: TileCount = TileCount {
     hits: 0,
 };
 
-// An image as large as the picture in which one of its tiles was written, what became of the tile, and the counts of
-// the directories.
+// The tile, where a scene has a picture like the one above.
+fn tile_of<R: Abort>(rt: &R, scene: &Scene<Counted<'_>>) -> Rect
+    ensures tile { result ≡ lone_tile }
+    ensures project { IsWithin lone_tile scene.now.graph.project }
+    ensures depth { scene.now.graph.depth ≡ Byte }
+    ensures format { scene.now.graph.format ≡ RgbAlpha }
+{
+    let tile = Rect::of(2, 4, 4, 6);
+    let graph = scene.graph();
+    if !tile.within(graph.project)
+        || graph.depth != Depth::Byte
+        || graph.format != Format::RgbAlpha
+    {
+        panic!(rt; "not the picture");
+    }
+    tile
+}
+
+// An image as large as the picture in which the tile was written, and what became of the tile.
+fn shown<'a, R: Wait + Clock + Abort + AllocGlobal>(
+    rt: &R,
+    scene: &Scene<Counted<'a>>,
+    life: &Life<Counted<'a>>,
+    shared: &Shared<Counted<'a>>,
+    seat: &mut TileSeat<Counted<'a>>,
+) -> (Image, TileCount)
+    requires life { HasLife (λ e. counted_number e.safety) scene.now.graph life.now }
+    requires holds { let g = scene.now.graph in
+        HasWanted (λ e. counted e.safety) g (images_in scene.now.store) g.output (pos 3) }
+    requires name { shared.now.directory.name.scene.value ≡ scene.now }
+    requires whole_name { shared.now.wholes.name.scene.value ≡ scene.now }
+    requires gates { shared.now.gates.gates ≡ 64 + length scene.now.graph.nodes }
+    requires first { AreAll shared.now seat.old [] }
+    ensures { AreAll shared.now seat.new [] }
+{
+    let alloc = rt.alloc();
+    let tile = tile_of(rt, scene);
+    let regions = Regions::of(alloc, scene, TIME).expect(rt, "no regions");
+    let whole = Rect::of(0, 0, 8, 8);
+    let blank = Image::new(alloc, whole, Depth::Byte, Components::Rgba, 32);
+    let mut image = blank.expect(rt, "no image");
+    let mut part = image.part(whole);
+    let count = window_tile(
+        rt, alloc, scene, &regions, life, shared, seat, TIME, tile, &mut part,
+    );
+    seat.directory.finds_none();
+    seat.wholes.finds_none();
+    (image, count.expect(rt, "no count"))
+}
+
+// What is shown of the tile, and the counts of the directories.
 fn tile_alone<'a, R: Wait + Clock + Abort + AllocGlobal>(
     rt: &R,
     graph: Graph<Counted<'a>>,
@@ -56,28 +114,13 @@ fn tile_alone<'a, R: Wait + Clock + Abort + AllocGlobal>(
 {
     let alloc = rt.alloc();
     let (scene, permit) = scene_of(alloc, graph).expect(rt, "no scene");
-    let tile = Rect::of(2, 4, 4, 6);
-    let (depth, format) = (scene.graph().depth, scene.graph().format);
-    if !tile.within(scene.graph().project) || depth != Depth::Byte || format != Format::RgbAlpha {
-        panic!(rt; "not the picture");
-    }
     let life = life_of(alloc, &scene, effects).expect(rt, "no life");
-    let regions = Regions::of(alloc, &scene, TIME).expect(rt, "no regions");
-    let grid = Grid { side: TILE };
-    let directory = Shared::new(alloc, &scene, permit, 9, 0, grid);
+    let directory = Shared::new(alloc, &scene, permit, 9, 0, Grid { side: TILE });
     let (shared, mut seat) = directory.expect(rt, "no directory");
-    let whole = Rect::of(0, 0, 8, 8);
-    let blank = Image::new(alloc, whole, Depth::Byte, Components::Rgba, 32);
-    let mut image = blank.expect(rt, "no image");
-    let mut part = image.part(whole);
-    let count = window_tile(
-        rt, alloc, &scene, &regions, &life, &shared, &mut seat, TIME, tile, &mut part,
-    );
+    let (image, count) = shown(rt, &scene, &life, &shared, &mut seat);
     life.finish();
-    seat.directory.finds_none();
-    seat.wholes.finds_none();
     let totals = shared.close(alloc, seat).expect(rt, "no totals");
-    (image, count.expect(rt, "no count"), totals)
+    (image, count, totals)
 }
 
 // The pixel of a place: that of the source in the tile, and else the one that was there before.

@@ -86,31 +86,32 @@ impl Course {
                 general: true,
                 ..self
             }),
-            Action::Create if self.filter || self.general => Some(Course {
-                idle: self.idle.checked_add(1)?,
-                ..self
-            }),
-            Action::Begin => Some(Course {
-                idle: self.idle.checked_sub(1)?,
-                in_sequence: self.in_sequence.checked_add(1)?,
-                ..self
-            }),
+            Action::Create if self.filter || self.general => {
+                self.counting(self.idle.checked_add(1), Some(self.in_sequence))
+            }
+            Action::Begin => {
+                self.counting(self.idle.checked_sub(1), self.in_sequence.checked_add(1))
+            }
             Action::Render if self.in_sequence > 0 => Some(self),
-            Action::End => Some(Course {
-                idle: self.idle.checked_add(1)?,
-                in_sequence: self.in_sequence.checked_sub(1)?,
-                ..self
-            }),
-            Action::Destroy => Some(Course {
-                idle: self.idle.checked_sub(1)?,
-                ..self
-            }),
+            Action::End => {
+                self.counting(self.idle.checked_add(1), self.in_sequence.checked_sub(1))
+            }
+            Action::Destroy => self.counting(self.idle.checked_sub(1), Some(self.in_sequence)),
             Action::Unload if self.idle == 0 && self.in_sequence == 0 => Some(Course {
                 stage: Stage::Unloaded,
                 ..self
             }),
             _ => None,
         }
+    }
+
+    // The same with so many instances in no sequence and in one, where there can be as many of each.
+    fn counting(self, idle: Option<u64>, in_sequence: Option<u64>) -> Option<Course> {
+        Some(Course {
+            idle: idle?,
+            in_sequence: in_sequence?,
+            ..self
+        })
     }
 }
 

@@ -1,27 +1,18 @@
-use Rattle.std.proofs.Common.{◌≡◌, ◌∙◌, refl, ap, pos, subst, sym, inr, arith, rules}
-use denote.Enum.Bare.{differs_false}
+use Rattle.std.proofs.Common.{◌≡◌, ◌∙◌, refl, ap, pos, subst, sym, inr, arith}
 use Rattle.std.proofs.lemmas.Int.{ints}
 use Rattle.fx_base.specs.Bounds.{Bounds}
 use Rattle.fx_base.specs.Rect.{IsWithin}
 use Rattle.fx_base.proofs.RectLemmas.{IsWithin-enclosed}
-use Rattle.fx_pixel.specs.contracts.Depth as depths
-use Rattle.fx_pixel.specs.contracts.Format as formats
-use Rattle.fx_pixel.specs.declared.Depth.TheVariants.{Byte}
-use Rattle.fx_pixel.specs.declared.Format.TheVariants.{RgbAlpha}
 use Rattle.fx_image.specs.Stored.{Stored}
-use Rattle.fx_graph.specs.Shown.{GraphShown}
 use Rattle.fx_tile.specs.Tiles.{IsRegion}
-use Rattle.fx_units_graphs.specs.declared.tile.counting.effect.Counted.{Counted}
-use Rattle.fx_units_graphs.proofs.tile.counting.alone.tile_alone.Goals as goal
+use Rattle.fx_units_graphs.specs.TileCounting.{lone_tile}
+use Rattle.fx_units_graphs.proofs.tile.counting.alone.shown.Goals as goal
 
--- the tile, and the rectangle of the image
-abbrev tile : Bounds
-tile = record { x1 = pos 2; y1 = pos 4; x2 = pos 4; y2 = pos 6 }
-
+-- the rectangle of the image
 abbrev whole : Bounds
 whole = record { x1 = pos 0; y1 = pos 0; x2 = pos 8; y2 = pos 8 }
 
-tile_is : IsRegion tile
+tile_is : IsRegion lone_tile
 tile_is =
     record {
       some = λ e. let left = ap (λ r. r.x1) e in absurd (omega (arith, ints, left));
@@ -37,9 +28,9 @@ tile_is =
       small = (omega arith, omega arith);
     }
 
-tile_inside : IsWithin tile whole
+tile_inside : IsWithin lone_tile whole
 tile_inside =
-    IsWithin-enclosed tile whole (record {
+    IsWithin-enclosed lone_tile whole (record {
       left = omega (arith, ints);
       right = omega (arith, ints);
       bottom = omega (arith, ints);
@@ -47,32 +38,28 @@ tile_inside =
     })
 
 pub window_tile-count-requires-clause-tile : goal.window_tile-count-requires-clause-tile
-window_tile-count-requires-clause-tile g c = subst IsRegion (sym c.of-tile.ensures) tile_is
+window_tile-count-requires-clause-tile g c = subst IsRegion (sym c.tile_of-tile.ensures.tile) tile_is
 
 pub window_tile-count-requires-clause-project : goal.window_tile-count-requires-clause-project
 window_tile-count-requires-clause-project g c =
-    subst (λ (s : GraphShown Counted). IsWithin c.of-tile.result s.project) c.graph-3.ensures.shown (c.within.ensures.0 c.if-not-within.false)
+    subst (λ (r : Bounds). IsWithin r c.args.scene.now.graph.project) (sym c.tile_of-tile.ensures.tile) c.tile_of-tile.ensures.project
 
 pub window_tile-count-requires-clause-within : goal.window_tile-count-requires-clause-within
 window_tile-count-requires-clause-within g c =
-    subst (λ (r : Bounds). IsWithin r c.part-part.result.rect) (sym c.of-tile.ensures)
-    (subst (IsWithin tile) (sym (c.part-part.ensures.rect ∙ c.of-whole.ensures)) tile_inside)
+    subst (λ (r : Bounds). IsWithin r c.part-part.result.rect) (sym c.tile_of-tile.ensures.tile)
+    (subst (IsWithin lone_tile) (sym (c.part-part.ensures.rect ∙ c.of-whole.ensures)) tile_inside)
 
 pub window_tile-count-requires-clause-depth : goal.window_tile-count-requires-clause-depth
 window_tile-count-requires-clause-depth g c =
-    let is : c.graph.result.now.depth ≡ Byte = differs_false depths.the_type (search rules) c.graph.result.now.depth Byte (sym c.if-ne.ensures) in
-    ap (λ (s : Stored). s.depth) c.part-part.ensures.value ∙ (rw c.expect-image.ensures at c.new-blank.ensures.depth) ∙ sym is
-    ∙ ap (λ (s : GraphShown Counted). s.depth) c.graph.ensures.shown
+    ap (λ (s : Stored). s.depth) c.part-part.ensures.value ∙ (rw c.expect-image.ensures at c.new-blank.ensures.depth) ∙ sym c.tile_of-tile.ensures.depth
 
 pub window_tile-count-requires-clause-components : goal.window_tile-count-requires-clause-components
 window_tile-count-requires-clause-components g c =
-    let is : c.graph-2.result.now.format ≡ RgbAlpha = differs_false formats.the_type (search rules) c.graph-2.result.now.format RgbAlpha (sym c.if-ne-2.ensures) in
-    let shown : c.expect-scene.result.0.graph.format ≡ RgbAlpha = ap (λ (s : GraphShown Counted). s.format) (sym c.graph-2.ensures.shown) ∙ is in
-    rw shown (ap (λ (s : Stored). s.components) c.part-part.ensures.value ∙ (rw c.expect-image.ensures at c.new-blank.ensures.components))
+    rw c.tile_of-tile.ensures.format (ap (λ (s : Stored). s.components) c.part-part.ensures.value ∙ (rw c.expect-image.ensures at c.new-blank.ensures.components))
 
-pub close-requires : goal.close-requires
-close-requires g c =
-    let all = rw c.expect-shared.ensures at c.new-directory.ensures.first in
+pub returns : goal.returns
+returns g c =
+    let all = c.requires.first in
     let was = all.first_is in
     let keeps = c.window_tile-count.ensures.seat in
     let rows = keeps.rows in
