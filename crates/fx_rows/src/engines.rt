@@ -5,6 +5,7 @@ ghost use Rattle.fx_life.specs.Posts.{HasLife};
 ghost use Rattle.fx_scene.specs.Right.{HasWanted};
 ghost use Rattle.fx_scene.specs.Scenes.{graph_shown, images_in};
 ghost use Rattle.fx_shipped.specs.Shipped.{meaning_of, number_of};
+ghost use Rattle.fx_tile.specs.Moments.{AreWorkers};
 ghost use Rattle.fx_turn.specs.Seats.{all_parts};
 
 use fx_base::{Grid, Memory};
@@ -19,7 +20,7 @@ use fx_scene::{Key, Scene, wants};
 use fx_seq::{SeqFault, Store};
 use fx_shipped::{Shipped, all_effects};
 use fx_text::{GraphFault, read_graph};
-use fx_tile::{Rendered, Shared, TileCount, render_moment};
+use fx_tile::{Rendered, Shared, TileCount, TileSeat, render_moment};
 use std::alloc::Global;
 use std::process::Abort;
 use std::rt::Clock;
@@ -98,6 +99,25 @@ fn empty_core(alloc: Global, permit: Permit) -> Result<Core<Key, Image>, Memory>
     }
 }
 
+// The picture of a frame of a scene by whole frames.
+fn frame_of<R: Wait + Clock + Abort + AllocGlobal>(
+    rt: &R,
+    scene: &Scene<Shipped>,
+    permit: Permit,
+    life: &Life<Shipped>,
+    at: u32,
+) -> Image
+    requires at { at ≤ 999999 }
+    requires life { HasLife number_of scene.now.graph life.now }
+{
+    let alloc = rt.alloc();
+    let mut core = empty_core(alloc, permit).expect(rt, "no core");
+    let (gates, mut seat) = gates_for(alloc, scene.graph()).expect(rt, "no gates");
+    let at = i64::from(at);
+    let picture = frame(rt, alloc, scene, life, &mut core, &gates, &mut seat, at);
+    picture.expect(rt, "no picture")
+}
+
 /// The picture of a frame by whole frames.
 pub(crate) fn by_frames<R: Wait + Clock + Abort + AllocGlobal>(
     rt: &R,
@@ -107,21 +127,64 @@ pub(crate) fn by_frames<R: Wait + Clock + Abort + AllocGlobal>(
 ) -> Image
     requires { at ≤ 999999 }
 {
-    let alloc = rt.alloc();
     let (scene, permit) = scene_of(rt, library, text, at);
-    let mut core = empty_core(alloc, permit).expect(rt, "no core");
-    let (gates, mut seat) = gates_for(alloc, scene.graph()).expect(rt, "no gates");
-    let life = life_of(alloc, &scene).expect(rt, "no life");
-    let at = i64::from(at);
-    let picture = frame(rt, alloc, &scene, &life, &mut core, &gates, &mut seat, at);
+    let life = life_of(rt.alloc(), &scene).expect(rt, "no life");
+    let picture = frame_of(rt, &scene, permit, &life, at);
     life.finish();
-    picture.expect(rt, "no picture")
+    picture
 }
 
 fn grid_of(rt: &impl Abort, side: u32) -> Grid {
     assert!(rt; 1 <= side);
     assert!(rt; side <= 1024);
     Grid { side }
+}
+
+// What the workers over a scene share, and the seat of each.
+fn workers_for(
+    rt: &(impl Abort + AllocGlobal),
+    scene: &Scene<Shipped>,
+    permit: Permit,
+    engine: Engine,
+) -> (Shared<Shipped>, Vec<TileSeat<Shipped>>)
+    requires { (1 ≤ engine.workers) × (engine.workers ≤ 64) }
+    ensures name { result.0.directory.name.scene.value ≡ scene.now }
+    ensures whole_name { result.0.wholes.name.scene.value ≡ scene.now }
+    ensures gates { result.0.gates.gates ≡ 64 + length scene.now.graph.nodes }
+    ensures seats { AreWorkers result.0 result.1 }
+{
+    let alloc = rt.alloc();
+    let grid = grid_of(rt, engine.side);
+    let shared = Shared::new(alloc, scene, permit, engine.cache, engine.cache, grid);
+    let (shared, mut first) = shared.expect(rt, "no tiles");
+    let seats = shared.split(alloc, &mut first, engine.workers);
+    (shared, seats.expect(rt, "no seats"))
+}
+
+// The picture of a frame of a scene by tiles, and what became of them.
+fn tiles_of<R: Threads + Wait + Clock + Sync + Abort + AllocGlobal>(
+    rt: &R,
+    scene: &Scene<Shipped>,
+    permit: Permit,
+    life: &Life<Shipped>,
+    at: u32,
+    engine: Engine,
+) -> (Image, TileCount)
+    requires at { at ≤ 999999 }
+    requires workers { (1 ≤ engine.workers) × (engine.workers ≤ 64) }
+    requires life { HasLife number_of scene.now.graph life.now }
+    requires holds { let g = scene.now.graph in HasWanted meaning_of g (images_in scene.now.store) g.output (pos at) }
+{
+    let alloc = rt.alloc();
+    let (shared, seats) = workers_for(rt, scene, permit, engine);
+    let at = i64::from(at);
+    let made = render_moment(rt, alloc, &FreePace, scene, life, &shared, seats, at);
+    let Rendered {
+        picture,
+        count,
+        seats: _,
+    } = made.ok().expect(rt, "no picture");
+    (picture, count)
 }
 
 /// The picture of a frame by tiles, and what became of them.
@@ -135,24 +198,11 @@ pub(crate) fn by_tiles<R: Threads + Wait + Clock + Sync + Abort + AllocGlobal>(
     requires at { at ≤ 999999 }
     requires workers { (1 ≤ engine.workers) × (engine.workers ≤ 64) }
 {
-    let alloc = rt.alloc();
     let (scene, permit) = scene_of(rt, library, text, at);
-    let grid = grid_of(rt, engine.side);
-    let cache = engine.cache;
-    let shared = Shared::new(alloc, &scene, permit, cache, cache, grid);
-    let (shared, mut first) = shared.expect(rt, "no tiles");
-    let seats = shared.split(alloc, &mut first, engine.workers);
-    let seats = seats.expect(rt, "no seats");
-    let life = life_of(alloc, &scene).expect(rt, "no life");
-    let at = i64::from(at);
-    let made = render_moment(rt, alloc, &FreePace, &scene, &life, &shared, seats, at);
+    let life = life_of(rt.alloc(), &scene).expect(rt, "no life");
+    let made = tiles_of(rt, &scene, permit, &life, at, engine);
     life.finish();
-    let Rendered {
-        picture,
-        count,
-        seats: _,
-    } = made.ok().expect(rt, "no picture");
-    (picture, count)
+    made
 }
 
 /// Whether two pictures are the same, pixel for pixel.
