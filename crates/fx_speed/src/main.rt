@@ -87,7 +87,20 @@ fn done<R: Threads + Wait + Clock + Sync>(
     what: &str,
     count: u32,
 ) -> Result<Option<u64>, Memory> {
-    let number = match what {
+    match together(rt, alloc, what, count) {
+        Some(number) => Ok(Some(number?)),
+        None => alone(alloc, what, count),
+    }
+}
+
+// What workers do under a word, if it is one of theirs.
+fn together<R: Threads + Wait + Clock + Sync>(
+    rt: &R,
+    alloc: Global,
+    what: &str,
+    count: u32,
+) -> Option<Result<u64, Memory>> {
+    Some(match what {
         "shared" => shared::ask_together(rt, alloc, 1, count),
         "sharing" => shared::ask_together(rt, alloc, 4, count),
         "turn" => turns::add_together(rt, alloc, 1, count),
@@ -95,6 +108,13 @@ fn done<R: Threads + Wait + Clock + Sync>(
         "one" => pool::work_together(rt, alloc, 1, count),
         "two" => pool::work_together(rt, alloc, 2, count),
         "four" => pool::work_together(rt, alloc, 4, count),
+        _ => return None,
+    })
+}
+
+// What is done under a word with no workers. None where it is another one.
+fn alone(alloc: Global, what: &str, count: u32) -> Result<Option<u64>, Memory> {
+    let number = match what {
         "kept" => kept::ask_kept(alloc, count),
         "draw" => pool::draw_alone(alloc, count),
         "graph" => graph::length(alloc, count),
