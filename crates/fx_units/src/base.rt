@@ -1,6 +1,6 @@
 ghost use Rattle.fx_base.specs.Rect.{IsNear};
 
-use crate::same::same;
+use crate::same::{same, same_at};
 use fx_base::{Fix, Grid, Name, Names, Pattern, Rect, Status, offset};
 use std::process::Abort;
 
@@ -79,7 +79,7 @@ const NO_PATTERNS: &[&str] = &["", "a#b#", "#-#", "a\0#"];
 #[test]
 fn other_texts_are_no_patterns(rt: HostRuntime) {
     for text in NO_PATTERNS {
-        assert!(rt; pattern(&rt, text).is_none(), "at {text:?}");
+        same_at(&rt, text, pattern(&rt, text).is_none(), true);
     }
 }
 

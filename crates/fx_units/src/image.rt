@@ -90,12 +90,20 @@ fn views_are_read_by_rows(rt: HostRuntime) {
 fn pixels_of_a_row_are_read_and_set(rt: HostRuntime) {
     let mut row = [0u8; 16];
     set_pixel(Depth::Short, &mut row, 1, GREY);
-    same(&rt, row, [0, 0, 0, 0, 0, 0, 0, 0, 1, 2, 1, 2, 1, 2, 1, 2]);
+    same(
+        &rt,
+        row.as_slice(),
+        [0, 0, 0, 0, 0, 0, 0, 0, 1, 2, 1, 2, 1, 2, 1, 2].as_slice(),
+    );
     same(&rt, sample(Depth::Short, &row, 4), 258);
     same(&rt, pixel(Depth::Short, Components::Rgba, &row, 1), GREY);
     same(&rt, pixel_size(Depth::Short, Components::Rgba), 8);
     set_sample(Depth::Short, &mut row, 1, 772);
-    same(&rt, row, [0, 0, 3, 4, 0, 0, 0, 0, 1, 2, 1, 2, 1, 2, 1, 2]);
+    same(
+        &rt,
+        row.as_slice(),
+        [0, 0, 3, 4, 0, 0, 0, 0, 1, 2, 1, 2, 1, 2, 1, 2].as_slice(),
+    );
 }
 
 #[test]
@@ -103,7 +111,7 @@ fn pixels_are_copied_between_rows(rt: HostRuntime) {
     let source = [1, 2, 3, 4];
     let mut row = [9u8; 8];
     copy_pixels(Depth::Short, Components::Alpha, &source, &mut row, 1, 2);
-    same(&rt, row, [9, 9, 1, 2, 3, 4, 9, 9]);
+    same(&rt, row.as_slice(), [9, 9, 1, 2, 3, 4, 9, 9].as_slice());
 }
 
 #[test]

@@ -1,60 +1,10 @@
 //! Rows worked by hand: values between keys, refusals, and each call once with ample memory.
-ghost use Rattle.std.specs.Prelude.{◌≤ℤ◌, pos, IfOk};
+ghost use Rattle.std.specs.Prelude.{◌≤ℤ◌, pos};
 
 use crate::same::{same, same_at};
-use fx_base::{Fix, Name, Names};
+use fx_base::Fix;
 use fx_params::{Param, ParamDef, ParamFault, ParamKind, ParamValue};
-use std::alloc::{AllocError, Global};
 use std::process::Abort;
-
-// A definition from -20 to 20 that starts with 7.
-fn small(alloc: Global, kind: ParamKind) -> Result<ParamDef, AllocError>
-    ensures low { IfOk result (λ def. def.least ≤ℤ def.start) }
-    ensures high { IfOk result (λ def. def.start ≤ℤ def.greatest) }
-    ensures top { IfOk result (λ def. pos 0 ≤ℤ def.greatest) }
-{
-    Ok(ParamDef {
-        name: Name::of(String::from_str(alloc, "amount")?),
-        kind,
-        least: -20,
-        greatest: 20,
-        choices: Names::of(Vec::new(alloc)),
-        start: 7,
-    })
-}
-
-// A size from 1 to 20 that starts with 3.
-fn size(alloc: Global) -> Result<ParamDef, AllocError>
-    ensures low { IfOk result (λ def. def.least ≤ℤ def.start) }
-    ensures high { IfOk result (λ def. def.start ≤ℤ def.greatest) }
-    ensures top { IfOk result (λ def. pos 0 ≤ℤ def.greatest) }
-{
-    Ok(ParamDef {
-        name: Name::of(String::from_str(alloc, "size")?),
-        kind: ParamKind::Int,
-        least: 1,
-        greatest: 20,
-        choices: Names::of(Vec::new(alloc)),
-        start: 3,
-    })
-}
-
-// What a value becomes, without keys and at a key.
-fn divided(rt: &(impl Abort + AllocGlobal), def: ParamDef, value: i64, by: u32) -> (i64, i64)
-    requires low { def.least ≤ℤ def.start }
-    requires high { def.start ≤ℤ def.greatest }
-    requires top { pos 0 ≤ℤ def.greatest }
-{
-    let mut param = Param::new(rt.alloc(), def).expect(rt, "no parameter");
-    param
-        .set_value(ParamValue::Int(value))
-        .expect(rt, "no value");
-    param
-        .set_key(rt.alloc(), 3, ParamValue::Int(value))
-        .expect(rt, "no key");
-    param.divide(by.max(1));
-    (param.plain(), param.value_at(3))
-}
 
 fn set_key(rt: &(impl Abort + AllocGlobal), param: &mut Param, frame: i16, value: ParamValue) {
     param
@@ -64,7 +14,8 @@ fn set_key(rt: &(impl Abort + AllocGlobal), param: &mut Param, frame: i16, value
 
 // A parameter from -20 to 20 that starts with 7.
 fn param(rt: &(impl Abort + AllocGlobal), kind: ParamKind) -> Param {
-    let def = small(rt.alloc(), kind).expect(rt, "no definition");
+    let mut def = ParamDef::int(rt.alloc(), "amount", -20, 20, 7).expect(rt, "no definition");
+    def.kind = kind;
     Param::new(rt.alloc(), def).expect(rt, "no parameter")
 }
 
@@ -82,25 +33,35 @@ const HALVES: &[(i64, u32, i64)] = &[
     (-20, 8, -2),
 ];
 
-#[test]
-fn divides_to_the_nearest_and_halves_up(rt: HostRuntime) {
-    for &(value, by, wanted) in HALVES {
-        let def = small(rt.alloc(), ParamKind::Int).expect(&rt, "no definition");
-        let had = divided(&rt, def, value, by);
-        same_at(&rt, &value, had, (wanted, wanted));
+// What each value becomes without keys and at a key, in a parameter from the least to 20.
+fn divides(rt: &(impl Abort + AllocGlobal), least: i64, start: i64, rows: &[(i64, u32, i64)])
+    requires low { least ≤ℤ start }
+    requires high { start ≤ℤ pos 20 }
+{
+    for &(value, by, wanted) in rows {
+        let def = ParamDef::int(rt.alloc(), "amount", least, 20, start).expect(rt, "no number");
+        let mut param = Param::new(rt.alloc(), def).expect(rt, "no parameter");
+        let set = param.set_value(ParamValue::Int(value));
+        set.expect(rt, "no value");
+        let key = param.set_key(rt.alloc(), 3, ParamValue::Int(value));
+        key.expect(rt, "no key");
+        param.divide(by.max(1));
+        let had = (param.plain(), param.value_at(3));
+        same_at(rt, &value, had, (wanted, wanted));
     }
 }
 
-// The same, of a size.
+#[test]
+fn divides_to_the_nearest_and_halves_up(rt: HostRuntime) {
+    divides(&rt, -20, 7, HALVES);
+}
+
+// The same, of a size that is at least 1.
 const SIZES: &[(i64, u32, i64)] = &[(3, 8, 1), (1, 2, 1), (1, 4, 1), (6, 4, 2)];
 
 #[test]
 fn divides_to_the_least_at_least(rt: HostRuntime) {
-    for &(value, by, wanted) in SIZES {
-        let def = size(rt.alloc()).expect(&rt, "no definition");
-        let had = divided(&rt, def, value, by);
-        same_at(&rt, &value, had, (wanted, wanted));
-    }
+    divides(&rt, 1, 3, SIZES);
 }
 
 // Frames, and the values there between two keys and in steps.
@@ -191,9 +152,8 @@ const ALL_THE_WAY: &[(i64, i64)] = &[
 
 #[test]
 fn goes_all_the_way(rt: HostRuntime) {
-    let mut def = small(rt.alloc(), ParamKind::Int).expect(&rt, "no definition");
-    def.least = i64::MIN;
-    def.greatest = i64::MAX;
+    let (least, greatest) = (i64::MIN, i64::MAX);
+    let def = ParamDef::int(rt.alloc(), "amount", least, greatest, 7).expect(&rt, "no definition");
     let mut param = Param::new(rt.alloc(), def).expect(&rt, "no parameter");
     let first = param.set_key(rt.alloc(), -1073741824, ParamValue::Int(i64::MIN));
     same(&rt, first, Ok(()));

@@ -179,10 +179,11 @@ impl CountPace {
     // Whether each worker called it once more than it drew a number: its seat has what it drew. The
     // last seat is the first worker's.
     fn was_asked(&self, seats: &[Vec<u64>]) -> bool {
-        self.calls.len() == seats.len()
-            && self.calls.iter().zip(seats.iter().rev()).all(|(calls, seat)| calls.load(
-                Ordering::SeqCst,
-            ) == seat.len() as u64 + 1)
+        let mut asked = self.calls.len() == seats.len();
+        for (calls, seat) in self.calls.iter().zip(seats.iter().rev()) {
+            asked &= calls.load(Ordering::SeqCst) == seat.len() as u64 + 1;
+        }
+        asked
     }
 }
 

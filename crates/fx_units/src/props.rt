@@ -78,12 +78,10 @@ fn window(alloc: Global) -> Result<PropDef, AllocError>
 
 fn set(rt: &(impl Abort + AllocGlobal)) -> PropSet {
     let alloc = rt.alloc();
-    let mut defs = Vec::new(alloc);
-    defs.push(time(alloc).expect(rt, "no time"))
-        .expect(rt, "no time");
-    defs.push(context(rt)).expect(rt, "no context");
-    defs.push(window(alloc).expect(rt, "no window"))
-        .expect(rt, "no window");
+    let time = time(alloc).expect(rt, "no time");
+    let context = context(rt);
+    let window = window(alloc).expect(rt, "no window");
+    let defs = vec![in alloc; time, context, window].expect(rt, "no definitions");
     PropSet::new(alloc, defs).expect(rt, "no set")
 }
 

@@ -6,7 +6,7 @@ ghost use Rattle.std.specs.Map.{remove_entry};
 ghost use Rattle.fx_core.specs.Flight.{Stands};
 ghost use Rattle.fx_core.specs.Answer.{Joins, IsFreshFor};
 
-use crate::same::{same, surely_same};
+use crate::same::{same, same_at, surely_same};
 use fx_core::{Answer, Core, Flight, Permit, Totals, every_run};
 use std::process::Abort;
 use std::sync::Arc;
@@ -41,34 +41,25 @@ fn fly(rt: &(impl Abort + AllocGlobal), core: &mut Letters, letter: u8, number: 
     match ask(rt, core, letter) {
         Answer::Fly(mut flight) => {
             surely_same(rt, flight.ticket.number, number);
-            same(rt, flight.ticket.scene, 7);
-            assert!(rt; !flight.ticket.stamped);
+            let ticket = (flight.ticket.scene, flight.ticket.stamped);
+            same_at(rt, &letter, ticket, (7, false));
             flight.ticket.stamped = true;
             flight
         }
-        Answer::Here(_) => panic!(rt; "{letter} is kept"),
-        Answer::Busy => panic!(rt; "{letter} flies"),
+        Answer::Here(_) | Answer::Busy => panic!(rt; "kept or flying"),
     }
 }
 
-fn busy(rt: &(impl Abort + AllocGlobal), core: &mut Letters, letter: u8)
+// Asks for a key that is kept with this value, or that flies where there is none.
+fn finds(rt: &(impl Abort + AllocGlobal), core: &mut Letters, letter: u8, value: Option<u32>)
     ensures { core.new.flying ≡ core.old.flying }
 {
-    match ask(rt, core, letter) {
-        Answer::Busy => {}
-        Answer::Here(_) => panic!(rt; "{letter} is kept"),
-        Answer::Fly(_flight) => panic!(rt; "{letter} doesn't fly"),
-    }
-}
-
-fn here(rt: &(impl Abort + AllocGlobal), core: &mut Letters, letter: u8, value: u32)
-    ensures { core.new.flying ≡ core.old.flying }
-{
-    match ask(rt, core, letter) {
-        Answer::Here(kept) => same(rt, *kept, value),
-        Answer::Busy => panic!(rt; "{letter} flies"),
-        Answer::Fly(_flight) => panic!(rt; "{letter} isn't kept"),
-    }
+    let kept = match ask(rt, core, letter) {
+        Answer::Here(kept) => Some(*kept),
+        Answer::Busy => None,
+        Answer::Fly(_flight) => panic!(rt; "neither kept nor flying"),
+    };
+    same_at(rt, &letter, kept, value);
 }
 
 fn land(rt: &(impl Abort + AllocGlobal), core: &mut Letters, flight: Flight<u8>, value: u32)
@@ -107,7 +98,7 @@ fn make(
 {
     let flight = fly(rt, core, letter, number);
     if is_awaited {
-        busy(rt, core, letter);
+        finds(rt, core, letter, None);
     }
     land(rt, core, flight, value);
 }
@@ -125,7 +116,7 @@ fn let_go(rt: &(impl Abort + AllocGlobal), core: &mut Letters, letter: u8, numbe
 fn one_is_kept(rt: HostRuntime) {
     let mut core = start(&rt, 1);
     make(&rt, &mut core, b'a', 0, 10, true);
-    here(&rt, &mut core, b'a', 10);
+    finds(&rt, &mut core, b'a', Some(10));
     make(&rt, &mut core, b'b', 1, 20, false);
     let_go(&rt, &mut core, b'a', 2);
     let by_hand = Totals {
@@ -148,7 +139,7 @@ fn outlasts(rt: &(impl Abort + AllocGlobal), core: &mut Letters, letter: u8, oth
     let flight = fly(rt, core, letter, 1);
     let second = fly(rt, core, other, 2);
     land(rt, core, second, value);
-    busy(rt, core, letter);
+    finds(rt, core, letter, None);
     core.drop_flight(flight);
 }
 
@@ -173,9 +164,9 @@ fn none_is_kept(rt: HostRuntime) {
 fn two_are_kept(rt: HostRuntime) {
     let mut core = start(&rt, 2);
     make(&rt, &mut core, b'a', 0, 10, true);
-    here(&rt, &mut core, b'a', 10);
+    finds(&rt, &mut core, b'a', Some(10));
     make(&rt, &mut core, b'b', 1, 20, false);
-    here(&rt, &mut core, b'a', 10);
+    finds(&rt, &mut core, b'a', Some(10));
     let by_hand = Totals {
         asks: 5,
         hits: 2,
@@ -195,9 +186,9 @@ fn the_least_recently_used_goes(rt: HostRuntime) {
     let mut core = start(&rt, 2);
     make(&rt, &mut core, b'a', 0, 10, false);
     make(&rt, &mut core, b'b', 1, 20, false);
-    here(&rt, &mut core, b'a', 10);
+    finds(&rt, &mut core, b'a', Some(10));
     make(&rt, &mut core, b'c', 2, 30, false);
-    here(&rt, &mut core, b'a', 10);
+    finds(&rt, &mut core, b'a', Some(10));
     let_go(&rt, &mut core, b'b', 3);
     let by_hand = Totals {
         asks: 6,

@@ -4,7 +4,7 @@ ghost use Rattle.std.specs.Arc.{arc_value};
 ghost use Rattle.fx_core.specs.Answer.{IsFreshFor, Joins};
 ghost use Rattle.fx_turn.specs.Seats.{all_parts};
 
-use crate::same::{same, surely_same};
+use crate::same::{same, same_at, surely_same};
 use fx_core::{Answer, Flight, Permit, Totals};
 use fx_directory::{DirSeat, Directory, Suits};
 use std::process::Abort;
@@ -79,49 +79,33 @@ pub(crate) fn fly<R: Abort + Wait + Clock + AllocGlobal>(
     match ask(rt, doubles, seat, key) {
         Answer::Fly(mut flight) => {
             surely_same(rt, flight.ticket.number, number);
-            same(rt, flight.ticket.scene, 7);
-            assert!(rt; !flight.ticket.stamped);
+            let ticket = (flight.ticket.scene, flight.ticket.stamped);
+            same_at(rt, &key, ticket, (7, false));
             flight.ticket.stamped = true;
             flight
         }
-        Answer::Here(_) => panic!(rt; "{key} is kept"),
-        Answer::Busy => panic!(rt; "{key} flies"),
+        Answer::Here(_) | Answer::Busy => panic!(rt; "kept or flying"),
     }
 }
 
-pub(crate) fn busy<R: Abort + Wait + Clock + AllocGlobal>(
+// Asks for a key that is kept with this number, or that flies where there is none.
+pub(crate) fn finds<R: Abort + Wait + Clock + AllocGlobal>(
     rt: &R,
     doubles: &Doubles,
     seat: &mut DoubleSeat,
     key: u32,
+    number: Option<u64>,
 )
     requires { seat.old.row ≡ doubles.now }
     ensures row { (seat.new.row ≡ seat.old.row) × (seat.new.parts ≡ seat.old.parts) }
     ensures aloft { seat.new.aloft ≡ seat.old.aloft }
 {
-    match ask(rt, doubles, seat, key) {
-        Answer::Busy => {}
-        Answer::Here(_) => panic!(rt; "{key} is kept"),
-        Answer::Fly(_flight) => panic!(rt; "{key} doesn't fly"),
-    }
-}
-
-pub(crate) fn here<R: Abort + Wait + Clock + AllocGlobal>(
-    rt: &R,
-    doubles: &Doubles,
-    seat: &mut DoubleSeat,
-    key: u32,
-    number: u64,
-)
-    requires { seat.old.row ≡ doubles.now }
-    ensures row { (seat.new.row ≡ seat.old.row) × (seat.new.parts ≡ seat.old.parts) }
-    ensures aloft { seat.new.aloft ≡ seat.old.aloft }
-{
-    match ask(rt, doubles, seat, key) {
-        Answer::Here(kept) => same(rt, kept.number, number),
-        Answer::Busy => panic!(rt; "{key} flies"),
-        Answer::Fly(_flight) => panic!(rt; "{key} isn't kept"),
-    }
+    let kept = match ask(rt, doubles, seat, key) {
+        Answer::Here(kept) => Some(kept.number),
+        Answer::Busy => None,
+        Answer::Fly(_flight) => panic!(rt; "neither kept nor flying"),
+    };
+    same_at(rt, &key, kept, number);
 }
 
 // Lands the double of its key under the one flight that stands.

@@ -3,7 +3,7 @@
 ghost use Rattle.std.specs.Prelude.{◌≡◌, []};
 ghost use Rattle.fx_turn.specs.Seats.{all_parts};
 
-use crate::directory::doubles::{DoubleSeat, Doubles, busy, close, fly, here, land, let_go, start};
+use crate::directory::doubles::{DoubleSeat, Doubles, close, finds, fly, land, let_go, start};
 use crate::same::same;
 use fx_core::Totals;
 use std::process::Abort;
@@ -25,7 +25,7 @@ fn make<R: Abort + Wait + Clock + AllocGlobal>(
 {
     let flight = fly(rt, doubles, seat, key, number);
     if is_awaited {
-        busy(rt, doubles, seat, key);
+        finds(rt, doubles, seat, key, None);
     }
     land(rt, doubles, seat, flight);
 }
@@ -50,7 +50,7 @@ fn give_up<R: Abort + Wait + Clock + AllocGlobal>(
 fn one_is_kept(rt: HostRuntime) {
     let (doubles, mut seat) = start(&rt, 1);
     make(&rt, &doubles, &mut seat, 1, 0, true);
-    here(&rt, &doubles, &mut seat, 1, 2);
+    finds(&rt, &doubles, &mut seat, 1, Some(2));
     make(&rt, &doubles, &mut seat, 2, 1, false);
     give_up(&rt, &doubles, &mut seat, 1, 2);
     let by_hand = Totals {
@@ -107,7 +107,7 @@ fn what_is_kept_stays_under_another_name(rt: HostRuntime) {
     let (doubles, mut seat) = start(&rt, 1);
     make(&rt, &doubles, &mut seat, 1, 0, false);
     let (doubles, mut seat) = renamed(&rt, doubles, seat, 6);
-    here(&rt, &doubles, &mut seat, 1, 2);
+    finds(&rt, &doubles, &mut seat, 1, Some(2));
     let by_hand = Totals {
         asks: 2,
         hits: 1,
