@@ -67,8 +67,13 @@ impl<E: Catalogue + Drop> Shared<E> {
         let asking = Asking::new(alloc)?;
         let count = 64 + scene.graph().nodes.len() as u32;
         let (gates, gate_seat) = Gates::new(alloc, count)?;
-        let ((directory, tiles), (wholes, images)) =
-            both_directories(alloc, scene, permit, capacity, whole_capacity)?;
+        let ((directory, tiles), (wholes, images)) = both_directories(
+            alloc,
+            scene,
+            permit,
+            capacity,
+            whole_capacity,
+        )?;
         let shared = Shared {
             directory,
             wholes,

@@ -1,4 +1,4 @@
-use Rattle.std.proofs.Common.{◌≡◌, ◌∙◌, refl, ap, pos, subst, sym, inr, arith}
+use Rattle.std.proofs.Common.{◌∙◌, refl, ap, pos, subst, sym, inr, arith}
 use Rattle.std.proofs.lemmas.Int.{ints}
 use Rattle.fx_base.specs.Bounds.{Bounds}
 use Rattle.fx_base.specs.Rect.{IsWithin}
