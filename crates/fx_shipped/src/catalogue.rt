@@ -4,6 +4,7 @@ ghost use Rattle.fx_shipped.specs.Shipped.{name_of, number_of, effect_of};
 ghost use Rattle.fx_shipped.specs.ShippedLaws.{one_name_each, one_meaning_each, few_numbers};
 
 use crate::Shipped;
+use crate::all::EFFECTS;
 use fx_effect::{Catalogue, Safety};
 
 impl Shipped {
@@ -57,36 +58,12 @@ impl Catalogue for Shipped {
     ghost few = { few_numbers };
 
     fn named(name: &str) -> Option<Shipped> {
-        match name {
-            "solid" => Some(Shipped::Solid),
-            "checker" => Some(Shipped::Checker),
-            "ramp" => Some(Shipped::Ramp),
-            "grain" => Some(Shipped::Grain),
-            "invert" => Some(Shipped::Invert),
-            "gain" => Some(Shipped::Gain),
-            "premult" => Some(Shipped::Premult),
-            "unpremult" => Some(Shipped::Unpremult),
-            "shuffle" => Some(Shipped::Shuffle),
-            "saturation" => Some(Shipped::Saturation),
-            "posterise" => Some(Shipped::Posterise),
-            "boxblur" => Some(Shipped::Boxblur),
-            "erode" => Some(Shipped::Erode),
-            "dilate" => Some(Shipped::Dilate),
-            "convolve3" => Some(Shipped::Convolve3),
-            "crop" => Some(Shipped::Crop),
-            "translate" => Some(Shipped::Translate),
-            "mirror" => Some(Shipped::Mirror),
-            "timeoffset" => Some(Shipped::Timeoffset),
-            "frameblend" => Some(Shipped::Frameblend),
-            "framediff" => Some(Shipped::Framediff),
-            "echo" => Some(Shipped::Echo),
-            "dissolve" => Some(Shipped::Dissolve),
-            "wipe" => Some(Shipped::Wipe),
-            "merge" => Some(Shipped::Merge),
-            "keymix" => Some(Shipped::Keymix),
-            "autogain" => Some(Shipped::Autogain),
-            _ => None,
+        for effect in &EFFECTS {
+            if name == effect.name() {
+                return Some(*effect);
+            }
         }
+        None
     }
 
     fn number(&self) -> u32 {
