@@ -109,8 +109,11 @@ const MOVING: Filmed<'static> = Filmed {
     nodes: r#"{"name":"s","source":"s#.pam","first":0,"last":2},{"name":"m","effect":"translate","clips":{"Source":"s"},"params":{"dx":{"keys":[[0,0],[1,8]]}}},{"name":"n","effect":"framediff","clips":{"Source":"m"},"params":{"gap":1}}"#,
 };
 
-// A frame, a region of the output, and where it is found.
-const ENDS: &[(Filmed<'static>, u32, [i64; 4], &str)] = &[
+// A frame, a region of the output, and what is told of it.
+type Row = (Filmed<'static>, u32, [i64; 4], &'static str);
+
+// Where a region is found.
+const ENDS_AT_EDGES: &[Row] = &[
     // A tile on one side of the edge is its clip there, and one across it is rendered.
     (
         WIPE,
@@ -140,6 +143,9 @@ const ENDS: &[(Filmed<'static>, u32, [i64; 4], &str)] = &[
         "frame 2 of 0 (96,64,160,128) byte byte",
     ),
     (WIPE, 2, [95, 64, 159, 128], "node 2 at 2 (95,64,159,128)"),
+];
+
+const ENDS_THROUGH_MORE: &[Row] = &[
     // Through both effects.
     (
         WIPE_BACK,
@@ -181,8 +187,8 @@ const ENDS: &[(Filmed<'static>, u32, [i64; 4], &str)] = &[
     (WIDER, 1, [192, 0, 256, 64], "nowhere"),
 ];
 
-// A frame, a region of the output, and what it needs by tiles of side 64.
-const NEEDS: &[(Filmed<'static>, u32, [i64; 4], &str)] = &[
+// What a region needs by tiles of side 64.
+const NEEDS_OF_BLURS: &[Row] = &[
     (
         MOVED_BLUR,
         0,
@@ -256,6 +262,9 @@ const NEEDS: &[(Filmed<'static>, u32, [i64; 4], &str)] = &[
          0@0: frame 0 of 0 (64,64,128,128) byte\n\
          0@0: frame 0 of 0 (128,64,192,128) byte\n",
     ),
+];
+
+const NEEDS_OF_OTHERS: &[Row] = &[
     // Tiles are cut to the region of definition, which is wider at frame 1. At frame 0 nothing is moved.
     (
         MOVING,
@@ -449,23 +458,33 @@ fn needed(alloc: Global, scene: &Scene<Shipped>, at: u32, region: Rect) -> Resul
 
 #[test]
 fn regions_are_found_where_identities_lead(rt: HostRuntime) {
-    for (filmed, at, region, expected) in ENDS {
+    are_found(&rt, ENDS_AT_EDGES);
+    are_found(&rt, ENDS_THROUGH_MORE);
+}
+
+fn are_found(rt: &(impl Abort + AllocGlobal), ends: &[Row]) {
+    for (filmed, at, region, expected) in ends {
         let at = (*at).min(9);
-        let scene = scene_of(&rt, *filmed, at);
-        let end = found(rt.alloc(), &scene, at, rect_of(*region)).expect(&rt, "no memory");
-        let told = told_end(&rt, &end);
-        same_at(&rt, &(&at, &filmed.nodes), told.as_str(), *expected);
+        let scene = scene_of(rt, *filmed, at);
+        let end = found(rt.alloc(), &scene, at, rect_of(*region)).expect(rt, "no memory");
+        let told = told_end(rt, &end);
+        same_at(rt, &(&at, &filmed.nodes), told.as_str(), *expected);
     }
 }
 
 #[test]
 fn regions_need_the_tiles_of_their_interest(rt: HostRuntime) {
-    for (filmed, at, region, expected) in NEEDS {
+    are_needed(&rt, NEEDS_OF_BLURS);
+    are_needed(&rt, NEEDS_OF_OTHERS);
+}
+
+fn are_needed(rt: &(impl Abort + AllocGlobal), rows: &[Row]) {
+    for (filmed, at, region, expected) in rows {
         let at = (*at).min(9);
-        let scene = scene_of(&rt, *filmed, at);
-        let needs = needed(rt.alloc(), &scene, at, rect_of(*region)).expect(&rt, "no memory");
-        let told = told_needs(&rt, &needs);
-        same_at(&rt, &(&at, &filmed.nodes), told.as_str(), *expected);
+        let scene = scene_of(rt, *filmed, at);
+        let needs = needed(rt.alloc(), &scene, at, rect_of(*region)).expect(rt, "no memory");
+        let told = told_needs(rt, &needs);
+        same_at(rt, &(&at, &filmed.nodes), told.as_str(), *expected);
     }
 }
 

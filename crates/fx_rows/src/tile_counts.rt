@@ -35,7 +35,7 @@ const BLURRED: &str =
 const DIFFERED_TWICE: &str =
     r#"{"name":"d","effect":"framediff","clips":{"Source":"s"}},{"name":"n","effect":"framediff","clips":{"Source":"d"}}"#;
 
-const CASES: &[Case] = &[
+const WHAT_IS_KEPT: &[Case] = &[
     // The sum of a blur with itself. Each of its four tiles asks twice for the tile of the blur under it, which is there
     // at the second time if one may be kept.
     (
@@ -82,6 +82,9 @@ const CASES: &[Case] = &[
             (0, (0, 0, 1, 3, 0)),
         ],
     ),
+];
+
+const WHAT_IS_PASSED: &[Case] = &[
     // At its beginning a dissolve is the picture that it comes from, and at its end the one that it goes to.
     (
         (1, 1),
@@ -120,6 +123,9 @@ const CASES: &[Case] = &[
         64,
         &[(4096, (0, 1, 0, 0, 0))],
     ),
+];
+
+const AT_EDGES: &[Case] = &[
     // One pixel past the edge of a tile, in both directions.
     (
         (1, 1),
@@ -144,6 +150,9 @@ const CASES: &[Case] = &[
         4,
         &[(4096, (0, 2, 1, 1, 0))],
     ),
+];
+
+const AT_MOMENTS: &[Case] = &[
     // The blend asks for three frames of the invert, and then the difference asks for the first of these again.
     (
         (3, 3),
@@ -305,7 +314,14 @@ fn case_is_right<R: Threads + Wait + Clock + Sync + Abort + AllocGlobal>(rt: &R,
 
 #[test]
 fn tiles_are_counted(rt: HostRuntime) {
-    for case in CASES {
-        case_is_right(&rt, case);
+    cases_are_right(&rt, WHAT_IS_KEPT);
+    cases_are_right(&rt, WHAT_IS_PASSED);
+    cases_are_right(&rt, AT_EDGES);
+    cases_are_right(&rt, AT_MOMENTS);
+}
+
+fn cases_are_right<R: Threads + Wait + Clock + Sync + Abort + AllocGlobal>(rt: &R, cases: &[Case]) {
+    for case in cases {
+        case_is_right(rt, case);
     }
 }

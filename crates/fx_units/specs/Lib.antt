@@ -1,1 +1,2 @@
+pub mod ActionsToys
 pub mod DirectoryAskers

@@ -47,7 +47,7 @@ fn word_of(mode: Mode) -> &'static str {
 }
 
 // Words with a blank between two of them, so that two blanks have an empty word between them.
-const LINES: &[(&str, &str)] = &[
+const OF_MODES: &[(&str, &str)] = &[
     ("render g.json", "render g.json 0 999999 64 4096 4 0 1"),
     ("check g.json", "check g.json 0 999999 64 4096 4 0 1"),
     ("bench 0", "bench 0 0 999999 64 4096 4 0 1"),
@@ -81,7 +81,10 @@ const LINES: &[(&str, &str)] = &[
     ("", "usage"),
     (" g.json", "usage"),
     ("render g.json more", "usage"),
-    // Both ends of each range, and one past.
+];
+
+// Both ends of each range, and one past.
+const OF_RANGES: &[(&str, &str)] = &[
     (
         "render g.json --first 999999 --last 0",
         "render g.json 999999 0 64 4096 4 0 1",
@@ -150,6 +153,10 @@ const LINES: &[(&str, &str)] = &[
     ("render g.json --ahead 5", "usage"),
     ("render g.json --ahead", "usage"),
     ("render g.json --ahead 2 --ahead 2", "usage"),
+];
+
+// By what the sides are divided.
+const OF_SCALES: &[(&str, &str)] = &[
     (
         "render g.json --scale 1",
         "render g.json 0 999999 64 4096 4 0 1",
@@ -177,7 +184,10 @@ const LINES: &[(&str, &str)] = &[
     ("render g.json --scale 1/2", "usage"),
     ("render g.json --scale", "usage"),
     ("render g.json --scale 2 --scale 2", "usage"),
-    // How clap reads words.
+];
+
+// How clap reads words.
+const OF_CLAP: &[(&str, &str)] = &[
     (
         "--tile=16 render --first=5 g.json --workers 2",
         "render g.json 5 999999 16 4096 2 0 1",
@@ -208,14 +218,26 @@ const LINES: &[(&str, &str)] = &[
 
 #[test]
 fn words_are_an_order_or_usage(rt: HostRuntime) {
-    let alloc = rt.alloc();
-    for (line, wanted) in LINES {
-        let order = ordered(alloc, line).expect(&rt, "no order");
-        same_at(&rt, &line, order.as_str(), *wanted);
-    }
-    let none: Vec<String> = Vec::new(alloc);
-    assert!(rt; matches!(read_words(alloc, none.as_slice()), Err(WordFault::Usage)));
+    lines_are_read(&rt, OF_MODES);
+    lines_are_read(&rt, OF_RANGES);
+    lines_are_read(&rt, OF_SCALES);
+    lines_are_read(&rt, OF_CLAP);
+    let none: Vec<String> = Vec::new(rt.alloc());
+    assert!(rt;
+        matches!(
+            read_words(rt.alloc(), none.as_slice()),
+            Err(WordFault::Usage)
+        )
+    );
     options_in_any_order();
+}
+
+// Of each of these lines this is read.
+fn lines_are_read(rt: &(impl Abort + AllocGlobal), lines: &[(&str, &str)]) {
+    for (line, wanted) in lines {
+        let order = ordered(rt.alloc(), line).expect(rt, "no order");
+        same_at(rt, &line, order.as_str(), *wanted);
+    }
 }
 
 // A line behind what was there.

@@ -1,7 +1,7 @@
 use Rattle.std.proofs.Common.{◌≡◌, [], ◌∷◌, codes, ℤ, pos, ◌+ℤ◌, ◌-ℤ◌, w64, to_z, of_z, subst, arith}
 use Rattle.std.proofs.lemmas.Int.{ints}
 use Rattle.fx_props.specs.Entries.{Wrote, frame_ranges}
-use Rattle.fx_units_effects.proofs.actions.toys.WideImageEffect.get_frames_needed.Goals as goal
+use Rattle.fx_units.proofs.actions.toys.WideImageEffect.get_frames_needed.Goals as goal
 
 pub returns : goal.returns
 returns c = λ context lawful.

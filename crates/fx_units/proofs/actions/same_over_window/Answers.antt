@@ -1,6 +1,6 @@
 use Rattle.std.proofs.Common.{pos, inr, arith}
 use Rattle.std.proofs.lemmas.Int.{ints}
-use Rattle.fx_units_effects.proofs.actions.same_over_window.Goals as goal
+use Rattle.fx_units.proofs.actions.same_over_window.Goals as goal
 
 pub identity-requires-clause-window : goal.identity-requires-clause-window
 identity-requires-clause-window g c =

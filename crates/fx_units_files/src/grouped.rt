@@ -12,7 +12,7 @@ const GROUPED: &str =
     r#"{"ofxr":2,"project":{"width":4,"height":2,"depth":"short","components":"Alpha"},"output":{"node":"u","file":"o#.pam","format":"RGB"},"range":{"first":7,"last":9},"groups":[{"name":"soft","inputs":["in"],"nodes":[{"name":"b","effect":"boxblur","clips":{"Source":"in"},"params":{"rx":1}}],"output":"b"}],"nodes":[{"name":"s","source":"s#.pam","first":3,"last":5},{"name":"u","group":"soft","clips":{"in":"s"}}],"takes":[{"file":"t#.pam","edits":[{"node":"u/b","param":"rx","value":2}]}]}"#;
 
 // Each text of that graph, what stands there instead, and what is then read.
-const CHANGES: &[(&str, &str, &str)] = &[
+const OF_GROUPS: &[(&str, &str, &str)] = &[
     (r#""ofxr":2"#, r#""ofxr":2"#, "2"),
     // In format 1 there are no groups, and no uses of any.
     (r#""ofxr":2"#, r#""ofxr":1"#, "G2 groups"),
@@ -46,7 +46,10 @@ const CHANGES: &[(&str, &str, &str)] = &[
     ),
     (r#""output":"b""#, r#""output":1"#, "G2 groups[0].output"),
     (r#","output":"b""#, "", "G2 groups[0].output"),
-    // Nodes of a group.
+];
+
+// Nodes of a group.
+const OF_NODES: &[(&str, &str, &str)] = &[
     (
         r#""rx":1"#,
         r#""rx":1.5"#,
@@ -84,7 +87,10 @@ const CHANGES: &[(&str, &str, &str)] = &[
         r#""clips":[]"#,
         "G2 nodes[1].clips",
     ),
-    // Takes.
+];
+
+// Takes.
+const OF_TAKES: &[(&str, &str, &str)] = &[
     (r#""takes":[{"#, r#""takes":[1,{"#, "G2 takes[0]"),
     (r#""file":"t#.pam","#, "", "G2 takes[0].file"),
     (r#""file":"t#.pam""#, r#""file":1"#, "G2 takes[0].file"),
@@ -145,9 +151,16 @@ const CHANGES: &[(&str, &str, &str)] = &[
 
 #[test]
 fn each_change_of_groups_and_takes_is_told(rt: HostRuntime) {
-    for (old, new, wanted) in CHANGES {
-        let text = changed_in(rt.alloc(), GROUPED, old, new).expect(&rt, "no text");
-        tells(&rt, &(old, new), text.as_bytes(), wanted);
+    changes_are_told(&rt, OF_GROUPS);
+    changes_are_told(&rt, OF_NODES);
+    changes_are_told(&rt, OF_TAKES);
+}
+
+// Of that graph with each of these changes this is read.
+fn changes_are_told(rt: &(impl Abort + AllocGlobal), changes: &[(&str, &str, &str)]) {
+    for (old, new, wanted) in changes {
+        let text = changed_in(rt.alloc(), GROUPED, old, new).expect(rt, "no text");
+        tells(rt, &(old, new), text.as_bytes(), wanted);
     }
 }
 

@@ -3,7 +3,7 @@ use Rattle.fx_pixel.specs.declared.Depth.TheVariants as depths
 use Rattle.fx_effect.specs.Shape.{Shape}
 use Rattle.fx_effect.specs.declared.action.Context.TheVariants as context
 use Rattle.fx_effect.specs.declared.action.Safety.TheVariants.{FullySafe}
-use Rattle.fx_units_effects.proofs.effect.a_filter_describes_itself.Goals as goal
+use Rattle.fx_units.proofs.effect.a_filter_describes_itself.Goals as goal
 
 abbrev inverts : Shape
 inverts =

@@ -6,7 +6,7 @@ ghost use Rattle.fx_base.specs.Bounds.{none};
 ghost use Rattle.fx_effect.specs.Shape.{IsLawful, MayBe, optional_flags};
 ghost use Rattle.fx_effect.specs.Asked.{IsWindow};
 ghost use Rattle.fx_base.specs.Rect.{IsFrame};
-ghost use Rattle.fx_units_effects.specs.ActionsToys.{clear_clips, clear_shape};
+ghost use Rattle.fx_units.specs.ActionsToys.{clear_clips, clear_shape};
 
 mod toys;
 

@@ -2,8 +2,8 @@ use Rattle.std.proofs.Common.{◌∙◌, [], ◌∷◌, codes, pos, ap, sym, sub
 use Rattle.fx_base.specs.Bounds.{Bounds}
 use Rattle.fx_base.specs.Rect.{grown, IsNear, IsUpTo}
 use Rattle.fx_props.specs.Entries.{region_of, Wrote, interest}
-use Rattle.fx_units_effects.proofs.ActionsToyLemmas.{grown_up_to, both_up_to}
-use Rattle.fx_units_effects.proofs.actions.toys.WideImageEffect.get_regions_of_interest.Goals as goal
+use Rattle.fx_units.proofs.ActionsToyLemmas.{grown_up_to, both_up_to}
+use Rattle.fx_units.proofs.actions.toys.WideImageEffect.get_regions_of_interest.Goals as goal
 
 pub grow-needed-requires-clause-near : goal.grow-needed-requires-clause-near
 grow-needed-requires-clause-near c =

@@ -9,7 +9,7 @@ use Rattle.fx_base.proofs.RectLaws.{IsRect-hull, IsNear-hull, IsUpTo-near}
 use Rattle.fx_effect.specs.declared.values.Values.{Values}
 use Rattle.fx_props.specs.Entries.{region_of}
 use Rattle.fx_effect.specs.Asked.{IsWindow, AreRegions}
-use Rattle.fx_units_effects.specs.ActionsToys.{IsUpTo-grown_few}
+use Rattle.fx_units.specs.ActionsToys.{IsUpTo-grown_few}
 
 -- hulls of windows are windows
 pub IsWindow-hull : (r s : Bounds) → IsWindow r → IsWindow s → IsWindow (hull r s)

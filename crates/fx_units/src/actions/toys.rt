@@ -1,7 +1,7 @@
 //! Two effects for the tests, which ask them the five actions alone: whatever else an effect is asked,
 //! they answer with want of memory or with nothing done.
 ghost use Rattle.std.specs.Prelude.{◌≡◌, ◌∷◌, []};
-ghost use Rattle.fx_units_effects.specs.ActionsToys.{clear, clear_laws, wide, wide_laws};
+ghost use Rattle.fx_units.specs.ActionsToys.{clear, clear_laws, wide, wide_laws};
 
 use fx_base::{Memory, Rect};
 use fx_core::Ticket;

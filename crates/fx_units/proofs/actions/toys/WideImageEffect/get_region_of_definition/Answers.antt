@@ -3,8 +3,8 @@ use Rattle.fx_base.specs.Bounds.{Bounds}
 use Rattle.fx_base.specs.Rect.{hull, grown, IsNear, IsUpTo}
 use Rattle.fx_props.specs.Entries.{region_of, Wrote, region_entry}
 use Rattle.fx_props.specs.declared.names.TheConstants.{REGION}
-use Rattle.fx_units_effects.proofs.ActionsToyLemmas.{IsWindow-hull, IsWindow-region, grown_up_to}
-use Rattle.fx_units_effects.proofs.actions.toys.WideImageEffect.get_region_of_definition.Goals as goal
+use Rattle.fx_units.proofs.ActionsToyLemmas.{IsWindow-hull, IsWindow-region, grown_up_to}
+use Rattle.fx_units.proofs.actions.toys.WideImageEffect.get_region_of_definition.Goals as goal
 
 pub grow-requires-clause-near : goal.grow-requires-clause-near
 grow-requires-clause-near c =
