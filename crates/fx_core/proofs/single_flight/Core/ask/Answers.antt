@@ -1,4 +1,4 @@
-use Rattle.std.proofs.Common.{rules, arith, ◌≡◌, ◌+◌, false, List, [], ◌∷◌, ◌++◌, Contains, Some, sym, ap, ◌∙◌, subst}
+use Rattle.std.proofs.Common.{rules, arith, ◌≡◌, ℕ, ◌+◌, ◌<◌, ◌≤◌, ◌^◌, false, List, [], ◌∷◌, ◌++◌, Contains, Some, sym, ap, ◌∙◌, subst}
 use Rattle.std.specs.Arc.{arc_value}
 use Rattle.std.specs.Map.{lookup}
 use Rattle.lru.proofs.CallerLemmas.{Contains-lookup}
@@ -12,6 +12,10 @@ use Rattle.fx_core.proofs.single_flight.Core.ask.Given.{Over}
 use Rattle.fx_core.proofs.single_flight.Core.ask.Goals as goal
 use Rattle.fx_core.proofs.single_flight.Core.ask.Goals.{After-bring_to_front, In_ok-begin}
 
+-- a counter below the bound rises by 1
+one_more : (inside seen : ℕ) → inside ≡ seen → seen < 2 ^ 62 → inside + 1 ≤ 2 ^ 62
+one_more inside seen same low = omega (arith, same, low)
+
 -- the value is here
 module _ (g : Over) (c : After-bring_to_front g) where
   sound_here : let core = c.self.inside in IsSound g.K.PartialEq.eq (state_of core.permit.scene c.bring_to_front.new.self core.flying (record core.totals { asks = core.totals.asks + 1; hits = core.totals.hits + 1 }))
@@ -22,7 +26,7 @@ module _ (g : Over) (c : After-bring_to_front g) where
 pub invariant_of-self : goal.invariant_of-self
 invariant_of-self g c = (
   sound_here g (goal.at.invariant_of-self g c).After-bring_to_front,
-  (let asks = ap (λ (s : State g.row.K.Denot g.row.V.Denot). s.totals.asks) c.self.view_is in omega arith),
+  one_more c.self.inside.totals.asks c.args.self.now.totals.asks (ap (λ (s : State g.row.K.Denot g.row.V.Denot). s.totals.asks) c.self.view_is) c.requires,
 )
 
 pub returns-in-Some-clause-sound : goal.returns-in-Some-clause-sound
@@ -62,7 +66,7 @@ module _ (g : Over) (c : In_ok-begin g) where
 pub invariant_of-self-2 : goal.invariant_of-self-2
 invariant_of-self-2 g c = (
   sound_flight g (goal.at.invariant_of-self-2 g c).In_ok-begin,
-  (let asks = ap (λ (s : State g.row.K.Denot g.row.V.Denot). s.totals.asks) c.self.view_is in omega arith),
+  one_more c.self.inside.totals.asks c.args.self.now.totals.asks (ap (λ (s : State g.row.K.Denot g.row.V.Denot). s.totals.asks) c.self.view_is) c.requires,
 )
 
 pub returns-clause-sound : goal.returns-clause-sound
