@@ -7,7 +7,7 @@ use Rattle.std.specs.List.{list_any}
 use Rattle.fx_core.specs.declared.totals.Totals.{Totals}
 use Rattle.fx_core.specs.State.{State}
 use Rattle.fx_core.specs.Shelf.{Shelf}
-use Rattle.fx_core.specs.Step.{with_front, is_full, with_new, step, Ask, Land, Drop, Here, Fly, Done}
+use Rattle.fx_core.specs.Step.{with_front, is_full, with_new, step, Ask, Land, Drop, Here, Busy, Fly, Done}
 use Rattle.fx_core.specs.Sound.{IsSound}
 use Rattle.fx_core.specs.Run.{IsStart}
 use Rattle.fx_core.specs.Seen.{state_of}
@@ -38,6 +38,12 @@ module _ {K V : Type 0} (eq : K → K → Bool) (laws : IsEquivalence eq) where
         let totals : Totals = record t { asks = t.asks + 1; hits = t.hits + 1 } in
         sound_step eq laws (state_of scene old fs t) (state_of scene new fs totals) (Ask k) (Here v) r
         (rw (sym f) (λ i. Some (Here v, record { scene = scene; kept = sym entries i; flying = fs; capacity = sym capacity i; next = t.flights; totals = totals })))
+
+    pub sound_busy : (k : K) → None ≡ lookup (eq k) old.entries → list_any (λ f. eq k f.1) fs ≡ true
+        → IsSound eq (state_of scene old fs (record t { asks = t.asks + 1; busies = t.busies + 1 }))
+    sound_busy k gone flies =
+        let totals : Totals = record t { asks = t.asks + 1; busies = t.busies + 1 } in
+        sound_step eq laws (state_of scene old fs t) (state_of scene old fs totals) (Ask k) Busy r (rw (sym gone, flies) refl)
 
     pub sound_fly : (new : List (ℕ × K)) (k : K) → None ≡ lookup (eq k) old.entries → list_any (λ f. eq k f.1) fs ≡ false → new ≡ fs ++ (t.flights, k) ∷ []
         → IsSound eq (state_of scene old new (record t { asks = t.asks + 1; flights = t.flights + 1 }))

@@ -7,7 +7,7 @@ use Rattle.fx_core.specs.Step.{is_flying}
 use Rattle.fx_core.specs.Sound.{IsSound}
 use Rattle.fx_core.specs.Seen.{state_of}
 use Rattle.fx_core.proofs.Flights.{with_front-member}
-use Rattle.fx_core.proofs.Steps.{sound_hit, sound_fly}
+use Rattle.fx_core.proofs.Steps.{sound_hit, sound_busy, sound_fly}
 use Rattle.fx_core.proofs.single_flight.Core.ask.Given.{Over}
 use Rattle.fx_core.proofs.single_flight.Core.ask.Goals as goal
 use Rattle.fx_core.proofs.single_flight.Core.ask.Goals.{After-bring_to_front, In_ok-begin}
@@ -41,6 +41,21 @@ pub returns-in-Some-clause-kept : goal.returns-in-Some-clause-kept
 returns-in-Some-clause-kept g c =
     λ e there. subst (λ (s : State g.row.K.Denot g.row.V.Denot). Contains s.kept e) c.self.view_is
     (with_front-member (g.K.PartialEq.eq (arc_value c.args.key)) c.self.inside.kept.entries e (subst (λ (es : List (g.row.K.Denot × g.row.V.Denot)). Contains es e) c.bring_to_front.ensures.entries there))
+
+-- the key is flying
+pub invariant_of-self-then-has : goal.invariant_of-self-then-has
+invariant_of-self-then-has g c = (
+  (let core = c.self.inside in
+      sound_busy g.K.PartialEq.eq g.met.K.Eq.laws core.permit.scene core.kept core.flying core.totals c.self.invariant.0 (arc_value c.args.key)
+      c.in_default.ensures (sym c.has.ensures ∙ c.if-has.true)),
+  one_more c.self.inside.totals.asks c.args.self.now.totals.asks (ap (λ (s : State g.row.K.Denot g.row.V.Denot). s.totals.asks) c.self.view_is) c.requires,
+)
+
+pub returns-then-has-clause-sound : goal.returns-then-has-clause-sound
+returns-then-has-clause-sound g c =
+    let core = c.self.inside in
+    sound_busy g.K.PartialEq.eq g.met.K.Eq.laws core.permit.scene core.kept core.flying core.totals c.self.invariant.0 (arc_value c.args.key)
+    c.in_default.ensures (sym c.has.ensures ∙ c.if-has.true)
 
 -- memory is wanting for a flight
 pub returns-in_err-try_clone-clause-busy : goal.returns-in_err-try_clone-clause-busy
