@@ -24,11 +24,11 @@ long_rows h rect depth n plain same deep long =
     long
     ∙ ap (λ k. h.height * k) (plain-row h plain)
     ∙ sym (
-      ap (λ r. rows r * (columns r * pixel_size depth components.Rgba)) same
-      ∙ ap (λ d. rows (frame h) * (columns (frame h) * pixel_size d components.Rgba)) deep
-      ∙ ap (λ k. k * (columns (frame h) * pixel_size (depth_of h) components.Rgba)) (gap_none h.height)
-      ∙ ap (λ k. h.height * (k * pixel_size (depth_of h) components.Rgba)) (gap_none h.width)
-      )
+    ap (λ r. rows r * (columns r * pixel_size depth components.Rgba)) same
+    ∙ ap (λ d. rows (frame h) * (columns (frame h) * pixel_size d components.Rgba)) deep
+    ∙ ap (λ k. k * (columns (frame h) * pixel_size (depth_of h) components.Rgba)) (gap_none h.height)
+    ∙ ap (λ k. h.height * (k * pixel_size (depth_of h) components.Rgba)) (gap_none h.width)
+    )
 
 -- rows that rise are the image's
 risen_image : (h : Header) (s : Stored) (bytes : List ℕ) → s.rect ≡ frame h → s.depth ≡ depth_of h → s.components ≡ components.Rgba → ShowsRows s bytes → RiseTo h h.height bytes → IsImageOf h (image_of s)
