@@ -20,8 +20,8 @@ read_row-requires-2-clause-row c =
 
 pub offset-requires : goal.offset-requires
 offset-requires c =
-    let a : FitsSigned w64 c.rect.inside.x1 = search rules in
-    let b : FitsSigned w64 c.rect.inside.x2 = search rules in
+    let a : FitsSigned w64 c.rect.inside.x1 = search (rules, c.rect.ranges) in
+    let b : FitsSigned w64 c.rect.inside.x2 = search (rules, c.rect.ranges) in
     let left = ap (λ (r : Bounds). r.x1) c.rect.view_is in
     let right = ap (λ (r : Bounds). r.x2) c.rect.view_is in
     simp to_z-of_z (omega (arith, ints, left, right, is_wide c.args.rect c.requires.row.bounds))
@@ -33,8 +33,8 @@ returns-clause-shows c =
     let rect = c.args.rect in
     let me = c.args.self.now in
     let given = me.inputs.now in
-    let a : FitsSigned w64 c.rect.inside.x1 = search rules in
-    let b : FitsSigned w64 c.rect.inside.x2 = search rules in
+    let a : FitsSigned w64 c.rect.inside.x1 = search (rules, c.rect.ranges) in
+    let b : FitsSigned w64 c.rect.inside.x2 = search (rules, c.rect.ranges) in
     let t : FitsSigned w64 me.frame = search rules in
     let y : FitsSigned w64 c.args.y = c.ranges.y in
     let ends = simp to_z-of_z at c.offset.ensures in
