@@ -1,4 +1,4 @@
-use Rattle.std.proofs.Common.{◌≡◌, ◌+◌, ◌++◌, ◌∷◌, ◌∙◌, List, [], None, Option, Some, ap, arith, rules, set, subst, sym, w64}
+use Rattle.std.proofs.Common.{◌≡◌, ◌+◌, ◌++◌, ◌∷◌, ◌∙◌, All, List, [], None, Option, Some, ap, arith, of_z, rules, set, subst, sym, to_z, w64}
 use Rattle.std.proofs.lemmas.Int.{to_z-of_z}
 use Rattle.std.proofs.lemmas.List.Sums.{sum_by_push}
 use Rattle.std.proofs.lemmas.Result.{IfOk-from_err, on_ok_weaker}
@@ -12,7 +12,7 @@ use Rattle.fx_scene.specs.Sites.{scene_nodes}
 use Rattle.fx_region.specs.declared.ends.Need.{Need}
 use Rattle.fx_tile.specs.Counts.{AskedOnce, Follows, Lands, one_if_some}
 use Rattle.fx_tile.specs.Kept.{made_of, seat_in}
-use Rattle.fx_tile.specs.Setups.{EachTile, IsFound, IsTileOf, MayBeTileOf, renders_needed}
+use Rattle.fx_tile.specs.Setups.{EachTile, IsFound, IsKeyOf, IsReady, IsRenderable, IsTileOf, MayBeTileOf, renders_needed}
 use Rattle.fx_tile.proofs.FlightLemmas.{fetched_after, follows_more, joined, met_both, met_lands, met_same, right_of, tile_of}
 use Rattle.fx_tile.proofs.GatherLemmas.{gathers_early, gathers_now}
 use Rattle.fx_tile.proofs.KeptLemmas.{gains_loses, keeps_loses, keeps_more, seat_still, stands_kept}
@@ -33,7 +33,11 @@ fetch-returns-in-Some-2-clause-fetched g t c =
 pub fetch-fetch_unless_busy-requires : goal.fetch-fetch_unless_busy-requires
 fetch-fetch_unless_busy-requires g t c κs within =
     let seat = seat_still c.args.setup.now c.args.seat.now c.loop.seat c.loop.invariant.seat.rows c.requires.seat in
-    search rules
+    let same : c.args.frame ≡ to_z w64 (of_z w64 c.args.frame) = sym (to_z-of_z w64 c.args.frame c.ranges.frame) in
+    let renderable =
+    subst (λ f. IsRenderable g.E.ImageEffect.meaning c.args.setup.now c.args.node f c.args.region) same c.requires.renderable in
+    let key = c.in_ok-key-2.ensures ∙ c.in_ok-key.ensures in
+    (omega (arith, c.decreases), (within.0, (within.1, (c.requires.setup, (seat, (renderable, key))))))
 
 pub made-landed-requires-clause-right : goal.made-landed-requires-clause-right
 made-landed-requires-clause-right g t c =
@@ -100,7 +104,55 @@ fetch_unless_busy-made-requires g t c κs within =
     let own =
     joined (seat_in whole c.ask.new.seat).aloft (seat_in whole c.args.seat.now).aloft (c.in-Fly.flight.ticket.number, arc_value c.in-Fly.flight.key) gains.joined in
     let seat = seat_still c.args.setup.now c.args.seat.now c.ask.new.seat gains.rows c.requires.seat in
-    search rules
+    let same : c.args.frame ≡ to_z w64 (of_z w64 c.args.frame) = sym (to_z-of_z w64 c.args.frame c.ranges.frame) in
+    let renderable =
+    subst (λ f. IsRenderable g.E.ImageEffect.meaning c.args.setup.now c.args.node f c.args.region) same c.requires.renderable in
+    let keyed =
+    subst (λ f. IsKeyOf c.args.setup.now.scene.now c.args.node f c.args.region (arc_value c.in-Fly.flight.key)) same key in
+    (omega (arith, c.decreases), (within.0, (within.1, (c.requires.setup, (seat, (renderable, (keyed, own)))))))
+
+pub made-image_of-requires : goal.made-image_of-requires
+made-image_of-requires g t c κs within =
+    let same : c.args.frame ≡ to_z w64 (of_z w64 c.args.frame) = sym (to_z-of_z w64 c.args.frame c.ranges.frame) in
+    let renderable =
+    subst (λ f. IsRenderable g.E.ImageEffect.meaning c.args.setup.now c.args.node f c.args.region) same c.requires.renderable in
+    (omega (arith, c.decreases), (within.0, (within.1, (c.requires.setup, (c.requires.seat, renderable)))))
+
+pub image_of-gathered-requires : goal.image_of-gathered-requires
+image_of-gathered-requires g t c κs within =
+    let ready =
+    subst (λ z. All (λ need. IsReady g.E.ImageEffect.meaning c.args.setup.now c.args.node need.end) z) (sym c.as_slice.ensures.value)
+    c.in_ok-needs.ensures.ready in
+    (omega (arith, c.decreases), (within.0, (within.1, (c.requires.setup, (record { rows = c.requires.seat.rows; gates = c.requires.seat.gates; }, ready)))))
+
+pub gathered-gathered_unless_busy-requires : goal.gathered-gathered_unless_busy-requires
+gathered-gathered_unless_busy-requires g t c κs within =
+    (omega (arith, c.decreases), (within.0, (within.1, (c.requires.setup, (c.requires.seat, c.requires.ready)))))
+
+pub gathered-tile_for-requires : goal.gathered-tile_for-requires
+gathered-tile_for-requires g t c κs within =
+    let seat = seat_still c.args.setup.now c.args.seat.now c.loop-i.seat c.loop-i.invariant.seat.rows c.requires.seat in
+    let ready = c.requires.ready c.loop-i.i c.index-needs-i.result c.loop-i-test.true in
+    (omega (arith, c.decreases), (within.0, (within.1, (c.requires.setup, (seat, ready)))))
+
+pub gathered_unless_busy-tile_unless_busy-requires : goal.gathered_unless_busy-tile_unless_busy-requires
+gathered_unless_busy-tile_unless_busy-requires g t c κs within =
+    let seat = seat_still c.args.setup.now c.args.seat.now c.loop-need.seat c.loop-need.invariant.seat.rows c.requires.seat in
+    let ready = c.requires.ready c.loop-need.need-index c.need-item.result c.loop-need-test.true in
+    let here =
+    subst (λ (n : Need). IsReady g.E.ImageEffect.meaning c.args.setup.now c.args.node n.end) (sym c.need-item.is) ready in
+    (omega (arith, c.decreases), (within.0, (within.1, (c.requires.setup, (seat, here)))))
+
+pub tile_unless_busy-fetch_unless_busy-requires : goal.tile_unless_busy-fetch_unless_busy-requires
+tile_unless_busy-fetch_unless_busy-requires g t c κs within =
+    let ready =
+    subst (λ e. IsReady g.E.ImageEffect.meaning c.args.setup.now c.args.node e) c.in-Render.is c.requires.ready in
+    let fits : SFits w64 c.in-Render.frame = search rules in
+    let same : c.in-Render.frame ≡ to_z w64 (of_z w64 c.in-Render.frame) = sym (to_z-of_z w64 c.in-Render.frame fits) in
+    let renderable =
+    subst (λ f. IsRenderable g.E.ImageEffect.meaning c.args.setup.now c.in-Render.m f c.in-Render.region) same ready.1 in
+    (omega (arith, c.decreases, ready.0),
+    (within.0, (within.1, (c.requires.setup, (c.requires.seat, (renderable, c.in_ok-key-in-Render.ensures))))))
 
 pub gathered-loop-i-init : goal.gathered-loop-i-init
 gathered-loop-i-init g t c =
