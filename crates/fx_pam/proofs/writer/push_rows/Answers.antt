@@ -1,4 +1,4 @@
-use Rattle.std.proofs.Common.{◌≡◌, ◌∙◌, ap, length, take, rules, arith, to_z, w64}
+use Rattle.std.proofs.Common.{◌≡◌, ◌∙◌, ap, length, take, Result, Ok, Err, OnErr, arith, to_z, w64}
 use Rattle.std.specs.Int.{int_gap}
 use Rattle.std.proofs.lemmas.Int.{ints}
 use Rattle.fx_base.specs.Bounds.{Bounds}
@@ -6,6 +6,10 @@ use Rattle.fx_image.specs.Stored.{image_of}
 use Rattle.fx_pam.specs.Text.{raster}
 use Rattle.fx_pam.proofs.WrittenImage.{begun_with, raster-more}
 use Rattle.fx_pam.proofs.writer.push_rows.Goals as goal
+
+on_err : {A B : Type 0} {P : Type 0} (r : Result A B) → P → OnErr r P
+on_err (Ok a) p = _
+on_err (Err e) p = p
 
 pub loop-y-preserved : goal.loop-y-preserved
 loop-y-preserved c =
@@ -23,4 +27,4 @@ returns-in_err-push_row-clause-err c =
     let so_far = raster c.args.format (image_of c.args.image.now) (int_gap (to_z w64 c.loop-y.y-bits) c.args.image.now.rect.y2) in
     let begun : take (length c.args.out.now.items) c.push_row.new.out.items ≡ c.args.out.now.items =
     begun_with c.args.out.now.items so_far c.loop-y.out.items c.push_row.new.out.items c.loop-y.invariant.so_far c.in_err-push_row.ensures.err in
-    search rules
+    on_err c.from_residual.result begun
