@@ -1,5 +1,4 @@
-use Rattle.std.proofs.Common.{◌≡◌, ◌≤◌, sym, ap, ◌∙◌, arith}
-use Rattle.std.proofs.lemmas.Bool.Decides.{nat_tests}
+use Rattle.std.proofs.Common.{◌≡◌, ◌≤◌, sym, ap, subst, ◌∙◌, arith}
 use Rattle.fx_image.specs.Stored.{sample_in}
 use Rattle.fx_pam.specs.Reading.{header_with, sample_at}
 use Rattle.fx_pam.proofs.RasterLemmas.{first-next}
@@ -9,7 +8,7 @@ pub loop-i-preserved : goal.loop-i-preserved
 loop-i-preserved c =
     let h = header_with c.args.numbers c.args.bytes.now in
     let s : c.from-s.result ≡ sample_at h c.loop-i.i = c.from-s.ensures ∙ c.sample.ensures.value ∙ ap (λ depth. sample_in depth c.args.bytes.now c.loop-i.i) c.sample_depth-depth.ensures in
-    let fits : sample_at h c.loop-i.i ≤ c.args.numbers.maxval = rw (← s) (grind (arith, nat_tests)) in
+    let fits : sample_at h c.loop-i.i ≤ c.args.numbers.maxval = subst (λ n. n ≤ c.args.numbers.maxval) s c.if-s-numbers.false in
     record {
       until = c.loop-i.invariant.until;
       up_to = omega (arith, c.loop-i-test.true);
