@@ -19,7 +19,7 @@ use fx_outside::{FreePace, SureLibrary};
 use fx_scene::{Key, Scene, wants};
 use fx_seq::{SeqFault, Store};
 use fx_shipped::{Shipped, all_effects};
-use fx_text::{GraphFault, read_graph};
+use fx_text::read_graph;
 use fx_tile::{Rendered, Shared, TileCount, TileSeat, render_moment};
 use std::alloc::Global;
 use std::process::Abort;
@@ -36,13 +36,14 @@ pub(crate) struct Engine {
     pub(crate) workers: u32,
 }
 
-fn graph_of(alloc: Global, text: &str) -> Result<Graph<Shipped>, GraphFault> {
-    let raw = read_graph(alloc, text.as_bytes(), 16, 4096)?;
-    accept(alloc, raw)
+/// The graph of a text.
+pub(crate) fn accepted(rt: &(impl Abort + AllocGlobal), text: &str) -> Graph<Shipped> {
+    let raw = read_graph(rt.alloc(), text.as_bytes(), 1024, 8192).expect(rt, "refused");
+    accept(rt.alloc(), raw).expect(rt, "refused")
 }
 
-// The graph of a text with the frames that it wants at a frame.
-fn scene_of(
+/// The graph of a text with the frames that it wants at a frame.
+pub(crate) fn scene_of(
     rt: &(impl Abort + AllocGlobal),
     library: &mut SureLibrary,
     text: &str,
@@ -52,7 +53,7 @@ fn scene_of(
     ensures { let scene = result.0 in
         HasWanted meaning_of scene.graph (images_in scene.store) scene.graph.output (pos at) }
 {
-    let graph = graph_of(rt.alloc(), text).expect(rt, "the graph is refused");
+    let graph = accepted(rt, text);
     let store = store_of(rt.alloc(), library, &graph, at).expect(rt, "no frames");
     Scene::new(graph, store, 7)
 }
@@ -69,7 +70,7 @@ fn store_of(
         IfOk result (λ store. HasWanted meaning_of g (images_in store) g.output (pos at)) }
 {
     let wanted = wants(alloc, graph, at, at)?;
-    let store = Store::fill(alloc, library, &wanted, 100_000_000, 4096)?;
+    let store = Store::fill(alloc, library, &wanted, 100_000_000, 8192)?;
     Ok(store)
 }
 
@@ -134,7 +135,7 @@ pub(crate) fn by_frames<R: Wait + Clock + Abort + AllocGlobal>(
     picture
 }
 
-fn grid_of(rt: &impl Abort, side: u32) -> Grid {
+pub(crate) fn grid_of(rt: &impl Abort, side: u32) -> Grid {
     assert!(rt; 1 <= side);
     assert!(rt; side <= 1024);
     Grid { side }

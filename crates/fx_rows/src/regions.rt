@@ -1,20 +1,18 @@
 //! Where regions are found, and what they need, over the effects that are shipped, worked by hand.
 ghost use Rattle.std.specs.Prelude.{◌≤◌};
 
-use crate::files::add_file;
+use crate::engines::scene_of;
+use crate::files::{add_file, greys};
 use crate::same::{same, same_at};
 use crate::scenes::deep_diamond;
-use crate::worked::Whole;
+use crate::worked::text_of;
 use fx_base::{Grid, Memory, Rect};
 use fx_effect::{Step, Steps};
-use fx_graph::{Graph, accept};
 use fx_outside::SureLibrary;
 use fx_pixel::Depth;
 use fx_region::{End, Need, Regions, demand, follow};
-use fx_scene::{Scene, wants};
-use fx_seq::Store;
+use fx_scene::Scene;
 use fx_shipped::Shipped;
-use fx_text::read_graph;
 use std::alloc::Global;
 use std::process::Abort;
 
@@ -314,59 +312,21 @@ const NEEDS_OF_OTHERS: &[Row] = &[
     ),
 ];
 
-fn graph_of(rt: &(impl Abort + AllocGlobal), filmed: Filmed<'_>) -> Graph<Shipped> {
-    let Filmed {
-        project: (width, height),
-        nodes,
-        ..
-    } = filmed;
-    let project = format!(in rt.alloc();
-        r#""width":{width},"height":{height},"depth":"byte","components":"RGBA""#
-    ).expect(rt, "no text");
-    let whole = Whole {
-        project: project.as_str(),
-        format: "RGB_ALPHA",
-        last: 9,
-        nodes,
-    };
-    let text = whole.text(rt);
-    let raw = read_graph(rt.alloc(), text.as_bytes(), 64, 8192).expect(rt, "refused");
-    accept(rt.alloc(), raw).expect(rt, "refused")
-}
-
-// The bytes of a file of so many columns and rows of zeros.
-fn zeros(rt: &(impl Abort + AllocGlobal), sides: (u32, u32)) -> Vec<u8> {
-    let (width, height) = sides;
-    let header = format!(in rt.alloc();
-        "P7\nWIDTH {width}\nHEIGHT {height}\nDEPTH 1\nMAXVAL 255\nENDHDR\n"
-    ).expect(rt, "no header");
-    let mut bytes = header.as_bytes().to_vec(rt.alloc()).expect(rt, "no bytes");
-    for _ in 0..width {
-        for _ in 0..height {
-            bytes.push(0).expect(rt, "no byte");
-        }
-    }
-    bytes
-}
-
 fn library(rt: &(impl Abort + AllocGlobal), sides: (u32, u32)) -> SureLibrary {
     let mut files = Vec::new(rt.alloc());
     for name in ["s0.pam", "s1.pam", "s2.pam"] {
-        add_file(rt, &mut files, name, zeros(rt, sides));
+        add_file(rt, &mut files, name, greys(rt, sides, 0));
     }
     SureLibrary::new(rt.alloc(), files)
 }
 
 // The scene of a graph with the frames that it wants at a frame.
-fn scene_of(rt: &(impl Abort + AllocGlobal), filmed: Filmed<'_>, at: u32) -> Scene<Shipped>
+fn filmed_scene(rt: &(impl Abort + AllocGlobal), filmed: Filmed<'_>, at: u32) -> Scene<Shipped>
     requires { at ≤ 999999 }
 {
-    let graph = graph_of(rt, filmed);
-    let wanted = wants(rt.alloc(), &graph, at, at).expect(rt, "no memory");
+    let text = text_of(rt, filmed.project, 9, filmed.nodes);
     let mut library = library(rt, filmed.frames);
-    let store = Store::fill(rt.alloc(), &mut library, &wanted, 1_000_000, 8192);
-    let store = store.expect(rt, "no frames");
-    let (scene, _permit) = Scene::new(graph, store, 7);
+    let (scene, _) = scene_of(rt, &mut library, text.as_str(), at);
     scene
 }
 
@@ -465,7 +425,7 @@ fn regions_are_found_where_identities_lead(rt: HostRuntime) {
 fn are_found(rt: &(impl Abort + AllocGlobal), ends: &[Row]) {
     for (filmed, at, region, expected) in ends {
         let at = (*at).min(9);
-        let scene = scene_of(rt, *filmed, at);
+        let scene = filmed_scene(rt, *filmed, at);
         let end = found(rt.alloc(), &scene, at, rect_of(*region)).expect(rt, "no memory");
         let told = told_end(rt, &end);
         same_at(rt, &(&at, &filmed.nodes), told.as_str(), *expected);
@@ -481,7 +441,7 @@ fn regions_need_the_tiles_of_their_interest(rt: HostRuntime) {
 fn are_needed(rt: &(impl Abort + AllocGlobal), rows: &[Row]) {
     for (filmed, at, region, expected) in rows {
         let at = (*at).min(9);
-        let scene = scene_of(rt, *filmed, at);
+        let scene = filmed_scene(rt, *filmed, at);
         let needs = needed(rt.alloc(), &scene, at, rect_of(*region)).expect(rt, "no memory");
         let told = told_needs(rt, &needs);
         same_at(rt, &(&at, &filmed.nodes), told.as_str(), *expected);
@@ -498,7 +458,7 @@ fn regions_take_time_by_what_is_reached(rt: HostRuntime) {
         frames: (192, 192),
         nodes: nodes.as_str(),
     };
-    let scene = scene_of(&rt, filmed, 9);
+    let scene = filmed_scene(&rt, filmed, 9);
     let regions = Regions::of(rt.alloc(), &scene, 9).expect(&rt, "no memory");
     let rod = regions.rod(scene.graph().output, 9);
     same(&rt, rod, Rect::of(0, 0, 192, 192));

@@ -1,12 +1,12 @@
 //! Which source frames a run wants, and what each node reads, over the effects that are shipped, worked by hand.
+use crate::engines::accepted;
 use crate::same::{same, same_at};
 use crate::worked::Whole;
-use fx_graph::{Graph, accept};
+use fx_graph::Graph;
 use fx_scene::laws::{value_depends_on_reach, value_is_mix, zero_outside_area};
 use fx_scene::{NodeFrame, reach, reads_of, shown_frame, wants};
 use fx_seq::Wanted;
 use fx_shipped::Shipped;
-use fx_text::read_graph;
 use std::collections::BTreeSet;
 use std::process::Abort;
 
@@ -50,8 +50,7 @@ fn graph_of(rt: &(impl Abort + AllocGlobal), source: &str, effects: &str) -> Gra
         nodes: nodes.as_str(),
     };
     let text = whole.text(rt);
-    let raw = read_graph(rt.alloc(), text.as_bytes(), 256, 4096).expect(rt, "refused");
-    accept(rt.alloc(), raw).expect(rt, "refused")
+    accepted(rt, text.as_str())
 }
 
 // The source's node, the effects behind it, the first and last frame of a run, and what it wants: node, frame

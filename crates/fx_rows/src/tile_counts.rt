@@ -1,8 +1,8 @@
 //! What becomes of tiles on one thread, worked by hand.
 use crate::engines::{Engine, are_same, by_frames, by_tiles};
-use crate::files::add_file;
+use crate::files::{add_file, greys};
 use crate::same::same_at;
-use crate::worked::Whole;
+use crate::worked::text_of;
 use fx_outside::SureLibrary;
 use fx_tile::TileCount;
 use std::process::Abort;
@@ -239,38 +239,6 @@ const AT_MOMENTS: &[Case] = &[
     ),
 ];
 
-// The text of a case's graph.
-fn text_of(rt: &(impl Abort + AllocGlobal), &(_, (width, height), nodes, _, _): &Case) -> String {
-    let project = format!(in rt.alloc();
-        r#""width":{width},"height":{height},"depth":"byte","components":"RGBA""#
-    ).expect(rt, "no text");
-    let nodes = format!(in rt.alloc(); "{SOURCES},{nodes}").expect(rt, "no text");
-    let whole = Whole {
-        project: project.as_str(),
-        format: "RGB_ALPHA",
-        last: 1,
-        nodes: nodes.as_str(),
-    };
-    whole.text(rt)
-}
-
-// The bytes of a file of grey samples, of which each differs from those beside it.
-fn greys(rt: &(impl Abort + AllocGlobal), (width, height): (u32, u32), first: u8) -> Vec<u8> {
-    let head = format!(in rt.alloc();
-        "P7\nWIDTH {width}\nHEIGHT {height}\nDEPTH 1\nMAXVAL 255\nENDHDR\n"
-    ).expect(rt, "no header");
-    let mut bytes = head.as_bytes().to_vec(rt.alloc()).expect(rt, "no bytes");
-    let mut sample = first;
-    for _ in 0..height {
-        sample = sample.wrapping_add(11);
-        for _ in 0..width {
-            sample = sample.wrapping_add(7);
-            bytes.push(sample).expect(rt, "no byte");
-        }
-    }
-    bytes
-}
-
 // The files of the sources' frames.
 fn files(rt: &(impl Abort + AllocGlobal), sides: (u32, u32)) -> SureLibrary {
     let mut files = Vec::new(rt.alloc());
@@ -296,8 +264,9 @@ fn counts(count: TileCount) -> Counts {
 }
 
 fn case_is_right<R: Threads + Wait + Clock + Sync + Abort + AllocGlobal>(rt: &R, case: &Case) {
-    let &(sides, _, nodes, side, engines) = case;
-    let text = text_of(rt, case);
+    let &(sides, project, nodes, side, engines) = case;
+    let nodes = format!(in rt.alloc(); "{SOURCES},{nodes}").expect(rt, "no text");
+    let text = text_of(rt, project, 1, nodes.as_str());
     let mut library = files(rt, sides);
     let whole = by_frames(rt, &mut library, text.as_str(), 1);
     for &(cache, became) in engines {

@@ -243,18 +243,27 @@ pub(crate) const STRIPS: &[Strip] = &[
     ),
 ];
 
-/// The text of a strip's graph over the frames 0 and 1.
-pub(crate) fn strip_text(rt: &(impl Abort + AllocGlobal), &(effect, width, _): &Strip) -> String {
+/// The text of a graph of bytes whose picture has these sides, up to this last frame, of these nodes.
+pub(crate) fn text_of(
+    rt: &(impl Abort + AllocGlobal),
+    (width, height): (u32, u32),
+    last: u32,
+    nodes: &str,
+) -> String {
     let project = format!(in rt.alloc();
-        r#""width":{width},"height":1,"depth":"byte","components":"RGBA""#
+        r#""width":{width},"height":{height},"depth":"byte","components":"RGBA""#
     ).expect(rt, "no text");
-    let nodes = format!(in rt.alloc(); r#"{SOURCES},{{"name":"n","effect":{effect}}}"#);
-    let nodes = nodes.expect(rt, "no text");
     let whole = Whole {
         project: project.as_str(),
         format: "RGB_ALPHA",
-        last: 1,
-        nodes: nodes.as_str(),
+        last,
+        nodes,
     };
     whole.text(rt)
+}
+
+/// The text of a strip's graph over the frames 0 and 1.
+pub(crate) fn strip_text(rt: &(impl Abort + AllocGlobal), &(effect, width, _): &Strip) -> String {
+    let nodes = format!(in rt.alloc(); r#"{SOURCES},{{"name":"n","effect":{effect}}}"#);
+    text_of(rt, (width, 1), 1, nodes.expect(rt, "no text").as_str())
 }

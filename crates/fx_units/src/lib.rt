@@ -1,5 +1,5 @@
-//! The unit tests of the crates of levels 1 and 2, and of fx_effect, fx_actions and fx_whole, a module for each: what a
-//! crate's own public items answer, worked by hand. They stand here since a crate with tests is proved twice.
+//! The unit tests of the crates of levels 1 to 4 below the graph, a module for each, and of texts of graphs and words:
+//! what a crate's own public items answer, worked by hand. They stand here since a crate with tests is proved twice.
 #![tactic(auto)]
 
 #[cfg(test)]
@@ -15,7 +15,11 @@ mod directory;
 #[cfg(test)]
 mod effect;
 #[cfg(test)]
+mod files;
+#[cfg(test)]
 mod gate;
+#[cfg(test)]
+mod grouped;
 #[cfg(test)]
 mod image;
 #[cfg(test)]
@@ -27,6 +31,8 @@ mod pam;
 #[cfg(test)]
 mod params;
 #[cfg(test)]
+mod pipe;
+#[cfg(test)]
 mod pixel;
 #[cfg(test)]
 mod pool;
@@ -35,8 +41,18 @@ mod prefs;
 #[cfg(test)]
 mod props;
 #[cfg(test)]
+mod rounds;
+#[cfg(test)]
 mod same;
+#[cfg(test)]
+mod seq;
 #[cfg(test)]
 mod single_flight;
 #[cfg(test)]
+mod text;
+#[cfg(test)]
+mod toys;
+#[cfg(test)]
 mod turn;
+#[cfg(test)]
+mod words;

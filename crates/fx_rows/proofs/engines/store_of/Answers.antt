@@ -14,4 +14,4 @@ returns c =
     let exact : AreWanted (graph_nodes meaning_of g no_images) g.output at at wanted =
     subst (λ (ws : List Wanted). AreWanted (graph_nodes meaning_of g no_images) g.output at at ws) (sym c.deref.ensures.value)
     c.in_ok-wanted.ensures.exact in
-    wanted_held meaning_of g c.in_ok-store.store at wanted _ 4096 exact (c.in_ok-store.ensures.pictures tt)
+    wanted_held meaning_of g c.in_ok-store.store at wanted _ 8192 exact (c.in_ok-store.ensures.pictures tt)

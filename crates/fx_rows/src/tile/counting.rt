@@ -4,7 +4,7 @@ ghost use Rattle.fx_life.specs.Posts.{HasLife};
 ghost use Rattle.fx_scene.specs.Right.{HasWanted};
 ghost use Rattle.fx_scene.specs.Scenes.{graph_shown, images_in};
 ghost use Rattle.fx_tile.specs.Seats.{AreAll};
-ghost use Rattle.fx_units_graphs.specs.TileCounting.{counted, counted_number};
+ghost use Rattle.fx_rows.specs.TileCounting.{counted, counted_number};
 
 mod alone;
 mod course;

@@ -4,7 +4,7 @@ use Rattle.std.specs.List.{Contains}
 use Rattle.std.proofs.lemmas.List.{get_or-map, length-map}
 use Rattle.fx_effect.specs.declared.action.Safety.{Safety}
 use Rattle.fx_effect.specs.declared.action.Safety.TheVariants.{Unsafe, InstanceSafe, FullySafe}
-use Rattle.fx_units_graphs.specs.TileCounting.{counted_number}
+use Rattle.fx_rows.specs.TileCounting.{counted_number}
 
 abbrev pub three : List ℕ
 three = 0 ∷ 1 ∷ 2 ∷ []

@@ -1,5 +1,5 @@
 use Rattle.std.proofs.Common.{◌≡◌, ◌∙◌, ◌+◌, ap, length, rules}
-use Rattle.fx_units_graphs.proofs.tile.counting.rendered_in.Goals as goal
+use Rattle.fx_rows.proofs.tile.counting.rendered_in.Goals as goal
 
 pub closed-totals-requires : goal.closed-totals-requires
 closed-totals-requires g c =

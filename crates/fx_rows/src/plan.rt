@@ -1,20 +1,18 @@
 //! What frames demand, over graphs of the effects that are shipped, worked by hand.
-ghost use Rattle.std.specs.Prelude.{◌≤◌, IfOk, pos};
+ghost use Rattle.std.specs.Prelude.{◌≤◌, pos};
 ghost use Rattle.fx_scene.specs.Right.{HasWanted};
-ghost use Rattle.fx_scene.specs.Scenes.{graph_shown, images_in};
+ghost use Rattle.fx_scene.specs.Scenes.{images_in};
 ghost use Rattle.fx_shipped.specs.Shipped.{meaning_of};
 
+use crate::engines::{accepted, grid_of, scene_of};
+use crate::files::{add_file, greys};
 use crate::same::{same, same_at};
-use fx_base::{Grid, Memory, Name};
-use fx_graph::{Graph, accept};
+use crate::worked::text_of;
 use fx_outside::SureLibrary;
 use fx_plan::{Entry, plan};
 use fx_region::Regions;
-use fx_scene::{Scene, uses, wants};
-use fx_seq::Store;
+use fx_scene::{Scene, uses};
 use fx_shipped::Shipped;
-use fx_text::{GraphFault, read_graph};
-use std::alloc::Global;
 use std::process::Abort;
 
 // A graph whose output is the node `n`: the sides of the project, those of the file `s.pam`, the side of a tile, and
@@ -195,83 +193,22 @@ const LATER: &[(Planned<'static>, &[Row])] = &[
     (MOVED_BLUR, &[]),
 ];
 
-fn accepted(alloc: Global, text: &str) -> Result<Graph<Shipped>, GraphFault> {
-    let raw = read_graph(alloc, text.as_bytes(), 16, 8192)?;
-    accept(alloc, raw)
-}
-
-fn graph_of(rt: &(impl Abort + AllocGlobal), planned: &Planned<'_>) -> Graph<Shipped> {
-    let alloc = rt.alloc();
-    let (width, height) = planned.project;
-    let nodes = planned.nodes;
-    let project = format!(in alloc;
-        r#""width":{width},"height":{height},"depth":"byte","components":"RGBA""#
-    ).expect(rt, "no project");
-    let text = format!(in alloc;
-        r#"{{"ofxr":1,"project":{{{project}}},"output":{{"node":"n","file":"o#.pam","format":"RGB_ALPHA"}},"range":{{"first":0,"last":9}},"nodes":[{nodes}]}}"#
-    ).expect(rt, "no text");
-    accepted(alloc, text.as_str())
-        .ok()
-        .expect(rt, "the graph is refused")
-}
-
-// A file of grey zeros.
-fn file(rt: &(impl Abort + AllocGlobal), sides: (u32, u32)) -> Vec<u8> {
-    let (width, height) = sides;
-    let header = format!(in rt.alloc();
-        "P7\nWIDTH {width}\nHEIGHT {height}\nDEPTH 1\nMAXVAL 255\nENDHDR\n"
-    ).expect(rt, "no header");
-    let mut bytes = header.as_bytes().to_vec(rt.alloc()).expect(rt, "no bytes");
-    for _ in 0..height {
-        for _ in 0..width {
-            bytes.push(0).expect(rt, "no byte");
-        }
-    }
-    bytes
-}
-
-// The library of that file.
+// The library of a file of these sides.
 fn library_of(rt: &(impl Abort + AllocGlobal), sides: (u32, u32)) -> SureLibrary {
-    let bytes = file(rt, sides);
-    let name = String::from_str(rt.alloc(), "s.pam").expect(rt, "no name");
     let mut files = Vec::new(rt.alloc());
-    files.push((Name::of(name), bytes)).expect(rt, "no file");
+    add_file(rt, &mut files, "s.pam", greys(rt, sides, 0));
     SureLibrary::new(rt.alloc(), files)
 }
 
-// The frames that a graph wants at a frame.
-fn store_of(
-    alloc: Global,
-    library: &mut SureLibrary,
-    graph: &Graph<Shipped>,
-    at: u32,
-) -> Result<Store, Memory>
-    requires { at ≤ 999999 }
-    ensures { let g = graph_shown graph.now in
-        IfOk result (λ store. HasWanted meaning_of g (images_in store) g.output (pos at)) }
-{
-    let wanted = wants(alloc, graph, at, at)?;
-    match Store::fill(alloc, library, &wanted, 1_000_000, 8192) {
-        Ok(store) => Ok(store),
-        Err(_) => Err(Memory),
-    }
-}
-
-fn scene_of(rt: &(impl Abort + AllocGlobal), planned: &Planned<'_>, at: u32) -> Scene<Shipped>
+// The scene of a graph with the frames that it wants at a frame.
+fn planned_scene(rt: &(impl Abort + AllocGlobal), planned: &Planned<'_>, at: u32) -> Scene<Shipped>
     requires { at ≤ 999999 }
     ensures { HasWanted meaning_of result.graph (images_in result.store) result.graph.output (pos at) }
 {
-    let graph = graph_of(rt, planned);
+    let text = text_of(rt, planned.project, 9, planned.nodes);
     let mut library = library_of(rt, planned.file);
-    let store = store_of(rt.alloc(), &mut library, &graph, at).expect(rt, "a frame is refused");
-    let (scene, _) = Scene::new(graph, store, 7);
+    let (scene, _) = scene_of(rt, &mut library, text.as_str(), at);
     scene
-}
-
-fn grid_of(rt: &impl Abort, side: u32) -> Grid {
-    assert!(rt; side > 0);
-    assert!(rt; side <= 1024);
-    Grid { side }
 }
 
 fn row_of(entry: &Entry) -> Row {
@@ -291,7 +228,7 @@ fn rows_of(rt: &(impl Abort + AllocGlobal), planned: &Planned<'_>, at: u32) -> V
     requires { at ≤ 999999 }
 {
     let alloc = rt.alloc();
-    let scene = scene_of(rt, planned, at);
+    let scene = planned_scene(rt, planned, at);
     let at = i64::from(at);
     let regions = Regions::of(alloc, &scene, at).expect(rt, "no regions");
     let grid = grid_of(rt, planned.side);
@@ -331,7 +268,8 @@ const USED: &[Used] = &[(0, 0, 0), (1, 0, 1), (2, 0, 2), (3, 1, 2), (4, 2, 2)];
 fn used(rt: &(impl Abort + AllocGlobal), first: u32, last: u32) -> Vec<Used>
     requires { last ≤ 999999 }
 {
-    let graph = graph_of(rt, &NEIGHBOURS);
+    let text = text_of(rt, NEIGHBOURS.project, 9, NEIGHBOURS.nodes);
+    let graph = accepted(rt, text.as_str());
     let mut rows = Vec::new(rt.alloc());
     let found = uses(rt.alloc(), &graph, first, last).expect(rt, "no uses");
     for one in &found {

@@ -1,6 +1,6 @@
 use Rattle.std.proofs.Common.{w64, FitsSigned, rules}
 use Rattle.std.proofs.lemmas.Int.{to_z-of_z}
-use Rattle.fx_units_graphs.proofs.tile.counting.effect.CountedImageEffect.render.Goals as goal
+use Rattle.fx_rows.proofs.tile.counting.effect.CountedImageEffect.render.Goals as goal
 
 pub returns-clause-ok : goal.returns-clause-ok
 returns-clause-ok c =

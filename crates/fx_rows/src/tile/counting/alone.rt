@@ -7,7 +7,7 @@ ghost use Rattle.fx_life.specs.Posts.{HasLife};
 ghost use Rattle.fx_scene.specs.Right.{HasWanted};
 ghost use Rattle.fx_scene.specs.Scenes.{images_in};
 ghost use Rattle.fx_tile.specs.Seats.{AreAll};
-ghost use Rattle.fx_units_graphs.specs.TileCounting.{counted, counted_number, lone_tile};
+ghost use Rattle.fx_rows.specs.TileCounting.{counted, counted_number, lone_tile};
 
 use crate::same::{same, same_at};
 use crate::tile::counting::effect::Counted;

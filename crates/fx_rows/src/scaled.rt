@@ -1,4 +1,5 @@
 //! Graphs and takes over the effects of the program: the extent, each length, and what is no length.
+use crate::engines::accepted;
 use crate::same::{same, same_at};
 use fx_base::Rect;
 use fx_graph::{Graph, Work, accept, param_named};
@@ -188,13 +189,8 @@ const SIZES: &[((u32, u32), &[(i64, i64)])] = &[
 // The scales by their places in the tables.
 const SCALES: [u32; 3] = [2, 4, 8];
 
-fn accepted(alloc: Global, text: &str) -> Result<Graph<Shipped>, GraphFault> {
-    let raw = read_graph(alloc, text.as_bytes(), 1024, 8192)?;
-    accept(alloc, raw)
-}
-
 fn scaled_text(rt: &(impl Abort + AllocGlobal), text: &str, q: u32) -> Graph<Shipped> {
-    let graph = accepted(rt.alloc(), text).ok().expect(rt, "refused");
+    let graph = accepted(rt, text);
     assert!(rt; q > 0);
     assert!(rt; q <= 8);
     lengths_are_described(&graph);

@@ -2,10 +2,10 @@ use Rattle.std.proofs.Common.{ap, subst, sym}
 use Rattle.std.specs.List.{Contains}
 use Rattle.fx_graph.specs.Shown.{GraphShown}
 use Rattle.fx_life.proofs.LifeLemmas.{started_life}
-use Rattle.fx_units_graphs.specs.TileCounting.{counted_number}
-use Rattle.fx_units_graphs.specs.declared.tile.counting.effect.Counted.{Counted}
-use Rattle.fx_units_graphs.proofs.TileCountingLemmas.{among_three, apart_by}
-use Rattle.fx_units_graphs.proofs.tile.counting.life_of.Goals as goal
+use Rattle.fx_rows.specs.TileCounting.{counted_number}
+use Rattle.fx_rows.specs.declared.tile.counting.effect.Counted.{Counted}
+use Rattle.fx_rows.proofs.TileCountingLemmas.{among_three, apart_by}
+use Rattle.fx_rows.proofs.tile.counting.life_of.Goals as goal
 
 pub start-requires-clause-numbers : goal.start-requires-clause-numbers
 start-requires-clause-numbers c = apart_by (λ (e : Counted). counted_number e.safety) c.args.effects.items c.requires

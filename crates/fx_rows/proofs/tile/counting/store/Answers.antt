@@ -5,9 +5,9 @@ use Rattle.fx_scene.specs.Scenes.{graph_nodes, graph_shown, no_images}
 use Rattle.fx_scene.specs.Wants.{AreWanted}
 use Rattle.fx_seq.specs.declared.wanted.Wanted.{Wanted}
 use Rattle.fx_tile.proofs.FilledLemmas.{wanted_held}
-use Rattle.fx_units_graphs.specs.TileCounting.{counted}
-use Rattle.fx_units_graphs.specs.declared.tile.counting.effect.Counted.{Counted}
-use Rattle.fx_units_graphs.proofs.tile.counting.store.Goals as goal
+use Rattle.fx_rows.specs.TileCounting.{counted}
+use Rattle.fx_rows.specs.declared.tile.counting.effect.Counted.{Counted}
+use Rattle.fx_rows.proofs.tile.counting.store.Goals as goal
 
 pub returns-in-Ok : goal.returns-in-Ok
 returns-in-Ok c =

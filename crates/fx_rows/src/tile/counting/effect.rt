@@ -2,7 +2,7 @@
 ghost use Rattle.std.specs.Prelude.{◌≡◌, Some, None, codes, if◌then◌else◌};
 ghost use Rattle.std.specs.Str.{bytes_eq};
 ghost use Rattle.fx_effect.specs.declared.action.Safety.TheVariants as safety;
-ghost use Rattle.fx_units_graphs.specs.TileCounting.{counted, counted_laws, counted_name, counted_number, few_counted, same_safety};
+ghost use Rattle.fx_rows.specs.TileCounting.{counted, counted_laws, counted_name, counted_number, few_counted, same_safety};
 
 use crate::tile::counting::course::Action;
 use crate::tile::counting::notes::Notes;

@@ -5,8 +5,8 @@ use Rattle.fx_base.specs.Rect.{IsWithin}
 use Rattle.fx_base.proofs.RectLemmas.{IsWithin-enclosed}
 use Rattle.fx_image.specs.Stored.{Stored}
 use Rattle.fx_tile.specs.Tiles.{IsRegion}
-use Rattle.fx_units_graphs.specs.TileCounting.{lone_tile}
-use Rattle.fx_units_graphs.proofs.tile.counting.alone.shown.Goals as goal
+use Rattle.fx_rows.specs.TileCounting.{lone_tile}
+use Rattle.fx_rows.proofs.tile.counting.alone.shown.Goals as goal
 
 -- the rectangle of the image
 abbrev whole : Bounds
