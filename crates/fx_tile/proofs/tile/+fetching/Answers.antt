@@ -123,7 +123,7 @@ image_of-gathered-requires g t c κs within =
     let ready =
     subst (λ z. All (λ need. IsReady g.E.ImageEffect.meaning c.args.setup.now c.args.node need.end) z) (sym c.as_slice.ensures.value)
     c.in_ok-needs.ensures.ready in
-    (omega (arith, c.decreases), (within.0, (within.1, (c.requires.setup, (record { rows = c.requires.seat.rows; gates = c.requires.seat.gates; }, ready)))))
+    (omega (arith, c.decreases), (within.0, (within.1, (c.requires.setup, (record { rows = c.requires.seat.rows; gates = c.requires.seat.gates }, ready)))))
 
 pub gathered-gathered_unless_busy-requires : goal.gathered-gathered_unless_busy-requires
 gathered-gathered_unless_busy-requires g t c κs within =
@@ -150,9 +150,10 @@ tile_unless_busy-fetch_unless_busy-requires g t c κs within =
     let fits : SFits w64 c.in-Render.frame = search rules in
     let same : c.in-Render.frame ≡ to_z w64 (of_z w64 c.in-Render.frame) = sym (to_z-of_z w64 c.in-Render.frame fits) in
     let renderable =
-    subst (λ f. IsRenderable g.E.ImageEffect.meaning c.args.setup.now c.in-Render.m f c.in-Render.region) same ready.1 in
-    (omega (arith, c.decreases, ready.0),
-    (within.0, (within.1, (c.requires.setup, (c.requires.seat, (renderable, c.in_ok-key-in-Render.ensures))))))
+    subst (λ f. IsRenderable g.E.ImageEffect.meaning c.args.setup.now c.in-Render.m f c.in-Render.region) same ready.1 in (
+      omega (arith, c.decreases, ready.0),
+      (within.0, (within.1, (c.requires.setup, (c.requires.seat, (renderable, c.in_ok-key-in-Render.ensures))))),
+    )
 
 pub gathered-loop-i-init : goal.gathered-loop-i-init
 gathered-loop-i-init g t c =
