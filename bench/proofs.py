@@ -1,5 +1,6 @@
 #!/usr/bin/env python3
-"""Where the check of a crate spends its time: the seconds of each module of its proof, the dearest first.
+"""Where the check of a crate spends its time: the seconds of each module of its proof, and the steps of each goal, the
+dearest first.
 
     bench/proofs.py CRATE [--test] [--most N]     the N dearest, 40 where none is given; --test with its tests
 
@@ -7,9 +8,11 @@ The libraries that it stands on are those that `rt ci` left under crates/*/out. 
 as it ends, so the time from one file to the next is that module's, by the clock: run it with nothing beside it. Of a
 function f, f.Lts is what its body does step by step, and grows with its statements and with what each of them may drop;
 f.Proof.decls is what search finds, f.Answers.decls what stands in the files of proofs, f.Tie.decls what ties the two to
-the code. A module at the top of proofs is a file of lemmas."""
+the code. A module at the top of proofs is a file of lemmas. The steps of a goal are counted, not timed, so they are
+the same beside anything else: a dear goal of f.Proof is one that a line in the file of answers takes to almost none."""
 import argparse
 import os
+import re
 import shutil
 import subprocess
 import sys
@@ -62,8 +65,27 @@ def modules_in(folder):
     return [((when - before) / 1e9, name) for (before, _), (when, name) in zip(files, files[1:])]
 
 
+# What the check records of a declaration beside each module: its name, and the steps that it took.
+RECORD = re.compile(r'"name":"([^"]*)","notes":.*?"steps":\[([0-9]+),')
+
+# The modules that are no goals, by how their names end.
+MADE = re.compile(r"\.(Lts|Kinds|Code|Tie|Reads|Mir|View|Layout)$")
+
+
+def goals_in(folder, crate):
+    """The steps and the name of each goal that the check recorded."""
+    goals = []
+    for at, _, names in os.walk(folder):
+        for name in names if os.path.basename(at) == "records" else []:
+            module = name.removesuffix(".oantt").removesuffix(".decls").removeprefix(f"Rattle-{crate}-proofs.")
+            if not MADE.search(module):
+                with open(f"{at}/{name}", encoding="latin-1") as record:
+                    goals += [(int(steps), f"{module} {goal}") for goal, steps in RECORD.findall(record.read())]
+    return goals
+
+
 def main():
-    parser = argparse.ArgumentParser(description="the seconds of each module of a crate's proof")
+    parser = argparse.ArgumentParser(description="the seconds of each module of a proof, and the steps of each goal")
     parser.add_argument("crate")
     parser.add_argument("--test", action="store_true")
     parser.add_argument("--most", type=int, default=40)
@@ -75,11 +97,14 @@ def main():
     with tempfile.TemporaryDirectory() as folder:
         words = command(said.crate, named, kit, folder, said.test)
         ran = subprocess.run(words, cwd=f"{TOP}/crates/{said.crate}", capture_output=True, text=True)
-        modules = modules_in(folder)
+        modules, goals = modules_in(folder), goals_in(folder, said.crate)
     print((ran.stdout.strip() or ran.stderr.strip() or "nothing was said").split("\n")[-1])
     print(f"{sum(seconds for seconds, _ in modules):8.1f} s in {len(modules)} modules")
     for seconds, name in sorted(modules, reverse=True)[: said.most]:
         print(f"{seconds:8.1f} {name.removesuffix('.oantt').removeprefix(f'Rattle-{said.crate}-')}")
+    print(f"{sum(steps for steps, _ in goals) // 1000:8} thousand steps in {len(goals)} goals")
+    for steps, name in sorted(goals, reverse=True)[: said.most]:
+        print(f"{steps // 1000:8} {name}")
     sys.exit(ran.returncode)
 
 
