@@ -17,13 +17,21 @@ plus_assoc u v w = let first : (u.0 + v.0) + w.0 ≡ u.0 + (v.0 + w.0) = omega a
 
 module _ {S D T : Type 0} (fits : S → Type 0) (right : ℕ → T → Type 0) (weight : S → ℕ × ℕ) (out_weight : T → ℕ × ℕ) (d : DrawState D) (v w new : Worker S D T) (so_far : IsWorking fits right weight out_weight d v w) where
   -- memory was wanting
-  pub gives_up : fits new.seat → new.draw.draw ≡ d → new.draw.parts ≡ 1 → new.outs.items ≡ w.outs.items → new.failed ≡ true → HasWorked fits right weight out_weight d v new
+  gives_up : fits new.seat → new.draw.draw ≡ d → new.draw.parts ≡ 1 → new.outs.items ≡ w.outs.items → new.failed ≡ true → HasWorked fits right weight out_weight d v new
   gives_up fit draw parts outs failed = record {
     fit = fit;
     ended = record { draw = draw; parts = parts; told = λ works. cc; numbers = λ works. cc };
     outs_right = subst (All (λ (o : ℕ × T). right o.0 o.1)) (sym outs) so_far.outs_right;
     weighs = λ works. cc;
   }
+
+  -- memory was wanting before a number was drawn
+  pub stops_before : new.seat ≡ w.seat → new.draw ≡ w.draw → new.outs.items ≡ w.outs.items → new.failed ≡ true → HasWorked fits right weight out_weight d v new
+  stops_before seat draw outs failed = gives_up (subst fits (sym seat) so_far.fit) (ap (λ (s : DrawSeatState D). s.draw) (draw ∙ so_far.draw)) (ap (λ (s : DrawSeatState D). s.parts) (draw ∙ so_far.draw)) outs failed
+
+  -- memory was wanting at the turn for the number n
+  pub stops_at : (n : ℕ) → fits new.seat → new.draw ≡ with_drawn w.draw n → new.outs.items ≡ w.outs.items → new.failed ≡ true → HasWorked fits right weight out_weight d v new
+  stops_at n fit draw outs failed = gives_up fit (ap (λ (s : DrawSeatState D). s.draw) draw ∙ ap (λ (s : DrawSeatState D). s.draw) so_far.draw) (ap (λ (s : DrawSeatState D). s.parts) draw ∙ ap (λ (s : DrawSeatState D). s.parts) so_far.draw) outs failed
 
   -- no number was left
   pub ends : new.seat ≡ w.seat → (word : ℕ) → new.draw ≡ with_past w.draw word → new.outs.items ≡ w.outs.items → HasWorked fits right weight out_weight d v new
