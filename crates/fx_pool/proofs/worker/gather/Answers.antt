@@ -4,7 +4,7 @@ use Rattle.std.proofs.lemmas.List.Elements.{All-pop, All-push}
 use Rattle.fx_pool.specs.declared.worker.Worker.{Worker}
 use Rattle.fx_pool.specs.Draws.{AllDrawn, DrawSeatState}
 use Rattle.fx_pool.specs.Working.{HasEnded, numbers_of, outs_of, seats_of}
-use Rattle.fx_pool.proofs.Gathering.{seat_moved_on, outs_moved_on}
+use Rattle.fx_pool.proofs.Gathering.{empty, seat_moved_on, outs_moved_on}
 use Rattle.fx_pool.proofs.worker.gather.Goals as goal
 
 pub loop-worker-preserved : goal.loop-worker-preserved
@@ -39,10 +39,6 @@ loop-worker-preserved g c =
           ap (λ (l : List Out). l ++ outs_of (reverse more)) kept
           ∙ outs_moved_on c.loop-worker.gathered.outs.items more w _ (ap (λ (l : List W). c.loop-worker.gathered.outs.items ++ outs_of (reverse l)) (sym popped) ∙ inv.outs before.0);
     }
-
-empty : {A : Type 0} (xs : List A) → length xs ≡ 0 → xs ≡ []
-empty [] e = λ k. []
-empty (x ∷ xs) e = absurd (omega arith)
 
 pub returns-clause-outs : goal.returns-clause-outs
 returns-clause-outs g c = λ works.
