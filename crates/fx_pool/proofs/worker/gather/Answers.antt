@@ -1,6 +1,6 @@
 use Rattle.std.proofs.Common.{rules, ◌≡◌, ℕ, ◌+◌, ◌∷◌, ◌++◌, [], List, All, Some, false, length, reverse, sym, ap, ◌∙◌, subst, arith}
 use Rattle.std.proofs.lemmas.List.{map-append, length-append, append-nil}
-use Rattle.std.proofs.lemmas.List.Elements.{All-pop, All-push}
+use Rattle.std.proofs.lemmas.List.Elements.{All-nil, All-pop, All-push}
 use Rattle.fx_pool.specs.declared.worker.Worker.{Worker}
 use Rattle.fx_pool.specs.Draws.{AllDrawn, DrawSeatState}
 use Rattle.fx_pool.specs.Working.{HasEnded, numbers_of, outs_of, seats_of}
@@ -39,6 +39,19 @@ loop-worker-preserved g c =
           ap (λ (l : List Out). l ++ outs_of (reverse more)) kept
           ∙ outs_moved_on c.loop-worker.gathered.outs.items more w _ (ap (λ (l : List W). c.loop-worker.gathered.outs.items ++ outs_of (reverse l)) (sym popped) ∙ inv.outs before.0);
     }
+
+pub returns-clause-seats : goal.returns-clause-seats
+returns-clause-seats g c =
+    let W : Type 0 = Worker g.row.S.Denot g.row.D.Denot g.row.T.Denot in
+    let none : c.loop-worker.workers.items ≡ [] = empty c.loop-worker.workers.items (omega (arith, c.in_default.ensures.cases.0)) in
+    sym (append-nil c.loop-worker.seats.items)
+    ∙ (ap (λ (l : List W). c.loop-worker.seats.items ++ reverse (seats_of l)) (sym none) ∙ c.loop-worker.invariant.seats)
+
+pub returns-clause-works : goal.returns-clause-works
+returns-clause-works g c = λ works.
+    let W : Type 0 = Worker g.row.S.Denot g.row.D.Denot g.row.T.Denot in
+    let none : c.loop-worker.workers.items ≡ [] = empty c.loop-worker.workers.items (omega (arith, c.in_default.ensures.cases.0)) in
+    c.loop-worker.invariant.works works (subst (All (λ (w : W). w.failed ≡ false)) (sym none) (All-nil (λ (w : W). w.failed ≡ false)))
 
 pub returns-clause-outs : goal.returns-clause-outs
 returns-clause-outs g c = λ works.
