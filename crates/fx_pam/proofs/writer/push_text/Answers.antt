@@ -1,11 +1,16 @@
-use Rattle.std.proofs.Common.{◌≡◌, ◌∙◌, ◌++◌, ap, string_bytes, append_assoc, rules}
+use Rattle.std.proofs.Common.{◌≡◌, ◌∙◌, ◌++◌, ap, string_bytes, append_assoc, ℕ, rules}
 use Rattle.std.proofs.lemmas.Result.{on_ok_weaker, on_err_weaker}
 use Rattle.fx_base.specs.Rect.{columns, rows}
+use Rattle.fx_pixel.specs.declared.Format.{Format}
 use Rattle.fx_pixel.specs.Pixel.{greatest}
 use Rattle.fx_image.specs.Stored.{image_of}
 use Rattle.fx_pam.specs.Text.{header, raster}
 use Rattle.fx_pam.proofs.WrittenImage.{begun_with}
 use Rattle.fx_pam.proofs.writer.push_text.Goals as goal
+
+same_header : (format : Format) {w h m wide high most : ℕ} → w ≡ wide → h ≡ high → m ≡ most → header w h format m ≡ header wide high format most
+same_header format {w} {h} {m} {wide} {high} {most} p q r =
+    ap (λ n. header n h format m) p ∙ ap (λ n. header wide n format m) q ∙ ap (header wide high format) r
 
 pub returns : goal.returns
 returns c =
@@ -13,7 +18,10 @@ returns c =
     let old = c.args.out.now.items in
     let begun = c.extend_from_slice.new.self.items in
     let head = header (columns image.rect) (rows image.rect) c.args.format (greatest image.depth) in
-    let text : string_bytes c.in_ok-header.header ≡ head = search rules in
+    let wide : c.gap-width.result ≡ columns image.rect = search rules in
+    let high : c.gap-height.result ≡ rows image.rect = search rules in
+    let text : string_bytes c.in_ok-header.header ≡ head =
+    c.in_ok-header.ensures ∙ same_header c.args.format wide high (c.greatest.ensures ∙ ap greatest c.depth.ensures) in
     let with_head : begun ≡ old ++ head =
     c.in_ok-extend_from_slice.ensures.items
     ∙ ap (λ bs. bs ++ c.as_bytes.result.now) c.reserve_exact.ensures.items
