@@ -1,9 +1,10 @@
-use Rattle.std.proofs.Common.{◌≡◌, ◌<◌, ◌+◌, ◌*◌, ◌∙◌, ℕ, pos, ◌+ℤ◌, ◌-ℤ◌, slice_index, sym, subst, ap, arith, w64}
+use Rattle.std.proofs.Common.{◌≡◌, ◌<◌, ◌+◌, ◌*◌, ◌∙◌, ℕ, pos, ◌+ℤ◌, ◌-ℤ◌, ◌<ℤ◌, slice_index, sym, subst, ap, arith, w64}
 use Rattle.std.proofs.lemmas.Int.{ints, to_z-of_z}
+use Rattle.fx_base.specs.Bounds.{Bounds}
 use Rattle.fx_base.specs.Rect.{IsStep}
 use Rattle.fx_base.proofs.RectLaws.{gap_is}
-use Rattle.fx_pixel.specs.Pixel.{count}
-use Rattle.fx_image.specs.Stored.{pixel_in}
+use Rattle.fx_pixel.specs.Pixel.{size, count}
+use Rattle.fx_image.specs.Stored.{pixel_size, pixel_in}
 use Rattle.fx_kernel.specs.RowLaws.{samples_of}
 use Rattle.fx_effect.specs.Given.{row_pixel}
 use Rattle.fx_area.specs.declared.lines.Line.{Line}
@@ -56,3 +57,40 @@ lend_line-line-requires-clause-few c =
     let whole = gap_is c.args.rect.x1 c.args.rect.x2 (omega (arith, ints)) in
     let is = c.line.ensures ∙ ap (box_line k.frame k.rx c.args.rect) (to_z-of_z w64 c.args.j c.ranges.j) in
     subst (λ (l : Line). l.count < 4294967296) (sym is) (omega (arith, ints, whole))
+
+pub line-requires-clause-narrow : goal.line-requires-clause-narrow
+line-requires-clause-narrow c = c.requires.line.narrow
+
+pub line-requires-clause-near : goal.line-requires-clause-near
+line-requires-clause-near c = c.requires.line.near
+
+pub line-requires-clause-wide : goal.line-requires-clause-wide
+line-requires-clause-wide c = c.requires.line.wide
+
+pub lend_line-line-requires-clause-source : goal.lend_line-line-requires-clause-source
+lend_line-line-requires-clause-source c = c.requires.line.source
+
+some_width : (h : ℕ) (rect : Bounds) → rect.x1 <ℤ rect.x2 → 0 < line_width h rect
+some_width h rect wide = let whole = gap_is rect.x1 rect.x2 (omega (arith, ints, wide)) in omega (arith, ints, whole, wide)
+
+pub lend_line-line-requires-clause-some : goal.lend_line-line-requires-clause-some
+lend_line-line-requires-clause-some c =
+    let k = c.args.self.now in
+    subst (λ (l : Line). 0 < l.count) (sym c.line.ensures) (some_width k.rx c.args.rect c.requires.line.wide)
+
+pub lend_line-line-requires-clause-long : goal.lend_line-line-requires-clause-long
+lend_line-line-requires-clause-long c =
+    let wide = ap (λ (l : Line). l.count * pixel_size c.args.depth c.args.components) c.line.ensures in
+    c.requires.line.byte_for_each ∙ sym wide
+
+regrouped : (w n s : ℕ) → w * (n * s) ≡ (w * n) * s
+regrouped w n s = omega arith
+
+pub take_row-requires-clause-long : goal.take_row-requires-clause-long
+take_row-requires-clause-long c =
+    let k = c.args.self.now in
+    let d = c.args.depth in
+    let e = c.args.components in
+    c.lend_line-line.ensures.long ∙ ap (λ (l : Line). l.count * pixel_size d e) c.line.ensures
+    ∙ regrouped (line_width k.rx c.args.rect) (count e) (size d)
+    ∙ ap (λ n. n * size d) (sym c.requires.line.cell_for_each)
