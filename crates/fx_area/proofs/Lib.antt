@@ -5,6 +5,7 @@ mod LineLaws
 mod ShortLaws
 mod GatherLaws
 mod SquareLaws
+mod SideLaws
 mod ConvolveLaws
 mod AreaLaws
 mod NineLaws
