@@ -1,23 +1,18 @@
-use Rattle.std.proofs.Common.{◌∙◌, pos, ◌+ℤ◌, ap, arith, w64, to_z, of_z, FitsSigned, rules}
+use Rattle.std.proofs.Common.{◌∙◌, pos, ◌+ℤ◌, ap, arith, w64, to_z, of_z}
 use Rattle.std.proofs.lemmas.Int.{to_z-of_z}
 use Rattle.fx_base.specs.Rect.{columns, rows}
 use Rattle.fx_image.specs.Stored.{pixel_size}
 use Rattle.fx_effect.specs.Given.{row_pixel}
 use Rattle.fx_area.specs.declared.lines.Line.{Line}
 use Rattle.fx_area.proofs.AreaLaws.{area_more, row_fits, product_fits, sides_of}
+use Rattle.fx_area.proofs.SideLaws.{columns_are, rows_are}
 use Rattle.fx_area.proofs.extreme.fill_area.Goals as goal
 
 pub loop-j-init : goal.loop-j-init
 loop-j-init c =
-    let a : FitsSigned w64 c.area.inside.x1 = search rules in
-    let b : FitsSigned w64 c.area.inside.x2 = search rules in
-    let d : FitsSigned w64 c.area.inside.y1 = search rules in
-    let e : FitsSigned w64 c.area.inside.y2 = search rules in
-    let wide = simp to_z-of_z at c.offset-width.ensures in
-    let high = simp to_z-of_z at c.offset-j-end.ensures in
     record {
-      until = rw (← c.area.view_is) high;
-      wide_is = rw (← c.area.view_is) wide;
+      until = rows_are _ c.args.area c.offset-j-end.result c.area.view_is c.requires.area c.offset-j-end.ensures;
+      wide_is = columns_are _ c.args.area c.offset-width.result c.area.view_is c.requires.area c.offset-width.ensures;
       shows = λ i j low less. absurd (omega (arith, less));
     }
 
