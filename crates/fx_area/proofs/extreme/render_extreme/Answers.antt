@@ -8,6 +8,7 @@ use Rattle.fx_effect.specs.Given.{input_pixel}
 use Rattle.fx_area.specs.Erode.{radius}
 use Rattle.fx_area.specs.Gathered.{area_pixel, extreme_pixel}
 use Rattle.fx_area.proofs.AreaLaws.{sides_of, take_all, rows_fit}
+use Rattle.fx_area.proofs.SideLaws.{columns_are, rows_are, low_end}
 use Rattle.fx_area.proofs.SquareLaws.{round_of, shows_as, picked_as, area_as, part_pixel, written_as}
 use Rattle.fx_area.proofs.extreme.render_extreme.Goals as goal
 
@@ -59,10 +60,7 @@ pick_squares-requires-clause-wide c =
     c.row_bytes-near.ensures.near c.radius-radius.ensures.value c.radius-radius.ensures.few
     (c.grow-area.ensures.bounds
     ∙ ap (λ (r : Bounds). grown r (to_z w64 c.radius-radius.result) (to_z w64 c.radius-radius.result)) c.rect-rect.ensures) in
-    let a : FitsSigned w64 c.area.inside.x1 = search rules in
-    let b : FitsSigned w64 c.area.inside.x2 = search rules in
-    let ends = simp to_z-of_z at c.offset-width.ensures in
-    let w : c.offset-width.result ≡ columns c.grow-area.result = rw (← c.area.view_is) ends in
+    let w = columns_are _ c.grow-area.result c.offset-width.result c.area.view_is round.proper c.offset-width.ensures in
     omega (arith, w, round.columns_are, round.some_columns, c.radius-radius.ensures.value)
 
 pub pick_squares-requires-clause-high : goal.pick_squares-requires-clause-high
@@ -74,10 +72,7 @@ pick_squares-requires-clause-high c =
     c.row_bytes-near.ensures.near c.radius-radius.ensures.value c.radius-radius.ensures.few
     (c.grow-area.ensures.bounds
     ∙ ap (λ (r : Bounds). grown r (to_z w64 c.radius-radius.result) (to_z w64 c.radius-radius.result)) c.rect-rect.ensures) in
-    let a : FitsSigned w64 c.area.inside.y1 = search rules in
-    let b : FitsSigned w64 c.area.inside.y2 = search rules in
-    let ends = simp to_z-of_z at c.offset-height.ensures in
-    let h : c.offset-height.result ≡ rows c.grow-area.result = rw (← c.area.view_is) ends in
+    let h = rows_are _ c.grow-area.result c.offset-height.result c.area.view_is round.proper c.offset-height.ensures in
     omega (arith, h, round.rows_are, round.some_rows, c.radius-radius.ensures.value)
 
 pub fill_with-requires-clause-makes : goal.fill_with-requires-clause-makes
@@ -89,10 +84,7 @@ fill_with-requires-clause-makes c =
     c.row_bytes-near.ensures.near c.radius-radius.ensures.value c.radius-radius.ensures.few
     (c.grow-area.ensures.bounds
     ∙ ap (λ (r : Bounds). grown r (to_z w64 c.radius-radius.result) (to_z w64 c.radius-radius.result)) c.rect-rect.ensures) in
-    let a : FitsSigned w64 c.area.inside.x1 = search rules in
-    let b : FitsSigned w64 c.area.inside.x2 = search rules in
-    let ends = simp to_z-of_z at c.offset-width.ensures in
-    let w : c.offset-width.result ≡ columns c.grow-area.result = rw (← c.area.view_is) ends in
+    let w = columns_are _ c.grow-area.result c.offset-width.result c.area.view_is round.proper c.offset-width.ensures in
     omega (arith, w, (sides_of c.grow-area.result round.proper).few_columns)
 
 pub fill_with-requires-clause-ready : goal.fill_with-requires-clause-ready
@@ -107,12 +99,7 @@ fill_with-requires-clause-ready c =
     let area = c.grow-area.result in
     let image = c.args.out.now.image.now in
     let size = pixel_size image.depth image.components in
-    let a : FitsSigned w64 c.area.inside.x1 = search rules in
-    let b : FitsSigned w64 c.area.inside.x2 = search rules in
-    let ends = simp to_z-of_z at c.offset-width.ensures in
-    let w : c.offset-width.result ≡ columns area = rw (← c.area.view_is) ends in
-    let left : FitsSigned w64 c.rect.inside.x1 = search rules in
-    let bottom : FitsSigned w64 c.rect.inside.y1 = search rules in
+    let w = columns_are _ area c.offset-width.result c.area.view_is round.proper c.offset-width.ensures in
     let new = c.pick_squares.new.bytes in
     let bytes =
     c.as_slice.ensures.value
@@ -123,10 +110,12 @@ fill_with-requires-clause-ready c =
     ∙ ap (λ d. rows area * columns area * pixel_size d c.components-components.result) c.depth-depth.ensures
     ∙ ap (λ e. rows area * columns area * pixel_size image.depth e) c.components-components.ensures in
     record {
-      left_is =
-          sym (to_z-of_z w64 c.rect.inside.x1 left ∙ ap (λ (r : Bounds). r.x1) (c.rect.view_is ∙ c.rect-rect.ensures));
-      bottom_is =
-          sym (to_z-of_z w64 c.rect.inside.y1 bottom ∙ ap (λ (r : Bounds). r.y1) (c.rect.view_is ∙ c.rect-rect.ensures));
+      left_is = sym (
+          ap (λ (r : Bounds). to_z w64 (of_z w64 r.x1)) (c.rect.view_is ∙ c.rect-rect.ensures)
+          ∙ low_end rect.x1 rect.x2 c.row_bytes-near.ensures.near.left round.wide c.row_bytes-near.ensures.near.right);
+      bottom_is = sym (
+          ap (λ (r : Bounds). to_z w64 (of_z w64 r.y1)) (c.rect.view_is ∙ c.rect-rect.ensures)
+          ∙ low_end rect.y1 rect.y2 c.row_bytes-near.ensures.near.bottom round.high c.row_bytes-near.ensures.near.top);
       wide = omega (arith, w, round.columns_are);
       long = rw (long, w) (rows_fit (rows rect) (rows area) (columns area) size (omega (arith, round.rows_are)));
     }
@@ -145,19 +134,15 @@ returns-clause-ok c =
     let e = c.args.extreme in
     let d = c.args.out.now.image.now.depth in
     let s = c.args.out.now.image.now.components in
-    let a : FitsSigned w64 c.area.inside.x1 = search rules in
-    let b : FitsSigned w64 c.area.inside.x2 = search rules in
-    let m : FitsSigned w64 c.area.inside.y1 = search rules in
-    let n : FitsSigned w64 c.area.inside.y2 = search rules in
-    let wide = simp to_z-of_z at c.offset-width.ensures in
-    let high = simp to_z-of_z at c.offset-height.ensures in
-    let w : c.offset-width.result ≡ columns area = rw (← c.area.view_is) wide in
-    let h : c.offset-height.result ≡ rows area = rw (← c.area.view_is) high in
-    let left : FitsSigned w64 c.rect.inside.x1 = search rules in
-    let bottom : FitsSigned w64 c.rect.inside.y1 = search rules in
+    let w = columns_are _ area c.offset-width.result c.area.view_is round.proper c.offset-width.ensures in
+    let h = rows_are _ area c.offset-height.result c.area.view_is round.proper c.offset-height.ensures in
     let frame : FitsSigned w64 v.frame = search rules in
-    let left_is = to_z-of_z w64 c.rect.inside.x1 left ∙ ap (λ (r : Bounds). r.x1) (c.rect.view_is ∙ c.rect-rect.ensures) in
-    let bottom_is = to_z-of_z w64 c.rect.inside.y1 bottom ∙ ap (λ (r : Bounds). r.y1) (c.rect.view_is ∙ c.rect-rect.ensures) in
+    let left_is =
+    ap (λ (r : Bounds). to_z w64 (of_z w64 r.x1)) (c.rect.view_is ∙ c.rect-rect.ensures)
+    ∙ low_end rect.x1 rect.x2 c.row_bytes-near.ensures.near.left round.wide c.row_bytes-near.ensures.near.right in
+    let bottom_is =
+    ap (λ (r : Bounds). to_z w64 (of_z w64 r.y1)) (c.rect.view_is ∙ c.rect-rect.ensures)
+    ∙ low_end rect.y1 rect.y2 c.row_bytes-near.ensures.near.bottom round.high c.row_bytes-near.ensures.near.top in
     let old = c.as_mut_slice-squares.result.now in
     let new = c.pick_squares.new.bytes in
     let bytes =
