@@ -2,6 +2,7 @@ use Rattle.std.proofs.Common.{◌≡◌, ◌∙◌, pos, ◌+ℤ◌, ap, arith, 
 use Rattle.std.proofs.lemmas.Int.{ints, to_z-of_z}
 use Rattle.fx_base.specs.Bounds.{Bounds}
 use Rattle.fx_area.proofs.AreaLaws.{fits_far, level_far, sides_of}
+use Rattle.fx_area.proofs.SideLaws.{columns_are}
 use Rattle.fx_area.proofs.extreme.area_line.Goals as goal
 
 pub returns-clause-place : goal.returns-clause-place
@@ -20,3 +21,20 @@ returns-clause-place c =
       (omega (arith, ints, left, area.near.left.0), omega (arith, ints, left, area.near.left.1)),
       (omega (arith, ints, level, far.0), omega (arith, ints, level, far.1)),
     )
+
+pub offset-requires : goal.offset-requires
+offset-requires c =
+    let area = c.requires.area in
+    let p = ap (λ (r : Bounds). r.x1) c.area.view_is in
+    let q = ap (λ (r : Bounds). r.x2) c.area.view_is in
+    omega (arith, ints, p, q, area.wide, area.near.left.0, area.near.left.1, area.near.right.0, area.near.right.1)
+
+pub returns-clause-some : goal.returns-clause-some
+returns-clause-some c =
+    let w = columns_are _ c.args.area c.offset.result c.area.view_is c.requires.area c.offset.ensures in
+    omega (arith, w, (sides_of c.args.area c.requires.area).some_columns)
+
+pub returns-clause-few : goal.returns-clause-few
+returns-clause-few c =
+    let w = columns_are _ c.args.area c.offset.result c.area.view_is c.requires.area c.offset.ensures in
+    omega (arith, w, (sides_of c.args.area c.requires.area).few_columns)
