@@ -4,7 +4,7 @@ use Rattle.fx_base.specs.Bounds.{Bounds}
 use Rattle.fx_base.specs.Rect.{columns, rows, grown}
 use Rattle.fx_pixel.specs.Pixel.{IsOfDepth}
 use Rattle.fx_image.specs.Stored.{pixel_size}
-use Rattle.fx_effect.specs.Given.{input_pixel}
+use Rattle.fx_effect.specs.Given.{ShowsClip, input_pixel}
 use Rattle.fx_area.specs.Erode.{radius}
 use Rattle.fx_area.specs.Gathered.{area_pixel, extreme_pixel}
 use Rattle.fx_area.proofs.AreaLaws.{sides_of, take_all, rows_fit}
@@ -62,6 +62,29 @@ pick_squares-requires-clause-wide c =
     ∙ ap (λ (r : Bounds). grown r (to_z w64 c.radius-radius.result) (to_z w64 c.radius-radius.result)) c.rect-rect.ensures) in
     let w = columns_are _ c.grow-area.result c.offset-width.result c.area.view_is round.proper c.offset-width.ensures in
     omega (arith, w, round.columns_are, round.some_columns, c.radius-radius.ensures.value)
+
+pub pick_squares-requires-clause-long : goal.pick_squares-requires-clause-long
+pick_squares-requires-clause-long c =
+    let v = c.args.values.now in
+    let rect = c.args.out.now.rect in
+    let round =
+    round_of rect c.grow-area.result c.radius-radius.result (radius v) c.requires.part.rect c.requires.some_window
+    c.row_bytes-near.ensures.near c.radius-radius.ensures.value c.radius-radius.ensures.few
+    (c.grow-area.ensures.bounds
+    ∙ ap (λ (r : Bounds). grown r (to_z w64 c.radius-radius.result) (to_z w64 c.radius-radius.result)) c.rect-rect.ensures) in
+    let area = c.grow-area.result in
+    let size = pixel_size c.depth-depth.result c.components-components.result in
+    let w = columns_are _ area c.offset-width.result c.area.view_is round.proper c.offset-width.ensures in
+    let h = rows_are _ area c.offset-height.result c.area.view_is round.proper c.offset-height.ensures in
+    c.as_mut_slice-squares.ensures.len ∙ c.in_ok-bytes.ensures.long
+    ∙ ap (λ n. n * columns area * size) (sym h) ∙ ap (λ n. c.offset-height.result * n * size) (sym w)
+
+pub read_area-requires-clause-source : goal.read_area-requires-clause-source
+read_area-requires-clause-source c =
+    let given = c.args.inputs.now in
+    let image = c.args.out.now.image.now in
+    subst (λ d. ShowsClip given 0 d c.components-components.result) (sym c.depth-depth.ensures)
+    (subst (ShowsClip given 0 image.depth) (sym c.components-components.ensures) c.requires.source)
 
 pub pick_squares-requires-clause-high : goal.pick_squares-requires-clause-high
 pick_squares-requires-clause-high c =
