@@ -31,3 +31,10 @@ loop-y-preserved c =
       long = c.in_ok-extend_from_slice.ensures.len ∙ ap (λ n. n + length row) c.loop-y.invariant.long ∙ ap (λ n. y * row_length h + n) wide ∙ one-row-more y (row_length h);
       risen = rw c.in_ok-extend_from_slice.ensures.items (rise-next h y c.loop-y.rows.items row c.requires.plain long wide c.loop-y.invariant.risen shown);
     }
+
+pub shows_row-requires-clause-plain : goal.shows_row-requires-clause-plain
+shows_row-requires-clause-plain c =
+    record { four = c.requires.plain.four; greatest = c.requires.plain.greatest }
+
+pub file_row-row-requires-clause-row : goal.file_row-row-requires-clause-row
+file_row-row-requires-clause-row c = omega (arith, c.loop-y-test.true)
