@@ -1,4 +1,4 @@
-use Rattle.std.proofs.Common.{◌≡◌, ◌<◌, ◌++◌, [], ◌∷◌, length, rules, arith, sym, ap, subst, ◌∙◌, All, AllPairs, ◌≢◌}
+use Rattle.std.proofs.Common.{◌≡◌, ◌<◌, ◌++◌, ℕ, [], ◌∷◌, length, arith, sym, ap, subst, ◌∙◌, All, AllPairs, ◌≢◌}
 use Rattle.std.specs.List.{Contains}
 use Rattle.std.specs.Vec.{vec_capacity}
 use Rattle.std.proofs.Math.ListN.{length-set}
@@ -14,9 +14,9 @@ start-requires-clause-supported g c =
     let effect = c.in-Some.effect in
     let n = c.number-number.result in
     let mine = c.index-uses-number.result in
-    let value : n ≡ g.E.Catalogue.number_of effect = search rules in
-    let low : n < length c.args.uses.now = search rules in
-    let items : c.deref.result.now ≡ mine.items = search rules in
+    let value : n ≡ g.E.Catalogue.number_of effect = c.number-number.ensures.value in
+    let low : n < length c.args.uses.now = omega (arith, c.requires.lists.0, c.number-number.ensures.small) in
+    let items : c.deref.result.now ≡ mine.items = c.deref.ensures.value in
     let here =
     ap (uses_at c.args.uses.now) (sym value) ∙ uses_here c.args.uses.now n mine low c.index-uses-number.is
     ∙ sym items in
@@ -27,8 +27,8 @@ pub start-requires-clause-apart : goal.start-requires-clause-apart
 start-requires-clause-apart g c =
     let n = c.number-number.result in
     let mine = c.index-uses-number.result in
-    let low : n < length c.args.uses.now = search rules in
-    let items : c.deref.result.now ≡ mine.items = search rules in
+    let low : n < length c.args.uses.now = omega (arith, c.requires.lists.0, c.number-number.ensures.small) in
+    let items : c.deref.result.now ≡ mine.items = c.deref.ensures.value in
     let here = uses_here c.args.uses.now n mine low c.index-uses-number.is ∙ sym items in
     subst (AllPairs (λ a b. a.node ≢ b.node)) here (c.requires.apart n)
 
@@ -50,13 +50,15 @@ loop-effect-preserved g c =
     let grown : after ≡ runs ++ run ∷ [] = c.push_reserved.ensures.items in
     let same : run.effect ≡ effect = c.in_ok-run.ensures.effect in
     let value : n ≡ number effect = c.number-number.ensures.value in
-    let low : n < length uses = search rules in
-    let inside : n < length places = search rules in
-    let items : c.deref.result.now ≡ mine.items = search rules in
-    let long : c.len-in-Some.result ≡ length runs = search rules in
+    let low : n < length uses = omega (arith, c.requires.lists.0, c.number-number.ensures.small) in
+    let inside : n < length places = omega (arith, known.places, c.number-number.ensures.small) in
+    let items : c.deref.result.now ≡ mine.items = c.deref.ensures.value in
+    let long : c.len-in-Some.result ≡ length runs =
+    ◌∙◌ {A = ℕ} c.len-in-Some.ensures c.loop-effect.running.ok.0 in
     let here = ap (uses_at uses) (sym value) ∙ uses_here uses n mine low c.index-uses-number.is ∙ sym items in
-    let room : vec_capacity c.push_reserved.new.self ≡ vec_capacity c.loop-effect.running = search rules in
-    let back : vec_capacity c.pop.new.self ≡ vec_capacity c.loop-effect.effects = search rules in
+    let room : vec_capacity c.push_reserved.new.self ≡ vec_capacity c.loop-effect.running =
+    c.push_reserved.ensures.capacity in
+    let back : vec_capacity c.pop.new.self ≡ vec_capacity c.loop-effect.effects = c.in-Some.ensures.capacity in
     let fewer = longer rest effects effect popped in
     let more = longer runs after run grown in
     record {
