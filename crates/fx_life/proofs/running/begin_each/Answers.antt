@@ -1,4 +1,4 @@
-use Rattle.std.proofs.Common.{◌≡◌, ◌++◌, [], ◌∷◌, rules, arith, ◌∙◌}
+use Rattle.std.proofs.Common.{◌≡◌, ◌++◌, [], ◌∷◌, arith, ap, ◌∙◌}
 use Rattle.std.specs.Vec.{vec_capacity}
 use Rattle.fx_life.specs.Running.{made, begun}
 use Rattle.fx_life.proofs.RunningLemmas.{begins, plan_kept, longer}
@@ -10,12 +10,12 @@ loop-instance-preserved g c =
     let sequences = c.loop-instance.in_sequence.items in
     let s = c.in-Ok.sequence in
     let popped : idle ≡ c.pop.new.self.items ++ c.in-Some.instance ∷ [] = c.in-Some.ensures.items in
-    let grown : c.push_reserved.new.self.items ≡ sequences ++ s ∷ [] = search rules in
-    let same : made s ≡ c.in-Some.instance = search rules in
-    let whole : s ≡ begun c.args.first c.args.last c.in-Some.instance = search rules in
-    let room : vec_capacity c.pop.new.self ≡ vec_capacity c.loop-instance.idle = search rules in
+    let grown : c.push_reserved.new.self.items ≡ sequences ++ s ∷ [] = c.push_reserved.ensures.items in
+    let whole : s ≡ begun c.args.first c.args.last c.in-Some.instance = c.in-Ok.ensures.ok in
+    let same : made s ≡ c.in-Some.instance = ap made whole in
+    let room : vec_capacity c.pop.new.self ≡ vec_capacity c.loop-instance.idle = c.in-Some.ensures.capacity in
     let sequence_room : vec_capacity c.push_reserved.new.self ≡ vec_capacity c.loop-instance.in_sequence =
-    search rules in
+    c.push_reserved.ensures.capacity in
     let fewer = longer c.pop.new.self.items idle c.in-Some.instance popped in
     let more = longer sequences c.push_reserved.new.self.items s grown in
     record {
