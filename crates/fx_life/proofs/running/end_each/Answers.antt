@@ -1,4 +1,4 @@
-use Rattle.std.proofs.Common.{◌≡◌, ◌++◌, [], ◌∷◌, rules, arith, ap, sym, subst, ◌∙◌}
+use Rattle.std.proofs.Common.{◌≡◌, ◌++◌, [], ◌∷◌, arith, ap, sym, subst, ◌∙◌}
 use Rattle.std.specs.List.{Contains}
 use Rattle.std.specs.Vec.{vec_capacity}
 use Rattle.fx_life.specs.Plugin.{MadeFor}
@@ -41,9 +41,10 @@ loop-sequence-preserved g c =
     let s = c.in-Some.sequence in
     let instance : MadeFor = c.end.result in
     let popped : sequences ≡ c.pop.new.self.items ++ s ∷ [] = c.in-Some.ensures.items in
-    let grown : c.push_reserved.new.self.items ≡ idle ++ instance ∷ [] = search rules in
-    let same : made s ≡ instance = search rules in
-    let room : vec_capacity c.push_reserved.new.self ≡ vec_capacity c.loop-sequence.idle = search rules in
+    let grown : c.push_reserved.new.self.items ≡ idle ++ instance ∷ [] = c.push_reserved.ensures.items in
+    let same : made s ≡ instance = sym c.end.ensures.ok in
+    let room : vec_capacity c.push_reserved.new.self ≡ vec_capacity c.loop-sequence.idle =
+    c.push_reserved.ensures.capacity in
     let fewer = longer c.pop.new.self.items sequences s popped in
     let more = longer idle c.push_reserved.new.self.items instance grown in
     record {
