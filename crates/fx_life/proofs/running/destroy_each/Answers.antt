@@ -1,5 +1,5 @@
-use Rattle.std.proofs.Common.{◌≡◌, ◌++◌, List, [], ◌∷◌, rules, subst, ◌∙◌}
-use Rattle.fx_life.specs.Plugin.{MadeFor, without}
+use Rattle.std.proofs.Common.{◌≡◌, ◌++◌, List, [], ◌∷◌, ap, subst, ◌∙◌}
+use Rattle.fx_life.specs.Plugin.{Plugin, MadeFor, without}
 use Rattle.fx_life.specs.Running.{AreLive}
 use Rattle.fx_life.proofs.RunningLemmas.{fewer_live}
 use Rattle.fx_life.proofs.running.destroy_each.Goals as goal
@@ -13,8 +13,10 @@ loop-instance-preserved g c =
     subst (λ (l : List MadeFor). AreLive number c.loop-instance.plugin.live l) popped
     c.loop-instance.invariant.live in
     let left = fewer_live number c.loop-instance.plugin.live c.pop.new.self.items m before in
-    let live : c.destroy_instance.new.self.live ≡ without m.node c.loop-instance.plugin.live = search rules in
-    let effect : c.destroy_instance.new.self.effect ≡ c.loop-instance.plugin.effect = search rules in
+    let live : c.destroy_instance.new.self.live ≡ without m.node c.loop-instance.plugin.live =
+    ap (λ (p : Plugin _). p.live) c.destroy_instance.ensures.ok in
+    let effect : c.destroy_instance.new.self.effect ≡ c.loop-instance.plugin.effect =
+    ap (λ (p : Plugin _). p.effect) c.destroy_instance.ensures.ok in
     record {
       effect = effect ∙ c.loop-instance.invariant.effect;
       live = rw (live, effect) left;
