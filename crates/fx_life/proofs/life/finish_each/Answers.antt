@@ -1,4 +1,4 @@
-use Rattle.std.proofs.Common.{◌≡◌, ◌++◌, [], ◌∷◌, rules, arith, sym, refl, ap, ◌∙◌}
+use Rattle.std.proofs.Common.{◌≡◌, ◌++◌, List, [], ◌∷◌, arith, sym, refl, ap, ◌∙◌}
 use Rattle.std.specs.Vec.{vec_capacity}
 use Rattle.fx_life.specs.Posts.{handed}
 use Rattle.fx_life.proofs.LifeLemmas.{handed_on}
@@ -11,8 +11,10 @@ loop-run-preserved g c =
     let runs = c.loop-run.running.items in
     let run = c.in-Some.run' in
     let popped : runs ≡ c.pop.new.self.items ++ run ∷ [] = c.in-Some.ensures.items in
-    let grown : c.push_reserved.new.self.items ≡ effects ++ run.effect ∷ [] = search rules in
-    let room : vec_capacity c.push_reserved.new.self ≡ vec_capacity c.loop-run.effects = search rules in
+    let grown : c.push_reserved.new.self.items ≡ effects ++ run.effect ∷ [] =
+    ◌∙◌ {A = List g.row.E.Denot} c.push_reserved.ensures.items (ap (λ e. effects ++ e ∷ []) c.finish.ensures) in
+    let room : vec_capacity c.push_reserved.new.self ≡ vec_capacity c.loop-run.effects =
+    c.push_reserved.ensures.capacity in
     let fewer = longer c.pop.new.self.items runs run popped in
     let more = longer effects c.push_reserved.new.self.items run.effect grown in
     record {
