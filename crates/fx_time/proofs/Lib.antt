@@ -3,3 +3,4 @@ mod LineLaws
 mod BlendLaws
 mod EchoRowLaws
 mod WeightLaws
+mod WidthLaws
