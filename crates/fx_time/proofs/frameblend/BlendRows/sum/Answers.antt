@@ -1,12 +1,13 @@
 use Rattle.std.proofs.Common.{◌≡◌, ◌+◌, ◌*◌, pos, ◌+ℤ◌, ◌-ℤ◌, length, slice_index, ap, arith, ◌∙◌, w64, to_z, of_z, FitsSigned}
 use Rattle.std.proofs.lemmas.Int.{ints, to_z-of_z}
 use Rattle.fx_base.specs.Rect.{columns}
-use Rattle.fx_pixel.specs.Pixel.{greatest, count}
+use Rattle.fx_pixel.specs.Pixel.{greatest, count, size}
 use Rattle.fx_kernel.specs.SumLaws.{no_sums, more_sums, sums_small}
 use Rattle.fx_kernel.specs.RowLaws.{greatest_few}
 use Rattle.fx_time.specs.BlendRows.{moment_sample}
 use Rattle.fx_time.proofs.LineLaws.{line_of, shown_of}
 use Rattle.fx_time.proofs.BlendLaws.{sample_read, term_bound}
+use Rattle.fx_time.proofs.WidthLaws.{cells_long}
 use Rattle.fx_time.proofs.frameblend.BlendRows.sum.Goals as goal
 
 pub loop-k-init : goal.loop-k-init
@@ -46,3 +47,9 @@ returns c =
     let k : c.loop-k.k ≡ 2 * c.args.self.now.radius + 1 = omega (arith, c.loop-k-test.false, c.loop-k.auto.k-end) in
     let y : to_z w64 (of_z w64 c.args.y) ≡ c.args.y = to_z-of_z w64 c.args.y c.ranges.y in
     rw (k, y) at c.loop-k.invariant
+
+pub add_row-requires-clause-long : goal.add_row-requires-clause-long
+add_row-requires-clause-long c =
+    cells_long _ _ _ (count c.args.components) (size c.args.depth)
+    (c.lend_row-line.ensures.long ∙ c.loop-k.auto.bytes ∙ c.requires.row.long)
+    (c.loop-k.auto.cells ∙ c.clear.auto.cells ∙ c.requires.cells)
