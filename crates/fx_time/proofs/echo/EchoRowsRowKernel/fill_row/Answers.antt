@@ -14,6 +14,7 @@ use Rattle.fx_time.specs.BlendRows.{moment_sample}
 use Rattle.fx_time.proofs.LineLaws.{line_of, shown_of}
 use Rattle.fx_time.proofs.BlendLaws.{sample_read}
 use Rattle.fx_time.proofs.EchoRowLaws.{most, next_most, clear_sample, row_is, row_samples}
+use Rattle.fx_time.proofs.WidthLaws.{columns_near, samples_fit}
 use Rattle.fx_time.proofs.echo.EchoRowsRowKernel.fill_row.Goals as goal
 
 pub offset-requires : goal.offset-requires
@@ -92,3 +93,11 @@ returns-clause-shows c =
     whole (n + count comps * i) (sample_low comps (columns rect) i n low few)
     ∙ ap (most me.count (λ j. moment_sample given comps rect c.args.y (n + count comps * i) (back me.frame me.gap j))) last
     ∙ row_is given me.count me.frame me.gap comps rect c.args.y i n (suc me.count) few)
+
+pub overflow_mul-samples : goal.overflow_mul-samples
+overflow_mul-samples c =
+    let rect = c.args.rect in
+    let row = c.requires.row in
+    let order = is_wide rect row.bounds in
+    let wide = columns_near _ rect c.offset.result c.rect.view_is row.near order c.offset.ensures in
+    samples_fit rect c.args.components c.offset.result c.count.result wide c.count.ensures row.near order
