@@ -1,5 +1,5 @@
 -- The text of an image, as it grows.
-use Rattle.std.proofs.Common.{◌≡◌, ◌≤◌, ℕ, suc, ◌+◌, ℤ, pos, ◌-ℤ◌, ◌≤ℤ◌, List, ◌++◌, length, take, refl, sym, ap, ◌∙◌, append_assoc, arith}
+use Rattle.std.proofs.Common.{◌≡◌, ◌≤◌, ℕ, suc, ◌+◌, ℤ, pos, ◌-ℤ◌, ◌≤ℤ◌, List, [], ◌∷◌, ◌++◌, length, take, refl, sym, ap, ◌∙◌, append_assoc, arith}
 use Rattle.std.specs.Int.{int_gap}
 use Rattle.std.proofs.lemmas.Int.{ints}
 use Rattle.std.proofs.lemmas.List.{length-append, take_at, take-take}
@@ -8,6 +8,14 @@ use Rattle.fx_pixel.specs.declared.Format.{Format}
 use Rattle.fx_image.specs.Image.{Image}
 use Rattle.fx_pam.specs.Text.{row_bytes, raster}
 use Rattle.fx_pam.proofs.WrittenRows.{gap_is}
+
+-- nothing was pushed
+pub kept_front : (old : List ℕ) → take (length old) old ≡ old
+kept_front [] = refl
+kept_front (b ∷ bs) = ap (λ xs. b ∷ xs) (kept_front bs)
+
+pub still_front : (old new : List ℕ) → new ≡ old → take (length old) new ≡ old
+still_front old new is = ap (take (length old)) is ∙ kept_front old
 
 -- what began with a longer list began with its front
 pub begun_with : (old more long new : List ℕ) → long ≡ old ++ more → take (length long) new ≡ long → take (length old) new ≡ old
