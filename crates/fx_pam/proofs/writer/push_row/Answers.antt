@@ -1,4 +1,4 @@
-use Rattle.std.proofs.Common.{◌≡◌, ℕ, List, ◌++◌, if◌then◌else◌, Result, Ok, Err, OnOk, sym, ap, ◌∙◌, arith}
+use Rattle.std.proofs.Common.{◌≡◌, ℕ, List, ◌++◌, if◌then◌else◌, Result, Ok, Err, OnOk, OnErr, length, take, sym, ap, ◌∙◌, arith}
 use Rattle.std.specs.Result.{is_ok}
 use Rattle.std.proofs.lemmas.Int.{ints}
 use Rattle.std.proofs.lemmas.Result.{on_ok_weaker}
@@ -7,12 +7,23 @@ use Rattle.fx_image.specs.Stored.{image_of}
 use Rattle.fx_pam.specs.Laws.{components_for}
 use Rattle.fx_pam.specs.Text.{row_bytes}
 use Rattle.fx_pam.proofs.WrittenRows.{IsRow, row_of_view, row_bytes-whole, row_bytes-colours, writes_each}
+use Rattle.fx_pam.proofs.WrittenImage.{still_front}
 use Rattle.fx_pam.proofs.writer.push_row.Goals as goal
 
 -- what was pushed is the text
 pushed : {A B : Type 0} (r : Result A B) (old row text new : List ℕ) → new ≡ (if is_ok r then old ++ row else old) → text ≡ row → OnOk r (new ≡ old ++ text)
 pushed (Ok a) old row text new is same = is ∙ ap (λ bytes. old ++ bytes) (sym same)
 pushed (Err e) old row text new is same = _
+
+-- at an error nothing was
+kept : {A B : Type 0} (r : Result A B) (old row new : List ℕ) → new ≡ (if is_ok r then old ++ row else old)
+    → OnErr r (take (length old) new ≡ old)
+kept (Ok a) old row new is = _
+kept (Err e) old row new is = still_front old new is
+
+pub returns-in-RgbAlpha-clause-err : goal.returns-in-RgbAlpha-clause-err
+returns-in-RgbAlpha-clause-err c =
+    kept c.extend_from_slice.result c.args.out.now.items c.row-row.result.now _ c.extend_from_slice.ensures.items
 
 pub returns-in-RgbAlpha-clause-ok : goal.returns-in-RgbAlpha-clause-ok
 returns-in-RgbAlpha-clause-ok c =
