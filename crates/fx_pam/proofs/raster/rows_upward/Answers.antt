@@ -1,9 +1,9 @@
-use Rattle.std.proofs.Common.{◌≡◌, ◌<◌, ℕ, ◌-◌, ◌+◌, ◌*◌, length, vec_len, refl, ap, ◌∙◌, arith}
+use Rattle.std.proofs.Common.{◌≡◌, ◌<◌, ℕ, ◌-◌, ◌+◌, ◌*◌, length, vec_len, refl, ap, ◌∙◌, subst, arith}
 use Rattle.fx_base.specs.declared.limits.TheConstants.{MOST_SIDE}
 use Rattle.fx_pixel.specs.declared.Components.TheVariants.{Rgba as RgbaSamples}
 use Rattle.fx_image.specs.Stored.{pixel_in}
 use Rattle.fx_pam.specs.Reading.{header_with, depth_of, pixel_of}
-use Rattle.fx_pam.specs.Raster.{row_length}
+use Rattle.fx_pam.specs.Raster.{RiseTo, row_length}
 use Rattle.fx_pam.proofs.RasterLemmas.{row-whole, row-pixel, one-row-more, rise-next}
 use Rattle.fx_pam.proofs.raster.rows_upward.Goals as goal
 
@@ -38,3 +38,13 @@ shows_row-requires-clause-plain c =
 
 pub file_row-row-requires-clause-row : goal.file_row-row-requires-clause-row
 file_row-row-requires-clause-row c = omega (arith, c.loop-y-test.true)
+
+pub returns-clause-rows : goal.returns-clause-rows
+returns-clause-rows c =
+    let y : c.loop-y.y ≡ c.args.numbers.height = omega (arith, c.loop-y.invariant.up_to, c.loop-y-test.false) in
+    subst (λ n. RiseTo (header_with c.args.numbers c.args.bytes.now) n c.loop-y.rows.items) y c.loop-y.invariant.risen
+
+pub returns-clause-len : goal.returns-clause-len
+returns-clause-len c =
+    let y : c.loop-y.y ≡ c.args.numbers.height = omega (arith, c.loop-y.invariant.up_to, c.loop-y-test.false) in
+    c.loop-y.invariant.long ∙ ap (λ n. n * row_length (header_with c.args.numbers c.args.bytes.now)) y
