@@ -2,11 +2,12 @@ use Rattle.std.proofs.Common.{◌≡◌, ◌<◌, ◌-◌, ◌*◌, ℤ, pos, le
 use Rattle.fx_base.specs.declared.limits.TheConstants.{MOST_SIDE}
 use Rattle.std.specs.Int.{int_gap}
 use Rattle.std.proofs.lemmas.Int.{ints, to_z_pos}
-use Rattle.fx_base.specs.Bounds.{Bounds}
-use Rattle.fx_base.specs.Rect.{Holds, columns}
+use Rattle.fx_base.specs.Bounds.{Bounds, IsRect}
+use Rattle.fx_base.specs.Rect.{Holds, columns, IsWithin}
 use Rattle.fx_pixel.specs.declared.Components.TheVariants.{Rgba as RgbaSamples}
 use Rattle.fx_image.specs.Stored.{pixel_size, pixel_in}
-use Rattle.fx_image.specs.Part.{WroteRows}
+use Rattle.fx_image.specs.declared.part.Part.{Part}
+use Rattle.fx_image.specs.Part.{IsPart, SamePart, WroteRows}
 use Rattle.fx_image.proofs.ImageLaws.{gap_is, place_from}
 use Rattle.fx_image.proofs.PartLaws.{wrote_row_up}
 use Rattle.fx_pam.specs.Reading.{header_with, depth_of, pixel_of}
@@ -14,6 +15,18 @@ use Rattle.fx_pam.specs.Raster.{pixel_from_bottom}
 use Rattle.fx_pam.proofs.FileImage.{gap_none}
 use Rattle.fx_pam.proofs.RasterLemmas.{row-whole, row-pixel}
 use Rattle.fx_pam.proofs.raster.fill.Goals as goal
+
+-- what a part has become is a part
+still_part : (p q : Part) → SamePart p q → IsPart p → IsPart q
+still_part p q same part = record {
+  rect = subst IsRect (sym same.1) part.rect;
+  within =
+      subst (λ r. IsWithin r q.image.now.rect) (sym same.1)
+      (subst (IsWithin p.rect) (sym same.2.rect) part.within);
+}
+
+pub row_mut-requires-clause-part : goal.row_mut-requires-clause-part
+row_mut-requires-clause-part c = still_part c.args.out.now c.loop-y.out c.loop-y.invariant.same c.requires.part
 
 pub fill_row-requires-clause-whole : goal.fill_row-requires-clause-whole
 fill_row-requires-clause-whole c =
