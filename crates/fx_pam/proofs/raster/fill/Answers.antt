@@ -1,9 +1,11 @@
-use Rattle.std.proofs.Common.{◌≡◌, ◌<◌, ◌-◌, ◌*◌, ℤ, pos, length, w64, to_z, refl, sym, ap, subst, ◌∙◌, arith}
+use Rattle.std.proofs.Common.{◌≡◌, ◌<◌, ◌-◌, ◌*◌, ℕ, ℤ, pos, length, w64, to_z, refl, sym, ap, subst, ◌∙◌, arith}
 use Rattle.fx_base.specs.declared.limits.TheConstants.{MOST_SIDE}
 use Rattle.std.specs.Int.{int_gap}
 use Rattle.std.proofs.lemmas.Int.{ints, to_z_pos}
 use Rattle.fx_base.specs.Bounds.{Bounds, IsRect}
 use Rattle.fx_base.specs.Rect.{Holds, columns, IsWithin}
+use Rattle.fx_pixel.specs.declared.Depth.{Depth}
+use Rattle.fx_pixel.specs.declared.Components.{Components}
 use Rattle.fx_pixel.specs.declared.Components.TheVariants.{Rgba as RgbaSamples}
 use Rattle.fx_image.specs.Stored.{pixel_size, pixel_in}
 use Rattle.fx_image.specs.declared.part.Part.{Part}
@@ -72,3 +74,16 @@ returns c =
     let same = c.loop-y.invariant.same in
     let top : c.args.out.now.rect.y2 ≡ pos c.loop-y.y = ap (λ (r : Bounds). r.y2) c.requires.rect ∙ ap pos (omega (arith, c.loop-y.invariant.up_to, c.loop-y-test.false)) in
     record { written = (same, subst (λ y. WroteRows c.args.out.now c.loop-y.out.image.now y (pixel_from_bottom (header_with c.args.numbers c.args.bytes.now))) (sym top) c.loop-y.invariant.written) }
+
+-- how long a row of it is
+row_is : (long w : ℕ) (b : Bounds) (d k : Depth) (s e : Components) → long ≡ columns b * pixel_size d s
+    → columns b ≡ w → d ≡ k → s ≡ e → long ≡ w * pixel_size k e
+row_is long w b d k s e is wide deep samples =
+    is ∙ ap (λ n. n * pixel_size d s) wide ∙ ap (λ x. w * pixel_size x s) deep ∙ ap (λ x. w * pixel_size k x) samples
+
+pub fill_row-requires-clause-row : goal.fill_row-requires-clause-row
+fill_row-requires-clause-row c =
+    let same = c.loop-y.invariant.same in
+    let wide = ap columns (same.1 ∙ c.requires.rect) ∙ gap_none c.args.numbers.width in
+    row_is _ c.args.numbers.width c.loop-y.out.rect _ _ _ _ c.row_mut.ensures.len wide (same.2.depth ∙ c.requires.depth)
+    (same.2.components ∙ c.requires.components)
