@@ -34,6 +34,23 @@ rows_are r area n same is gap =
     gap_same area.y1 area.y2 n (fits_end area.y1 is.near.bottom) (fits_end area.y2 is.near.top)
     (subst (λ (b : Bounds). n ≡ int_gap (to_z w64 (of_z w64 b.y1)) (to_z w64 (of_z w64 b.y2))) same gap)
 
+-- what it asks of them
+in_words : (x y : ℤ) → FitsSigned w64 x → FitsSigned w64 y → x ≤ℤ y → to_z w64 (of_z w64 x) ≤ℤ to_z w64 (of_z w64 y)
+in_words x y p q order =
+    subst (λ z. z ≤ℤ to_z w64 (of_z w64 y)) (sym (to_z-of_z w64 x p)) (subst (λ z. x ≤ℤ z) (sym (to_z-of_z w64 y q)) order)
+
+pub columns_ordered : (r area : Bounds) → r ≡ area → IsProperArea area → to_z w64 (of_z w64 r.x1) ≤ℤ to_z w64 (of_z w64 r.x2)
+columns_ordered r area same is =
+    subst (λ (b : Bounds). to_z w64 (of_z w64 b.x1) ≤ℤ to_z w64 (of_z w64 b.x2)) (sym same)
+    (in_words area.x1 area.x2 (fits_end area.x1 is.near.left) (fits_end area.x2 is.near.right)
+    (omega (arith, ints, is.wide)))
+
+pub rows_ordered : (r area : Bounds) → r ≡ area → IsProperArea area → to_z w64 (of_z w64 r.y1) ≤ℤ to_z w64 (of_z w64 r.y2)
+rows_ordered r area same is =
+    subst (λ (b : Bounds). to_z w64 (of_z w64 b.y1) ≤ℤ to_z w64 (of_z w64 b.y2)) (sym same)
+    (in_words area.y1 area.y2 (fits_end area.y1 is.near.bottom) (fits_end area.y2 is.near.top)
+    (omega (arith, ints, is.high)))
+
 -- the lower end of a side that isn't far
 pub low_end : (x y : ℤ) → negsuc 1073741823 ≤ℤ x → x <ℤ y → y ≤ℤ pos 1073741824 → to_z w64 (of_z w64 x) ≡ x
 low_end x y low some high = to_z-of_z w64 x (fits_far x (omega (arith, ints, low)) (omega (arith, ints, some, high)))

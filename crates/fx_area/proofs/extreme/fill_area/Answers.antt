@@ -5,7 +5,7 @@ use Rattle.fx_image.specs.Stored.{pixel_size}
 use Rattle.fx_effect.specs.Given.{row_pixel}
 use Rattle.fx_area.specs.declared.lines.Line.{Line}
 use Rattle.fx_area.proofs.AreaLaws.{area_more, row_fits, product_fits, sides_of}
-use Rattle.fx_area.proofs.SideLaws.{columns_are, rows_are}
+use Rattle.fx_area.proofs.SideLaws.{columns_are, rows_are, columns_ordered, rows_ordered}
 use Rattle.fx_area.proofs.extreme.fill_area.Goals as goal
 
 pub loop-j-init : goal.loop-j-init
@@ -54,3 +54,9 @@ returns c = λ i j low less.
     inv.shows i j low (omega (arith, less, inv.until, c.loop-j-test.false))
     ∙ ap (λ t. row_pixel c.args.inputs.now 0 t (area.x1 +ℤ pos i) (area.y1 +ℤ pos j))
     (to_z-of_z w64 c.args.frame c.ranges.frame)
+
+pub offset-width-requires : goal.offset-width-requires
+offset-width-requires c = columns_ordered _ c.args.area c.area.view_is c.requires.area
+
+pub offset-j-end-requires : goal.offset-j-end-requires
+offset-j-end-requires c = rows_ordered _ c.args.area c.area.view_is c.requires.area
