@@ -9,3 +9,4 @@ mod SideLaws
 mod ConvolveLaws
 mod AreaLaws
 mod NineLaws
+mod DescribeLaws
