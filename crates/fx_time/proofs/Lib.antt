@@ -4,3 +4,4 @@ mod BlendLaws
 mod EchoRowLaws
 mod WeightLaws
 mod WidthLaws
+mod DescribeLaws
