@@ -1,5 +1,6 @@
 -- The sides of an area, whose ends are words.
-use Rattle.std.proofs.Common.{◌≡◌, ◌∙◌, ◌≤◌, ◌<◌, ◌+◌, ◌*◌, inl, inr, ℕ, ℤ, pos, negsuc, ◌≤ℤ◌, ◌<ℤ◌, ap, sym, subst, arith, w64, to_z, of_z, Fits, FitsSigned}
+use Rattle.std.proofs.Common.{◌≡◌, ◌∙◌, ◌≤◌, ◌<◌, ◌+◌, ◌*◌, inl, inr, ℕ, ℤ, pos, negsuc, ◌≤ℤ◌, ◌<ℤ◌, ap, sym, subst}
+use Rattle.std.proofs.Common.{arith, w64, to_z, of_z, Fits, FitsSigned}
 use Rattle.std.specs.Int.{int_gap}
 use Rattle.std.proofs.Math.Nat.{mul-le-mul_right}
 use Rattle.std.proofs.lemmas.Int.{ints, to_z-of_z}
@@ -37,15 +38,18 @@ rows_are r area n same is gap =
 -- what it asks of them
 in_words : (x y : ℤ) → FitsSigned w64 x → FitsSigned w64 y → x ≤ℤ y → to_z w64 (of_z w64 x) ≤ℤ to_z w64 (of_z w64 y)
 in_words x y p q order =
-    subst (λ z. z ≤ℤ to_z w64 (of_z w64 y)) (sym (to_z-of_z w64 x p)) (subst (λ z. x ≤ℤ z) (sym (to_z-of_z w64 y q)) order)
+    subst (λ z. z ≤ℤ to_z w64 (of_z w64 y)) (sym (to_z-of_z w64 x p))
+    (subst (λ z. x ≤ℤ z) (sym (to_z-of_z w64 y q)) order)
 
-pub columns_ordered : (r area : Bounds) → r ≡ area → IsProperArea area → to_z w64 (of_z w64 r.x1) ≤ℤ to_z w64 (of_z w64 r.x2)
+pub columns_ordered : (r area : Bounds) → r ≡ area → IsProperArea area
+    → to_z w64 (of_z w64 r.x1) ≤ℤ to_z w64 (of_z w64 r.x2)
 columns_ordered r area same is =
     subst (λ (b : Bounds). to_z w64 (of_z w64 b.x1) ≤ℤ to_z w64 (of_z w64 b.x2)) (sym same)
     (in_words area.x1 area.x2 (fits_end area.x1 is.near.left) (fits_end area.x2 is.near.right)
     (omega (arith, ints, is.wide)))
 
-pub rows_ordered : (r area : Bounds) → r ≡ area → IsProperArea area → to_z w64 (of_z w64 r.y1) ≤ℤ to_z w64 (of_z w64 r.y2)
+pub rows_ordered : (r area : Bounds) → r ≡ area → IsProperArea area
+    → to_z w64 (of_z w64 r.y1) ≤ℤ to_z w64 (of_z w64 r.y2)
 rows_ordered r area same is =
     subst (λ (b : Bounds). to_z w64 (of_z w64 b.y1) ≤ℤ to_z w64 (of_z w64 b.y2)) (sym same)
     (in_words area.y1 area.y2 (fits_end area.y1 is.near.bottom) (fits_end area.y2 is.near.top)

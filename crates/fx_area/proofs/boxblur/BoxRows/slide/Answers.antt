@@ -1,4 +1,5 @@
-use Rattle.std.proofs.Common.{◌≡◌, ◌≤◌, ◌+◌, ◌*◌, ℕ, ℤ, pos, negsuc, ◌≤ℤ◌, ◌<ℤ◌, ◌+ℤ◌, ◌-ℤ◌, ◌∙◌, arith, w64, to_z, of_z}
+use Rattle.std.proofs.Common.{◌≡◌, ◌≤◌, ◌+◌, ◌*◌, ℕ, ℤ, pos, negsuc, ◌≤ℤ◌, ◌<ℤ◌, ◌+ℤ◌, ◌-ℤ◌, ◌∙◌, arith, w64, to_z}
+use Rattle.std.proofs.Common.{of_z}
 use Rattle.std.proofs.lemmas.Int.{ints}
 use Rattle.fx_base.specs.Rect.{IsStep}
 use Rattle.fx_pixel.specs.Pixel.{greatest}
@@ -64,8 +65,10 @@ take-requires-clause-enough c =
     let m = greatest c.args.depth in
     let next = to_z w64 (of_z w64 (to_z w64 (of_z w64 c.args.y) +ℤ to_z w64 me.ry)) in
     let last = to_z w64 (of_z w64 (to_z w64 (of_z w64 (to_z w64 (of_z w64 c.args.y) -ℤ pos 1)) -ℤ to_z w64 me.ry)) in
-    let next_is = next_row c.args.rect.y1 c.args.y c.args.rect.y2 me.ry q.near.bottom q.above q.below q.near.top q.flat in
-    let last_is = last_row c.args.rect.y1 c.args.y c.args.rect.y2 me.ry q.near.bottom q.above q.below q.near.top q.flat in
+    let next_is =
+    next_row c.args.rect.y1 c.args.y c.args.rect.y2 me.ry q.near.bottom q.above q.below q.near.top q.flat in
+    let last_is =
+    last_row c.args.rect.y1 c.args.y c.args.rect.y2 me.ry q.near.bottom q.above q.below q.near.top q.flat in
     let with = with_next me.inputs.now me.frame me.rx me.ry m c.args.components c.args.rect c.args.y c.args.cells.now c.add.new.cells next next_is c.add.auto.cells c.requires.before c.add.ensures.sums c.add.ensures.bound in
     last_enough me.inputs.now me.frame me.rx me.ry m c.args.components c.args.rect c.args.y c.add.new.cells last last_is with
 
@@ -76,7 +79,9 @@ returns c =
     let m = greatest c.args.depth in
     let next = to_z w64 (of_z w64 (to_z w64 (of_z w64 c.args.y) +ℤ to_z w64 me.ry)) in
     let last = to_z w64 (of_z w64 (to_z w64 (of_z w64 (to_z w64 (of_z w64 c.args.y) -ℤ pos 1)) -ℤ to_z w64 me.ry)) in
-    let next_is = next_row c.args.rect.y1 c.args.y c.args.rect.y2 me.ry q.near.bottom q.above q.below q.near.top q.flat in
-    let last_is = last_row c.args.rect.y1 c.args.y c.args.rect.y2 me.ry q.near.bottom q.above q.below q.near.top q.flat in
+    let next_is =
+    next_row c.args.rect.y1 c.args.y c.args.rect.y2 me.ry q.near.bottom q.above q.below q.near.top q.flat in
+    let last_is =
+    last_row c.args.rect.y1 c.args.y c.args.rect.y2 me.ry q.near.bottom q.above q.below q.near.top q.flat in
     let with = with_next me.inputs.now me.frame me.rx me.ry m c.args.components c.args.rect c.args.y c.args.cells.now c.add.new.cells next next_is c.add.auto.cells c.requires.before c.add.ensures.sums c.add.ensures.bound in
     without_last me.inputs.now me.frame me.rx me.ry m c.args.components c.args.rect c.args.y c.add.new.cells c.take.new.cells last last_is c.take.auto.cells with c.take.ensures

@@ -52,7 +52,8 @@ write_window_means-requires-clause-long c =
     let row = c.requires.row in
     let order = rect_ordered rect row.bounds in
     let wide = columns_near _ rect c.offset.result c.rect.view_is row.near order c.offset.ensures in
-    row_long _ c.offset.result _ c.count.result (count c.args.components) (size c.args.depth) row.long wide c.count.ensures
+    row_long _ c.offset.result _ c.count.result (count c.args.components) (size c.args.depth) row.long wide
+    c.count.ensures
 
 pub write_window_means-requires-clause-step : goal.write_window_means-requires-clause-step
 write_window_means-requires-clause-step c = step_is c.args.components c.count.result c.count.ensures

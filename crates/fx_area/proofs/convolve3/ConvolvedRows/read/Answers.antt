@@ -1,4 +1,5 @@
-use Rattle.std.proofs.Common.{◌≡◌, ◌∙◌, ◌+◌, ◌*◌, ℤ, pos, negsuc, ◌-ℤ◌, ◌≤ℤ◌, ◌<ℤ◌, ap, sym, refl, arith, w64, to_z, of_z, FitsSigned, rules}
+use Rattle.std.proofs.Common.{◌≡◌, ◌∙◌, ◌+◌, ◌*◌, ℤ, pos, negsuc, ◌-ℤ◌, ◌≤ℤ◌, ◌<ℤ◌, ap, sym, refl, arith, w64, to_z}
+use Rattle.std.proofs.Common.{of_z, FitsSigned, rules}
 use Rattle.std.proofs.lemmas.Int.{ints, to_z-of_z}
 use Rattle.fx_base.specs.Bounds.{Bounds}
 use Rattle.fx_base.specs.Rect.{IsStep}
@@ -17,11 +18,13 @@ before_fits : (a b x : ℤ) → x ≡ a → negsuc 1073741823 ≤ℤ a → a <�
 before_fits a b x is low less high = grind (arith, ints)
 
 places : (a b x y : ℤ) → x ≡ a → negsuc 1073741823 ≤ℤ a → a <ℤ b → b ≤ℤ pos 1073741824 → IsStep 2147483648 y
-    → IsStep 4294967296 (to_z w64 (of_z w64 (to_z w64 (of_z w64 x) -ℤ pos 1))) × IsStep 4294967296 (to_z w64 (of_z w64 y))
+    → IsStep 4294967296 (to_z w64 (of_z w64 (to_z w64 (of_z w64 x) -ℤ pos 1)))
+    × IsStep 4294967296 (to_z w64 (of_z w64 y))
 places a b x y is low less high row =
     let from = one_before a b x is low less high in
     let under = row.0 in let over = row.1 in
-    ((omega (arith, ints, from, low), omega (arith, ints, from, less, high)), (omega (arith, ints), omega (arith, ints)))
+    ((omega (arith, ints, from, low), omega (arith, ints, from, less, high)),
+    (omega (arith, ints), omega (arith, ints)))
 
 pub read_line-requires-clause-place : goal.read_line-requires-clause-place
 read_line-requires-clause-place c =
