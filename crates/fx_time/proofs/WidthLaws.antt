@@ -62,7 +62,8 @@ no_more : (d : Depth) (w m : ℕ) → w * (m * size d) < 4294967296 → w * m < 
 no_more Byte w m few = omega (arith, few)
 no_more Short w m few = omega (arith, few)
 
-pub samples_small : (d : Depth) (n w k m r : ℕ) → n ≡ w → k ≡ m → r ≡ w * (m * size d) → r < 4294967296 → Fits w32 (n * k)
+pub samples_small : (d : Depth) (n w k m r : ℕ) → n ≡ w → k ≡ m → r ≡ w * (m * size d) → r < 4294967296
+    → Fits w32 (n * k)
 samples_small d n w k m r p q is few = record {
   fits = rw (p, q) (no_more d w m (subst (λ b. b < 4294967296) is few));
 }

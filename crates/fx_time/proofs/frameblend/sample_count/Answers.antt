@@ -7,7 +7,8 @@ use Rattle.fx_time.proofs.frameblend.sample_count.Goals as goal
 pub offset-requires : goal.offset-requires
 offset-requires c =
     let rect = c.args.out.now.rect in
-    order_near _ rect (c.rect.view_is ∙ c.rect-rect.ensures) c.row_bytes-small.ensures.near (is_wide rect c.requires.rect)
+    order_near _ rect (c.rect.view_is ∙ c.rect-rect.ensures) c.row_bytes-small.ensures.near
+    (is_wide rect c.requires.rect)
 
 pub overflow_mul-result : goal.overflow_mul-result
 overflow_mul-result c =

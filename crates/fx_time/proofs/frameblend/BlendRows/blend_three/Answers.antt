@@ -1,4 +1,5 @@
-use Rattle.std.proofs.Common.{◌≡◌, ◌<◌, ◌+◌, ◌*◌, pos, ◌+ℤ◌, ◌-ℤ◌, map, ap, sym, subst, arith, ◌∙◌, w64, to_z, of_z, FitsSigned}
+use Rattle.std.proofs.Common.{◌≡◌, ◌<◌, ◌+◌, ◌*◌, pos, ◌+ℤ◌, ◌-ℤ◌, map, ap, sym, subst, arith, ◌∙◌, w64, to_z, of_z}
+use Rattle.std.proofs.Common.{FitsSigned}
 use Rattle.std.proofs.lemmas.Int.{ints, to_z-of_z}
 use Rattle.fx_base.specs.Rect.{columns}
 use Rattle.fx_pixel.specs.Pixel.{count, size}
@@ -81,7 +82,8 @@ lend_row-one-requires-clause-row c =
     let rect = c.args.rect in
     subst (λ y. IsLine given.depth (clip_components given 0) rect y c.args.line.now)
     (sym (to_z-of_z w64 c.args.y c.ranges.y))
-    (line_of given 0 c.args.depth c.args.components c.args.components rect c.args.y c.args.row.now c.args.line.now q.shows
+    (line_of given 0 c.args.depth c.args.components c.args.components rect c.args.y c.args.row.now c.args.line.now
+    q.shows
     q.row q.line)
 
 pub write_mean_of_three-requires-clause-one : goal.write_mean_of_three-requires-clause-one

@@ -6,5 +6,6 @@ use Rattle.fx_time.proofs.timeoffset.TimeoffsetImageEffect.describe_in_context.G
 
 pub returns-clause-clips : goal.returns-clause-clips
 returns-clause-clips c =
-    one_clip (DescribesClip timeoffset_shape) (record { name = codes "Source"; optional = false }) c.in_ok-clip_set.field-0
+    one_clip (DescribesClip timeoffset_shape) (record { name = codes "Source"; optional = false })
+    c.in_ok-clip_set.field-0
     c.args.clips.now.items c.push.new.self.items c.in_ok-push.ensures.items c.requires.no_clips c.in_ok-clip_set.ensures
