@@ -12,7 +12,8 @@ fault_of bytes side reading pam reads =
     ap (λ b. if b then header_fault side (header_in bytes) else Some NotPam) pam ∙ ap (header_fault side) reads
 
 -- the header is read behind it
-read_behind : (bytes : List ℕ) → header_in bytes ≡ header_of 2 no_numbers (lines_of (take (length bytes - 3) (drop 3 bytes)))
+read_behind : (bytes : List ℕ)
+    → header_in bytes ≡ header_of 2 no_numbers (lines_of (take (length bytes - 3) (drop 3 bytes)))
 read_behind bytes = ap (λ b. header_of 2 no_numbers (lines_of b)) (sym (take_rest bytes 3))
 
 pub returns-in-None-clause-reads : goal.returns-in-None-clause-reads
