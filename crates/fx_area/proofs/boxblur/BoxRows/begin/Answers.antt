@@ -1,10 +1,23 @@
-use Rattle.std.proofs.Common.{◌≡◌, ◌∙◌, ◌+◌, ◌*◌, pos, ◌+ℤ◌, ◌-ℤ◌, arith, w64, to_z, of_z}
+use Rattle.std.proofs.Common.{◌≡◌, ◌≤◌, ◌<◌, ◌∙◌, ◌+◌, ◌*◌, ℕ, ℤ, pos, negsuc, ◌+ℤ◌, ◌-ℤ◌, ◌≤ℤ◌, ◌<ℤ◌, arith, w64}
+use Rattle.std.proofs.Common.{to_z, of_z}
 use Rattle.std.proofs.lemmas.Int.{ints, to_z-of_z}
+use Rattle.fx_base.specs.Rect.{IsStep}
 use Rattle.fx_pixel.specs.Pixel.{greatest}
 use Rattle.fx_kernel.specs.RowLaws.{greatest_few}
 use Rattle.fx_kernel.specs.SumLaws.{no_sums, more_sums, sums_small}
 use Rattle.fx_area.specs.BoxRows.{box_sample}
 use Rattle.fx_area.proofs.boxblur.BoxRows.begin.Goals as goal
+
+-- one of the rows of the first sums
+module _ (a y b : ℤ) (v k : ℕ) (low : negsuc 1073741823 ≤ℤ a) (above : a ≤ℤ y) (below : y <ℤ b)
+    (high : b ≤ℤ pos 1073741824) (flat : v ≤ 64) (few : k < 2 * v + 1) where
+  row_is : to_z w64 (of_z w64 (to_z w64 (of_z w64 (to_z w64 (of_z w64 y) -ℤ to_z w64 v)) +ℤ to_z w64 k))
+      ≡ (y -ℤ pos v) +ℤ pos k
+  row_is = omega (arith, ints, low, above, below, high, flat, few)
+
+  row_near :
+      IsStep 2147483648 (to_z w64 (of_z w64 (to_z w64 (of_z w64 (to_z w64 (of_z w64 y) -ℤ to_z w64 v)) +ℤ to_z w64 k)))
+  row_near = (omega (arith, ints, row_is, low, above, flat), omega (arith, ints, row_is, below, high, flat, few))
 
 pub loop-k-init : goal.loop-k-init
 loop-k-init c = no_sums c.clear.new.cells _ _ _ c.clear.ensures
@@ -15,15 +28,16 @@ add-requires-clause-small c = sums_small c.loop-k.cells _ _ c.loop-k.k (greatest
 pub add-requires-clause-line : goal.add-requires-clause-line
 add-requires-clause-line c =
     let q = c.requires.row in
-    let low = q.near.bottom in let high = q.near.top in
-    let above = q.above in let below = q.below in let flat = q.flat in
-    let few = c.loop-k-test.true in
+    let rect = c.args.rect in
+    let v = c.args.self.now.ry in
     record {
       source = q.source;
       narrow = q.narrow;
       near = q.near;
       wide = q.wide;
-      row = (omega (arith, ints), omega (arith, ints));
+      row =
+          row_near rect.y1 c.args.y rect.y2 v c.loop-k.k q.near.bottom q.above q.below q.near.top q.flat
+          c.loop-k-test.true;
       cell_for_each = c.loop-k.auto.cells ∙ c.clear.auto.cells ∙ q.cell_for_each;
       byte_for_each = c.loop-k.auto.bytes ∙ q.byte_for_each;
     }
