@@ -2,7 +2,7 @@ use Rattle.std.proofs.Common.{◌≡◌, ◌∙◌, pos, ◌+ℤ◌, ap, arith, 
 use Rattle.std.proofs.lemmas.Int.{ints, to_z-of_z}
 use Rattle.fx_base.specs.Bounds.{Bounds}
 use Rattle.fx_area.proofs.AreaLaws.{fits_far, level_far, sides_of}
-use Rattle.fx_area.proofs.SideLaws.{columns_are}
+use Rattle.fx_area.proofs.SideLaws.{columns_are, columns_ordered}
 use Rattle.fx_area.proofs.extreme.area_line.Goals as goal
 
 pub returns-clause-place : goal.returns-clause-place
@@ -23,11 +23,7 @@ returns-clause-place c =
     )
 
 pub offset-requires : goal.offset-requires
-offset-requires c =
-    let area = c.requires.area in
-    let p = ap (λ (r : Bounds). r.x1) c.area.view_is in
-    let q = ap (λ (r : Bounds). r.x2) c.area.view_is in
-    omega (arith, ints, p, q, area.wide, area.near.left.0, area.near.left.1, area.near.right.0, area.near.right.1)
+offset-requires c = columns_ordered _ c.args.area c.area.view_is c.requires.area
 
 pub returns-clause-some : goal.returns-clause-some
 returns-clause-some c =
