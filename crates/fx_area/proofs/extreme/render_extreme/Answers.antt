@@ -1,14 +1,14 @@
 use Rattle.std.proofs.Common.{◌≡◌, ◌∙◌, ◌*◌, length, drop, ap, sym, subst, arith, w64, to_z, of_z, FitsSigned, rules}
-use Rattle.std.proofs.lemmas.Int.{ints, to_z-of_z}
+use Rattle.std.proofs.lemmas.Int.{to_z-of_z}
 use Rattle.fx_base.specs.Bounds.{Bounds}
-use Rattle.fx_base.specs.Rect.{columns, rows, grown}
+use Rattle.fx_base.specs.Rect.{columns, rows, grown, IsNear}
 use Rattle.fx_pixel.specs.Pixel.{IsOfDepth}
 use Rattle.fx_image.specs.Stored.{pixel_size}
 use Rattle.fx_effect.specs.Given.{ShowsClip, input_pixel}
 use Rattle.fx_area.specs.Erode.{radius}
 use Rattle.fx_area.specs.Gathered.{area_pixel, extreme_pixel}
 use Rattle.fx_area.proofs.AreaLaws.{sides_of, take_all, rows_fit}
-use Rattle.fx_area.proofs.SideLaws.{columns_are, rows_are, low_end}
+use Rattle.fx_area.proofs.SideLaws.{columns_are, rows_are, columns_ordered, rows_ordered, low_end}
 use Rattle.fx_area.proofs.SquareLaws.{round_of, shows_as, picked_as, area_as, part_pixel, written_as}
 use Rattle.fx_area.proofs.extreme.render_extreme.Goals as goal
 
@@ -32,10 +32,7 @@ offset-width-requires c =
     c.row_bytes-near.ensures.near c.radius-radius.ensures.value c.radius-radius.ensures.few
     (c.grow-area.ensures.bounds
     ∙ ap (λ (r : Bounds). grown r (to_z w64 c.radius-radius.result) (to_z w64 c.radius-radius.result)) c.rect-rect.ensures) in
-    let near = round.proper.near in
-    let p = ap (λ (r : Bounds). r.x1) c.area.view_is in
-    let q = ap (λ (r : Bounds). r.x2) c.area.view_is in
-    omega (arith, ints, p, q, round.proper.wide, near.left.0, near.left.1, near.right.0, near.right.1)
+    columns_ordered _ c.grow-area.result c.area.view_is round.proper
 
 pub offset-height-requires : goal.offset-height-requires
 offset-height-requires c =
@@ -46,10 +43,7 @@ offset-height-requires c =
     c.row_bytes-near.ensures.near c.radius-radius.ensures.value c.radius-radius.ensures.few
     (c.grow-area.ensures.bounds
     ∙ ap (λ (r : Bounds). grown r (to_z w64 c.radius-radius.result) (to_z w64 c.radius-radius.result)) c.rect-rect.ensures) in
-    let near = round.proper.near in
-    let p = ap (λ (r : Bounds). r.y1) c.area.view_is in
-    let q = ap (λ (r : Bounds). r.y2) c.area.view_is in
-    omega (arith, ints, p, q, round.proper.high, near.bottom.0, near.bottom.1, near.top.0, near.top.1)
+    rows_ordered _ c.grow-area.result c.area.view_is round.proper
 
 pub pick_squares-requires-clause-wide : goal.pick_squares-requires-clause-wide
 pick_squares-requires-clause-wide c =
@@ -190,3 +184,6 @@ returns-clause-ok c =
     (λ t. subst (λ k. IsOfDepth k (input_pixel given t)) c.requires.source.depth_is (c.pixels_fit.ensures.depth t)) shows
     picked x y held)
     c.fill_with.ensures.written
+
+pub grow-area-requires-clause-near : goal.grow-area-requires-clause-near
+grow-area-requires-clause-near c = subst IsNear (sym c.rect-rect.ensures) c.row_bytes-near.ensures.near
