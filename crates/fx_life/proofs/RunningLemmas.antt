@@ -106,6 +106,22 @@ fewer_live number live ms m are =
       plugin = plugins.0;
     }
 
+-- where no sequence has begun the idle ones are all
+pub all_idle : (number : ℕ) (live : List ℕ) (idle : List MadeFor) (ss : List Rendering) → ss ≡ [] → AreLive number live idle
+    → AreLive number live (members idle ss)
+all_idle number live idle ss none are =
+    subst (AreLive number live) (sym (ap (members idle) none ∙ append-nil idle)) are
+
+-- and at first there is none
+pub none_live : (number : ℕ) (live : List ℕ) (idle : List MadeFor) (ss : List Rendering) → live ≡ [] → idle ≡ []
+    → ss ≡ [] → AreLive number live (members idle ss)
+none_live number live idle ss none no_idle no_sequence =
+    rw (none, no_idle, no_sequence) record {
+      nodes = refl;
+      apart = λ i j d before inside. absurd (omega arith);
+      plugin = λ k d inside. absurd (omega arith);
+    }
+
 last_made : (ss : List Rendering) (s : Rendering) → map made (reverse (ss ++ s ∷ [])) ≡ made s ∷ map made (reverse ss)
 last_made ss s = ap (map made) (reverse-append ss (s ∷ []))
 
