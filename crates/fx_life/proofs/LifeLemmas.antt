@@ -235,6 +235,16 @@ may_there {E} meaning number life node post run s v given depth c one_meaning at
     subst (λ (m : Meaning). MayRenderIn s.context m.shape v given depth c)
     (sym (one_meaning run.effect effect number_is)) (plays.may.0, plays.may.1 ∙ sym context)
 
+-- what the plug-in there means is what any effect means that plays the node
+pub means : {E : Type 0} (meaning : E → Meaning) (number : E → ℕ) (life : Lives E) (node : ℕ) (post : Post)
+    (run : Run E) (effect : E) → ((a b : E) → number a ≡ number b → meaning a ≡ meaning b)
+    → slice_get life.posts node ≡ Some (Some post)
+    → ((r : Run E) → Contains life.runs r → number r.effect ≡ post.plugin → run ≡ r)
+    → Plays number life node effect → meaning run.effect ≡ meaning effect
+means {E} meaning number life node post run effect one_meaning at_post only plays =
+    one_meaning run.effect effect
+    (ap (λ (r : Run E). number r.effect) (run_is number life node post run effect at_post only plays) ∙ plays.same)
+
 -- the gate of the node is that of the plug-in's own effect there
 pub gate_is : {E : Type 0} (meaning : E → Meaning) (number : E → ℕ) (life : Lives E) (node : ℕ) (post : Post)
     (run : Run E) (effect : E) (gate : Option ℕ) (s : Rendering) → slice_get life.posts node ≡ Some (Some post)
