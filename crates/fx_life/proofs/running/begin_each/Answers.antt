@@ -1,7 +1,8 @@
-use Rattle.std.proofs.Common.{◌≡◌, ◌++◌, [], ◌∷◌, arith, ap, ◌∙◌}
+use Rattle.std.proofs.Common.{◌≡◌, ◌++◌, [], ◌∷◌, arith, ap, sym, subst, ◌∙◌}
+use Rattle.std.specs.List.{Contains}
 use Rattle.std.specs.Vec.{vec_capacity}
-use Rattle.fx_life.specs.Running.{made, begun}
-use Rattle.fx_life.proofs.RunningLemmas.{begins, plan_kept, longer}
+use Rattle.fx_life.specs.Running.{made, begun, members}
+use Rattle.fx_life.proofs.RunningLemmas.{begins, last_idle, longer, one_of, plan_kept}
 use Rattle.fx_life.proofs.running.begin_each.Goals as goal
 
 pub loop-instance-preserved : goal.loop-instance-preserved
@@ -30,3 +31,33 @@ loop-instance-preserved g c =
       room = omega (arith, c.loop-instance.invariant.room, room, fewer, more);
       sequence_room = omega (arith, c.loop-instance.invariant.sequence_room, sequence_room, fewer, more);
     }
+
+pub begin-requires-clause-plugin : goal.begin-requires-clause-plugin
+begin-requires-clause-plugin g c =
+    let sequences = c.loop-instance.in_sequence.items in
+    let rest = c.pop.new.self.items in
+    let m = c.in-Some.instance in
+    let all = members c.args.idle.now.items c.args.in_sequence.now.items in
+    let popped : c.loop-instance.idle.items ≡ rest ++ m ∷ [] = c.in-Some.ensures.items in
+    let is = ap (λ l. members l sequences) (sym popped) ∙ c.loop-instance.invariant.same in
+    let member : Contains all m = subst (λ l. Contains l m) is (last_idle rest m sequences) in
+    (one_of (g.E.Catalogue.number_of c.args.plugin.now.effect) c.args.plugin.now.live all m c.requires.live
+    member).plugin
+
+pub begin-requires-clause-live : goal.begin-requires-clause-live
+begin-requires-clause-live g c =
+    let sequences = c.loop-instance.in_sequence.items in
+    let rest = c.pop.new.self.items in
+    let m = c.in-Some.instance in
+    let all = members c.args.idle.now.items c.args.in_sequence.now.items in
+    let popped : c.loop-instance.idle.items ≡ rest ++ m ∷ [] = c.in-Some.ensures.items in
+    let is = ap (λ l. members l sequences) (sym popped) ∙ c.loop-instance.invariant.same in
+    let member : Contains all m = subst (λ l. Contains l m) is (last_idle rest m sequences) in
+    (one_of (g.E.Catalogue.number_of c.args.plugin.now.effect) c.args.plugin.now.live all m c.requires.live
+    member).there
+
+pub begin-requires-clause-first : goal.begin-requires-clause-first
+begin-requires-clause-first g c = c.requires.frames.0
+
+pub begin-requires-clause-last : goal.begin-requires-clause-last
+begin-requires-clause-last g c = c.requires.frames.1
