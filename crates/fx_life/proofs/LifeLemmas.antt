@@ -153,6 +153,11 @@ placed_at number runs places n run place are there is read =
 
 -- ---- the plug-in that plays a node
 
+-- what is read at a place where a post stands
+pub read_post : (posts : List (Option Post)) (node : ℕ) (read : Option Post) (post : Post)
+    → slice_get posts node ≡ Some (Some post) → read ≡ slice_index_or posts node read → read ≡ Some post
+read_post posts node read post there is = is ∙ get_or_from_slice_get posts node (Some post) read there
+
 -- the node's post is that which plays
 pub post_is : {E : Type 0} (number : E → ℕ) (life : Lives E) (node : ℕ) (post : Post) (effect : E)
     → slice_get life.posts node ≡ Some (Some post) → (plays : Plays number life node effect)
