@@ -29,9 +29,10 @@ render-requires-clause-may g c = λ s there.
     g.met.E.Catalogue.one_meaning c.post-post.ensures c.plugin.ensures c.requires.may there
 
 pub post-post-requires : goal.post-post-requires
-post-post-requires g c =
-    (record { plugin = g.E.Catalogue.number_of c.requires.may.effect; place = c.requires.may.plays.place },
-        c.requires.may.plays.posted)
+post-post-requires g c = (
+  record { plugin = g.E.Catalogue.number_of c.requires.may.effect; place = c.requires.may.plays.place },
+  c.requires.may.plays.posted,
+)
 
 pub render-requires-clause-part : goal.render-requires-clause-part
 render-requires-clause-part g c = c.requires.part

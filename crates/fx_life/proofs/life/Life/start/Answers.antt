@@ -58,9 +58,10 @@ pub start_each-requires-clause-frames : goal.start_each-requires-clause-frames
 start_each-requires-clause-frames g c = c.requires.frames
 
 pub start_each-requires-clause-lists : goal.start_each-requires-clause-lists
-start_each-requires-clause-lists g c =
-    (ap length c.deref-2.ensures.value ∙ c.in_ok-posting.ensures.lists,
-        sym c.in_ok-places.places.ok.0 ∙ c.in_ok-places.ensures.len)
+start_each-requires-clause-lists g c = (
+  ap length c.deref-2.ensures.value ∙ c.in_ok-posting.ensures.lists,
+  sym c.in_ok-places.places.ok.0 ∙ c.in_ok-places.ensures.len,
+)
 
 pub start_each-requires-clause-none_yet : goal.start_each-requires-clause-none_yet
 start_each-requires-clause-none_yet g c = c.new-running.ensures.items
