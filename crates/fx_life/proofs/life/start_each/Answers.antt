@@ -3,6 +3,7 @@ use Rattle.std.specs.List.{Contains}
 use Rattle.std.specs.Vec.{vec_capacity}
 use Rattle.std.proofs.Math.ListN.{length-set}
 use Rattle.std.proofs.lemmas.List.Elements.{All-push}
+use Rattle.std.proofs.lemmas.Result.{IfOk-from_err}
 use Rattle.fx_life.specs.Posts.{uses_at, handed, IsStarted}
 use Rattle.fx_life.proofs.RunningLemmas.{longer}
 use Rattle.fx_life.proofs.LifeLemmas.{handed_on, unused_number, placed_more, started_for}
@@ -74,3 +75,36 @@ loop-effect-preserved g c =
           c.in_ok-run.ensures.contexts c.in_ok-run.ensures.sequences));
       places = length-set places n c.len-in-Some.result ∙ known.places;
     }
+
+pub start-requires-clause-frames : goal.start-requires-clause-frames
+start-requires-clause-frames g c = c.requires.frames
+
+pub returns-in_err-reserve-clause-placed : goal.returns-in_err-reserve-clause-placed
+returns-in_err-reserve-clause-placed g c = IfOk-from_err _ _ c.from_residual.ensures.0
+
+pub returns-in_err-reserve-clause-started : goal.returns-in_err-reserve-clause-started
+returns-in_err-reserve-clause-started g c = IfOk-from_err _ _ c.from_residual.ensures.0
+
+pub returns-in_err-reserve-clause-effects : goal.returns-in_err-reserve-clause-effects
+returns-in_err-reserve-clause-effects g c = IfOk-from_err _ _ c.from_residual.ensures.0
+
+pub returns-in_err-reserve-clause-all : goal.returns-in_err-reserve-clause-all
+returns-in_err-reserve-clause-all g c = IfOk-from_err _ _ c.from_residual.ensures.0
+
+pub returns-in_err-run-clause-placed : goal.returns-in_err-run-clause-placed
+returns-in_err-run-clause-placed g c = IfOk-from_err _ _ c.from_residual-in_err-run.ensures.0
+
+pub returns-in_err-run-clause-started : goal.returns-in_err-run-clause-started
+returns-in_err-run-clause-started g c = IfOk-from_err _ _ c.from_residual-in_err-run.ensures.0
+
+pub returns-in_err-run-clause-effects : goal.returns-in_err-run-clause-effects
+returns-in_err-run-clause-effects g c = IfOk-from_err _ _ c.from_residual-in_err-run.ensures.0
+
+pub returns-in_err-run-clause-all : goal.returns-in_err-run-clause-all
+returns-in_err-run-clause-all g c = IfOk-from_err _ _ c.from_residual-in_err-run.ensures.0
+
+pub returns-clause-placed : goal.returns-clause-placed
+returns-clause-placed g c = c.loop-effect.invariant.placed
+
+pub returns-clause-started : goal.returns-clause-started
+returns-clause-started g c = c.loop-effect.invariant.started
