@@ -27,3 +27,6 @@ push_view-requires-clause-within g c x y h =
     let there = simp to_z-of_z at c.frame.ensures in
     let is = one c.in-Some.image.now shown.image (sym (ap option_copied c.in-Some.is) ∙ there ∙ shown.is_held) in
     subst (λ (s : Stored). Holds s.rect x y) (sym is) (shown.within x y h)
+
+pub push_view-requires-in-Render-clause-clip : goal.push_view-requires-in-Render-clause-clip
+push_view-requires-in-Render-clause-clip g c = c.requires.clip

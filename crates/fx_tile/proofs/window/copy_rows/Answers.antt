@@ -1,7 +1,8 @@
-use Rattle.std.proofs.Common.{◌≡◌, ℤ, pos, ◌+ℤ◌, get_or, refl, sym, ap, subst, arith, ◌∙◌, w64, to_z, of_z, FitsSigned, rules, List}
+use Rattle.std.proofs.Common.{◌≡◌, ℤ, pos, ◌+ℤ◌, get_or, refl, sym, ap, subst, arith, ◌∙◌, w64, to_z, of_z, FitsSigned, rules, List, length, ◌<◌}
 use Rattle.std.proofs.lemmas.Int.{ints, to_z-of_z}
 use mir.Val.{SFits}
 use Rattle.fx_base.specs.Bounds.{Bounds}
+use Rattle.fx_base.specs.Rect.{Holds}
 use Rattle.fx_pixel.specs.declared.Components.{Components}
 use Rattle.fx_pixel.specs.declared.Components.TheVariants.{Rgba}
 use Rattle.fx_image.specs.Part.{WroteRows, narrowed, with_run}
@@ -80,3 +81,21 @@ returns-clause-pixels c =
       subst (λ (z : ℤ). WroteRows (narrowed p tile) q.image.now z (row_pixel c.args.inputs.now 0 c.args.frame)) top
           (subst (λ (t : ℤ). WroteRows (narrowed p tile) q.image.now (to_z w64 c.loop-y.y-bits) (row_pixel c.args.inputs.now 0 t)) (to_z-of_z w64 _ fits) c.loop-y.invariant.written),
     )
+
+pub same-tile : goal.same-tile
+same-tile c = refl
+
+pub row_within_mut-requires-clause-within : goal.row_within_mut-requires-clause-within
+row_within_mut-requires-clause-within c x y h =
+    subst (λ (r : Bounds). Holds r x y) (sym c.loop-y.invariant.same.1) (c.requires.within x y h)
+
+pub row_within_mut-requires-clause-inside : goal.row_within_mut-requires-clause-inside
+row_within_mut-requires-clause-inside c =
+    (c.loop-y.invariant.above, omega (arith, ints, c.loop-y-test.true, c.loop-y.invariant.until))
+
+pub read_row-requires-clause-clip : goal.read_row-requires-clause-clip
+read_row-requires-clause-clip c =
+    subst (λ (ks : List Components). 0 < length ks) (sym c.requires.components) (omega arith)
+
+pub returns-clause-part : goal.returns-clause-part
+returns-clause-part c = c.loop-y.invariant.same
