@@ -1,14 +1,16 @@
-use Rattle.std.proofs.Common.{◌≡◌, ℤ, pos, ◌+ℤ◌, get_or, refl, sym, ap, subst, arith, ◌∙◌, w64, to_z, of_z, FitsSigned, rules, List, length, ◌<◌}
+use Rattle.std.proofs.Common.{◌≡◌, ℤ, pos, ◌+ℤ◌, get_or, refl, sym, ap, subst, arith, ◌∙◌, w64, to_z, of_z, FitsSigned, rules, List, length, ◌<◌, ◌*◌}
 use Rattle.std.proofs.lemmas.Int.{ints, to_z-of_z}
 use mir.Val.{SFits}
 use Rattle.fx_base.specs.Bounds.{Bounds}
-use Rattle.fx_base.specs.Rect.{Holds}
+use Rattle.fx_base.specs.Rect.{Holds, columns}
+use Rattle.fx_pixel.specs.declared.Depth.{Depth}
 use Rattle.fx_pixel.specs.declared.Components.{Components}
 use Rattle.fx_pixel.specs.declared.Components.TheVariants.{Rgba}
+use Rattle.fx_image.specs.Stored.{pixel_size}
 use Rattle.fx_image.specs.Part.{WroteRows, narrowed, with_run}
 use Rattle.fx_image.proofs.PartLaws.{wrote_none, wrote_within}
 use Rattle.fx_effect.specs.Given.{clip_components, row_pixel}
-use Rattle.fx_effect.proofs.PieceLaws.{is_high}
+use Rattle.fx_effect.proofs.PieceLaws.{is_high, is_wide}
 use Rattle.fx_props.proofs.EntryLaws.{fits_between}
 use Rattle.fx_tile.proofs.WindowLemmas.{part_again, part_within, shows_row}
 use Rattle.fx_tile.proofs.window.copy_rows.Goals as goal
@@ -99,3 +101,20 @@ read_row-requires-clause-clip c =
 
 pub returns-clause-part : goal.returns-clause-part
 returns-clause-part c = c.loop-y.invariant.same
+
+pub read_row-requires-clause-row : goal.read_row-requires-clause-row
+read_row-requires-clause-row c =
+    let given = c.args.inputs.now in
+    let out = c.loop-y.out.image.now in
+    let same = c.loop-y.invariant.same.2 in
+    let deep : given.depth ≡ out.depth = c.requires.depth ∙ sym same.depth in
+    let samples : clip_components given 0 ≡ out.components =
+    ap (λ (ks : List Components). get_or ks 0 Rgba) c.requires.components ∙ sym same.components in
+    record {
+      wide = is_wide c.args.tile c.requires.bounds;
+      above = c.loop-y.invariant.above;
+      below = omega (arith, ints, c.loop-y-test.true, c.loop-y.invariant.until);
+      long = c.row_within_mut.ensures.len
+          ∙ ap (λ (d : Depth). columns c.args.tile * pixel_size d out.components) (sym deep)
+          ∙ ap (λ (k : Components). columns c.args.tile * pixel_size given.depth k) (sym samples);
+    }
