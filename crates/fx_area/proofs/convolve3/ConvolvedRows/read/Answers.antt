@@ -22,9 +22,10 @@ places : (a b x y : ℤ) → x ≡ a → negsuc 1073741823 ≤ℤ a → a <ℤ b
     × IsStep 4294967296 (to_z w64 (of_z w64 y))
 places a b x y is low less high row =
     let from = one_before a b x is low less high in
-    let under = row.0 in let over = row.1 in
-    ((omega (arith, ints, from, low), omega (arith, ints, from, less, high)),
-    (omega (arith, ints), omega (arith, ints)))
+    let under = row.0 in let over = row.1 in (
+      (omega (arith, ints, from, low), omega (arith, ints, from, less, high)),
+      (omega (arith, ints), omega (arith, ints)),
+    )
 
 pub read_line-requires-clause-place : goal.read_line-requires-clause-place
 read_line-requires-clause-place c =
