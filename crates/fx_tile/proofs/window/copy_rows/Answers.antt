@@ -84,9 +84,6 @@ returns-clause-pixels c =
           (subst (λ (t : ℤ). WroteRows (narrowed p tile) q.image.now (to_z w64 c.loop-y.y-bits) (row_pixel c.args.inputs.now 0 t)) (to_z-of_z w64 _ fits) c.loop-y.invariant.written),
     )
 
-pub same-tile : goal.same-tile
-same-tile c = refl
-
 pub row_within_mut-requires-clause-within : goal.row_within_mut-requires-clause-within
 row_within_mut-requires-clause-within c x y h =
     subst (λ (r : Bounds). Holds r x y) (sym c.loop-y.invariant.same.1) (c.requires.within x y h)
