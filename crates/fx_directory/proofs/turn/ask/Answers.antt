@@ -1,4 +1,4 @@
-use Rattle.std.proofs.Common.{◌∙◌, ◌≡◌, ℕ, List, inl, sym, subst}
+use Rattle.std.proofs.Common.{rules, ◌∙◌, ◌≡◌, ℕ, List, inl, sym, subst}
 use Rattle.std.specs.Arc.{arc_value}
 use Rattle.std.specs.Result.{IfOk}
 use Rattle.fx_core.specs.Answer.{Joins}
@@ -63,3 +63,6 @@ pub returns-clause-own : goal.returns-clause-own
 returns-clause-own g c = λ any.
     let b = (goal.at.returns-clause-own g c).After-ask-answer in
     c.ask-answer.ensures.busy.1 (flies_too g.K.PartialEq.eq (arc_value c.args.key) c.args.seat.now.claims c.deref_mut.result.now.flying (core g b).agrees.2 (core g b).agrees.1 any)
+
+pub returns-clause-made : goal.returns-clause-made
+returns-clause-made g c = search rules
