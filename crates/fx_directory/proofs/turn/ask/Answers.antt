@@ -66,3 +66,9 @@ returns-clause-own g c = λ any.
 
 pub returns-clause-made : goal.returns-clause-made
 returns-clause-made g c = search rules
+
+pub returns-clause-bound : goal.returns-clause-bound
+returns-clause-bound g c = search rules
+
+pub give-requires-clause-rises : goal.give-requires-clause-rises
+give-requires-clause-rises g c = search rules
